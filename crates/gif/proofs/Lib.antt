@@ -1,0 +1,8 @@
+-- Laws of the definitions, by subject; the crates above cite them.
+pub mod FieldLaws
+pub mod LogLaws
+pub mod RangeLaws
+pub mod TagLaws
+pub mod DataLaws
+pub mod StepLaws
+pub mod SheetLaws

@@ -1,0 +1,111 @@
+-- The log: what entries leave in it.
+use mathlib.Core.Path.{_≡_, refl, sym, _∙_, ap}
+use mathlib.Core.Bool.{Bool, true, false}
+use mathlib.Core.List.{List, [], _∷_, _++_, append-assoc}
+use Prim.Native.Nat.{ℕ, suc, _+_, _*_, _-_, _/_, _%_, _<_, _≤_}
+use native.Mathlib.Nat.{add-zero}
+use native.Mathlib.Numerals.{add-one}
+use native.Mathlib.Omega.{arith}
+use borrow.Author.Tests.{lt-ltb, le-ltb, ltb-true, ltb-false}
+use lib.ListN.{length, set, take, drop, length-append}
+use lib.Seq.{sets, length-sets, sets-eq, length-take-le, take-at, drop-at}
+use lib.Dec.{eqb, ltb}
+use Rattle.gif.specs.declared.Entry.{Entry}
+use Rattle.gif.specs.declared.Path.{Path}
+use Rattle.gif.specs.declared.GifAnswer.the-variants.{Taken}
+use Rattle.gif.specs.declared.Writes.{Writes}
+use Rattle.gif.specs.declared.Writes.the-variants.{Nothing, One, Two}
+use Rattle.gif.specs.Fields.{if}
+use Rattle.gif.specs.Log.{numbers, listed, logged, lacksRoom}
+use Rattle.gif.specs.Step.{Left, refused, commit}
+
+-- one entry is two stores
+pub logged-one : (log : List ℕ) (used : ℕ) (e : Entry)
+    → set (set log (2 * used) (e .register)) (2 * used + 1) (e .value) ≡ logged log used (e ∷ [])
+unfolding logged
+logged-one log used e = rw add-one
+
+-- one entry and then another
+pub logged-two : (log : List ℕ) (used : ℕ) (e f : Entry) {a b : List ℕ} → a ≡ logged log used (e ∷ []) → b ≡ logged a (used + 1) (f ∷ [])
+    → b ≡ logged log used (e ∷ f ∷ [])
+unfolding logged
+logged-two log used e f p q =
+    let n : 2 * (used + 1) ≡ suc (suc (2 * used)) = omega arith in rw (q, p, n)
+
+pub logged-length : (log : List ℕ) (used : ℕ) (es : List Entry) → length (logged log used es) ≡ length log
+unfolding logged
+logged-length log used es = length-sets log (2 * used) (numbers es)
+
+-- a step writes at most two entries
+pub listed-most : (w : Writes) → length (listed w) ≤ 2
+listed-most Nothing = omega arith
+listed-most (One e) = omega arith
+listed-most (Two e f) = omega arith
+
+-- half an even number is below a number exactly if the number is below its double
+pub half-below : (n used : ℕ) → (n % 2 ≡ 1 → ⊥) → ltb (n / 2) used ≡ ltb n (2 * used)
+half-below n used h = go (ltb n (2 * used)) refl
+  where
+    go : (b : Bool) → ltb n (2 * used) ≡ b → ltb (n / 2) used ≡ b
+    go true e = let l = ltb-true n (2 * used) e in lt-ltb (n / 2) used (omega arith)
+    go false e = let l = ltb-false n (2 * used) e in le-ltb (n / 2) used (omega arith)
+
+module _ (p after : Path) (es : List Entry) (used : ℕ) (log : List ℕ) {n : ℕ} (k : n ≡ length es) where
+  pub commit-full : length log < 2 * (used + n) → refused 31 p used log ≡ commit p after es used log
+  unfolding commit lacksRoom if
+  commit-full h = simp (lt-ltb _ _ (rw k at h))
+
+  pub commit-fits : 2 * (used + n) ≤ length log → {m : List ℕ} → m ≡ logged log used es
+      → _≡_ {A = Left} (record { answer = Taken; path = after; used = used + n; log = m }) (commit p after es used log)
+  unfolding commit lacksRoom if
+  commit-fits h e = simp (le-ltb _ _ (rw k at h), e, k)
+
+-- ---- what entries leave of a log that has room for them
+
+pub numbers-length : (es : List Entry) → length (numbers es) ≡ 2 * length es
+numbers-length [] = refl
+numbers-length (e ∷ es) = let h = numbers-length es in omega arith
+
+pub numbers-append : (es fs : List Entry) → numbers (es ++ fs) ≡ numbers es ++ numbers fs
+numbers-append [] fs = refl
+numbers-append (e ∷ es) fs = rw (numbers-append es fs)
+
+sets-append : (l : List ℕ) (i : ℕ) (xs ys : List ℕ) → sets l i (xs ++ ys) ≡ sets (sets l i xs) (i + length xs) ys
+sets-append l i [] ys = rw add-zero
+sets-append l i (x ∷ xs) ys =
+    let e : i + suc (length xs) ≡ suc i + length xs = omega arith in
+    rw e (sets-append (set l i x) (suc i) xs ys)
+
+-- entries, and then more of them
+pub logged-then : (log : List ℕ) (used : ℕ) (es fs : List Entry) → logged (logged log used es) (used + length es) fs ≡ logged log used (es ++ fs)
+unfolding logged
+logged-then log used es fs =
+    let n = numbers-length es in
+    let e : 2 * (used + length es) ≡ 2 * used + length (numbers es) = omega arith in
+    rw (e, numbers-append es fs) (sym (sets-append log (2 * used) (numbers es) (numbers fs)))
+
+module _ (log : List ℕ) (used : ℕ) (es : List Entry) (h : 2 * (used + length es) ≤ length log) where
+  counted-numbers : 2 * used + length (numbers es) ≡ 2 * (used + length es)
+  counted-numbers = let n = numbers-length es in omega arith
+
+  front-length : length (take (2 * used) log) ≡ 2 * used
+  front-length = length-take-le (2 * used) log (omega arith)
+
+  both-length : length (take (2 * used) log ++ numbers es) ≡ 2 * (used + length es)
+  both-length = length-append (take (2 * used) log) (numbers es) ∙ rw front-length counted-numbers
+
+  -- the old entries, the new ones and what lies past them
+  pub logged-parts : logged log used es ≡ (take (2 * used) log ++ numbers es) ++ drop (2 * (used + length es)) log
+  unfolding logged
+  logged-parts =
+      sets-eq (numbers es) log (2 * used) (rw counted-numbers h) ∙ rw counted-numbers refl
+
+  pub logged-list : take (2 * (used + length es)) (logged log used es) ≡ take (2 * used) log ++ numbers es
+  logged-list = rw logged-parts (take-at (take (2 * used) log ++ numbers es) _ (2 * (used + length es)) both-length)
+
+  pub logged-past : drop (2 * (used + length es)) (logged log used es) ≡ drop (2 * (used + length es)) log
+  logged-past = rw logged-parts (drop-at (take (2 * used) log ++ numbers es) _ (2 * (used + length es)) both-length)
+
+  pub logged-below : take (2 * used) (logged log used es) ≡ take (2 * used) log
+  logged-below =
+      rw (logged-parts, append-assoc) (take-at (take (2 * used) log) _ (2 * used) front-length)

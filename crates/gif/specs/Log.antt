@@ -1,0 +1,46 @@
+-- The log: document 01's "Each write is a log entry: register, value, two 64-bit numbers."
+use Prim.Native.Nat.{ℕ, _+_, _*_, _%_, _≤_}
+use mathlib.Core.Bool.{Bool, _||_}
+use mathlib.Core.List.{List, [], _∷_, _++_}
+use lib.ListN.{length}
+use lib.Seq.{sets}
+use lib.Dec.{eqb, ltb}
+use Rattle.gif.specs.declared.Entry.{Entry}
+use Rattle.gif.specs.declared.Writes.{Writes}
+use Rattle.gif.specs.declared.Writes.the-variants.{Nothing, One, Two}
+
+-- an entry takes two numbers of the log
+abbrev pub entrySize : ℕ
+entrySize = 2
+
+abbrev pub entry : ℕ → ℕ → Entry
+entry r v = record { register = r; value = v }
+
+-- "register, value, two 64-bit numbers": entries as they stand in the log
+abbrev pub numbers : List Entry → List ℕ
+numbers [] = []
+numbers (e ∷ es) = e .register ∷ e .value ∷ numbers es
+
+-- entries stored after the first `used` ones
+unfoldable pub logged : List ℕ → ℕ → List Entry → List ℕ
+logged log used es = sets log (entrySize * used) (numbers es)
+
+-- the room that the log lacks: "31, where the step's writes don't all fit"
+unfoldable pub lacksRoom : List ℕ → ℕ → List Entry → Bool
+lacksRoom log used es = ltb (length log) (entrySize * (used + length es))
+
+-- "4 log length odd, above 131,072 numbers, or below twice the entries used"
+unfoldable pub logRefused : List ℕ → ℕ → Bool
+logRefused log used =
+    eqb (length log % 2) 1 || (ltb 131072 (length log) || ltb (length log) (entrySize * used))
+
+-- what the program holds of a step's writes, of which there are at most two, as a list
+abbrev pub listed : Writes → List Entry
+listed Nothing = []
+listed (One e) = e ∷ []
+listed (Two e f) = e ∷ f ∷ []
+
+-- what a log that 4 does not name fulfils, as facts for inner functions
+pub record LogFits (log : List ℕ) (used : ℕ) : Type 0 where
+  pub short : length log ≤ 131072
+  pub holds : 2 * used ≤ length log

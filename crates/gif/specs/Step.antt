@@ -1,0 +1,94 @@
+-- One quadword taken by the GIF: a step of document 01, on one of its paths.
+use Prim.Native.Nat.{ℕ, _+_}
+use mathlib.Core.Bool.{Bool}
+use mathlib.Core.List.{List, [], _∷_}
+use lib.ListN.{length}
+use lib.Dec.{eqb}
+use Rattle.gif.specs.declared.Entry.{Entry}
+use Rattle.gif.specs.declared.TagFormat.{TagFormat}
+use Rattle.gif.specs.declared.TagFormat.the-variants.{Packed, Reglist, Image}
+use Rattle.gif.specs.declared.HeldTag.{HeldTag}
+use Rattle.gif.specs.declared.Place.{Place}
+use Rattle.gif.specs.declared.Place.the-variants.{Idle, Data}
+use Rattle.gif.specs.declared.Path.{Path}
+use Rattle.gif.specs.declared.GifAnswer.{GifAnswer}
+use Rattle.gif.specs.declared.GifAnswer.the-variants.{Taken, Refused}
+use Rattle.gif.specs.declared.GifResult.{GifResult}
+use Rattle.gif.specs.Fields.{if, bits}
+use Rattle.gif.specs.Log.{entry, logged, lacksRoom, logRefused}
+use Rattle.gif.specs.Tag.{pathOf, placeAfter, placeAtTag, tagQ, tagWrites, takenOf, descriptorAt}
+use Rattle.gif.specs.Packed.{packedWrites, packedQ}
+use Rattle.gif.specs.Reglist.{reglistRefused, reglistWrites}
+use Rattle.gif.specs.Range.{pathInRange}
+
+-- what a quadword leaves: the answer, the path, the entries used and the log
+pub record Left : Type 0 where
+  pub answer : GifAnswer
+  pub path : Path
+  pub used : ℕ
+  pub log : List ℕ
+
+-- the number of an answer: 0 taken, else document 01's refusal number
+abbrev pub numberOf : GifAnswer → ℕ
+numberOf Taken = 0
+numberOf (Refused n) = n
+
+-- what a call left, from its result and the log afterwards
+abbrev pub left : GifResult → List ℕ → Left
+left r log = record { answer = r .answer; path = r .path; used = r .used; log = log }
+
+-- a refused quadword changes nothing
+abbrev pub refused : ℕ → Path → ℕ → List ℕ → Left
+refused n p used log = record { answer = Refused n; path = p; used = used; log = log }
+
+abbrev pub refusedResult : ℕ → Path → ℕ → GifResult
+refusedResult n p used = record { answer = Refused n; path = p; used = used }
+
+-- A step's writes and the path after it, all or none: "31, where the step's writes don't all fit".
+unfoldable pub commit : Path → Path → List Entry → ℕ → List ℕ → Left
+commit p after es used log =
+    if (lacksRoom log used es) (refused 31 p used log)
+    (record { answer = Taken; path = after; used = used + length es; log = logged log used es })
+
+-- a tag's own step
+unfoldable pub tagStep : Path → ℕ → ℕ → List ℕ → Left
+tagStep p quad used log = commit p (pathOf tagQ (placeAtTag quad)) (tagWrites quad) used log
+
+-- a PACKED data quadword under its descriptor: "30 descriptor B met at its data", "then 31"
+unfoldable pub packedWith : ℕ → Path → HeldTag → ℕ → ℕ → List ℕ → Left
+packedWith d p t quad used log =
+    if (eqb d 11) (refused 30 p used log)
+    (commit p (pathOf (packedQ d (p .q) quad) (placeAfter t)) (packedWrites d (p .q) quad) used log)
+
+-- "PACKED (0), one quadword per descriptor": data quadword j is item j
+abbrev pub packedStep : Path → HeldTag → ℕ → ℕ → List ℕ → Left
+packedStep p t quad used log = packedWith (descriptorAt t (takenOf t)) p t quad used log
+
+unfoldable pub reglistStep : Path → HeldTag → ℕ → ℕ → List ℕ → Left
+reglistStep p t quad used log =
+    if (reglistRefused t) (refused 30 p used log)
+    (commit p (pathOf (p .q) (placeAfter t)) (reglistWrites t quad) used log)
+
+-- "IMAGE (2, 3): NLOOP quadwords, each two writes to 54h, low half first."
+unfoldable pub imageStep : Path → HeldTag → ℕ → ℕ → List ℕ → Left
+imageStep p t quad used log =
+    commit p (pathOf (p .q) (placeAfter t)) (entry 84 (bits quad 0 63) ∷ entry 84 (bits quad 64 127) ∷ []) used log
+
+abbrev pub dataStep : TagFormat → Path → HeldTag → ℕ → ℕ → List ℕ → Left
+dataStep Packed = packedStep
+dataStep Reglist = reglistStep
+dataStep Image = imageStep
+
+abbrev pub stepAt : Place → Path → ℕ → ℕ → List ℕ → Left
+stepAt Idle p quad used log = tagStep p quad used log
+stepAt (Data t) p quad used log = dataStep (t .format) p t quad used log
+
+-- document 01's step: one quadword taken by the GIF
+unfoldable pub gifStep : Path → ℕ → ℕ → List ℕ → Left
+gifStep p quad used log = stepAt (p .place) p quad used log
+
+-- the public step, which tests its own input: 4, then 5, else the step
+unfoldable pub takeOf : Path → ℕ → ℕ → List ℕ → Left
+takeOf p quad used log =
+    if (logRefused log used) (refused 4 p used log)
+    (if (pathInRange p) (gifStep p quad used log) (refused 5 p used log))

@@ -1,0 +1,60 @@
+// The GIF: tags and data, one quadword at a time, on one path. What each function means is said by the definitions of specs/.
+mod log;
+mod packed;
+mod range;
+mod reglist;
+mod step;
+mod tag;
+
+pub use range::path_in_range;
+pub use step::take_quadword;
+
+pub enum TagFormat {
+    Packed,
+    Reglist,
+    Image,
+}
+
+// A tag whose data has not all come; `due` is in quadwords.
+pub struct HeldTag {
+    pub nloop: u32,
+    pub eop: bool,
+    pub format: TagFormat,
+    pub nreg: u32,
+    pub descriptors: u64,
+    pub due: u32,
+}
+
+pub enum Place {
+    Idle,
+    Data(HeldTag),
+}
+
+pub struct Path {
+    pub q: u32,
+    pub place: Place,
+}
+
+// One write, as the log has it.
+pub struct Entry {
+    pub register: u64,
+    pub value: u64,
+}
+
+// The writes of one step.
+pub enum Writes {
+    Nothing,
+    One(Entry),
+    Two(Entry, Entry),
+}
+
+pub enum GifAnswer {
+    Taken,
+    Refused(u32),
+}
+
+pub struct GifResult {
+    pub answer: GifAnswer,
+    pub path: Path,
+    pub used: u64,
+}

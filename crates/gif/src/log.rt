@@ -1,0 +1,80 @@
+// The log's entries.
+use super::Entry;
+use super::GifAnswer;
+use super::GifResult;
+use super::Path;
+use super::Writes;
+ghost use mathlib.Core.Path.{_≡_};
+ghost use mathlib.Core.List.{[], _∷_};
+ghost use Prim.Native.Nat.{_+_, _*_, _≤_};
+ghost use lib.ListN.{length};
+ghost use Rattle.gif.specs.Log.{listed, logged, logRefused, LogFits};
+ghost use Rattle.gif.specs.Step.{left, commit};
+
+fn count(writes: Writes) -> u64
+    ensures { λ r. ⌜ r ≡ length (listed writes) ⌝ }
+{
+    match writes {
+        Writes::Nothing => 0,
+        Writes::One(_) => 1,
+        Writes::Two(_, _) => 2,
+    }
+}
+
+fn put(log: &mut [u64], used: u64, e: Entry)
+    requires { ⌜ 2 * (used + 1) ≤ length (now log) ⌝ }
+    ensures { λ _. ⌜ now (log .exit) ≡ logged (now (log .entry)) used (e ∷ []) ⌝ }
+{
+    let at = (2 * used) as usize;
+    log[at] = e.register;
+    log[at + 1] = e.value;
+}
+
+fn store(log: &mut [u64], used: u64, writes: Writes)
+    requires { ⌜ 2 * (used + length (listed writes)) ≤ length (now log) ⌝ }
+    ensures { λ _. ⌜ now (log .exit) ≡ logged (now (log .entry)) used (listed writes) ⌝ }
+{
+    match writes {
+        Writes::Nothing => {}
+        Writes::One(e) => put(log, used, e),
+        Writes::Two(e, f) => {
+            put(log, used, e);
+            put(log, used + 1, f);
+        }
+    }
+}
+
+// The step's writes and its path, all or none.
+pub fn finish(path: Path, after: Path, writes: Writes, log: &mut [u64], used: u64) -> GifResult
+    requires { ⌜ LogFits (now log) used ⌝ }
+    ensures { λ r. ⌜ left r (now (log .exit)) ≡ commit path after (listed writes) used (now (log .entry)) ⌝ }
+{
+    let n = count(writes);
+    if (log.len() as u64) < 2 * (used + n) {
+        return GifResult {
+            answer: GifAnswer::Refused(31),
+            path,
+            used,
+        };
+    }
+    store(log, used, writes);
+    GifResult {
+        answer: GifAnswer::Taken,
+        path: after,
+        used: used + n,
+    }
+}
+
+// Whether refusal 4 names this length.
+pub fn log_refused(log: &[u64], used: u64) -> bool
+    ensures { λ r. ⌜ r ≡ logRefused (now (log .entry)) used ⌝ }
+{
+    let n = log.len() as u64;
+    if n % 2 == 1 {
+        return true;
+    }
+    if 131072 < n {
+        return true;
+    }
+    n / 2 < used
+}

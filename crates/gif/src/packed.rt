@@ -1,0 +1,82 @@
+// PACKED data: a write by its descriptor.
+use super::Entry;
+use super::Writes;
+ghost use mathlib.Core.Path.{_≡_};
+ghost use Prim.Native.Nat.{_<_};
+ghost use Rattle.gif.specs.Fields.{quadword};
+ghost use Rattle.gif.specs.Log.{entry, listed};
+ghost use Rattle.gif.specs.Packed.{rgbaq, uv, xyzf, xyz, redirected, packedWrites, packedQ};
+
+fn one(register: u64, value: u64) -> Writes
+    ensures { λ r. ⌜ r ≡ Writes.One (entry register value) ⌝ }
+{
+    Writes::One(Entry { register, value })
+}
+
+fn rgbaq_value(q: u32, low: u64, high: u64) -> u64
+    ensures { λ r. ⌜ r ≡ rgbaq q (quadword low high) ⌝ }
+{
+    low % 256
+        + low / 4294967296 % 256 * 256
+        + high % 256 * 65536
+        + high / 4294967296 % 256 * 16777216
+        + q as u64 * 4294967296
+}
+
+fn uv_value(low: u64, high: u64) -> u64
+    ensures { λ r. ⌜ r ≡ uv (quadword low high) ⌝ }
+{
+    low % 16384 + low / 4294967296 % 16384 * 65536
+}
+
+fn xyzf_value(low: u64, high: u64) -> u64
+    ensures { λ r. ⌜ r ≡ xyzf (quadword low high) ⌝ }
+{
+    low % 65536
+        + low / 4294967296 % 65536 * 65536
+        + high / 16 % 16777216 * 4294967296
+        + high / 68719476736 % 256 * 72057594037927936
+}
+
+fn xyz_value(low: u64, high: u64) -> u64
+    ensures { λ r. ⌜ r ≡ xyz (quadword low high) ⌝ }
+{
+    low % 65536 + low / 4294967296 % 65536 * 65536 + high % 4294967296 * 4294967296
+}
+
+fn redirect(register: u64, low: u64, high: u64) -> u64
+    requires { ⌜ register < 16 ⌝ }
+    ensures { λ r. ⌜ r ≡ redirected register (quadword low high) ⌝ }
+{
+    if high / 140737488355328 % 2 == 1 {
+        register + 8
+    } else {
+        register
+    }
+}
+
+pub fn packed_writes(descriptor: u64, q: u32, low: u64, high: u64) -> Writes
+    ensures { λ r. ⌜ listed r ≡ packedWrites descriptor q (quadword low high) ⌝ }
+{
+    match descriptor {
+        0 => one(0, low % 2048),
+        1 => one(1, rgbaq_value(q, low, high)),
+        3 => one(3, uv_value(low, high)),
+        4 => one(redirect(4, low, high), xyzf_value(low, high)),
+        5 => one(redirect(5, low, high), xyz_value(low, high)),
+        10 => one(10, high / 68719476736 % 256 * 72057594037927936),
+        14 => one(high % 256, low),
+        15 => Writes::Nothing,
+        _ => one(descriptor, low),
+    }
+}
+
+pub fn packed_q(descriptor: u64, q: u32, low: u64, high: u64) -> u32
+    ensures { λ r. ⌜ r ≡ packedQ descriptor q (quadword low high) ⌝ }
+{
+    if descriptor == 2 {
+        (high % 4294967296) as u32
+    } else {
+        q
+    }
+}

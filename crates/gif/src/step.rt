@@ -1,0 +1,162 @@
+// One quadword taken by a path.
+use super::Entry;
+use super::GifAnswer;
+use super::GifResult;
+use super::HeldTag;
+use super::Path;
+use super::Place;
+use super::TagFormat;
+use super::Writes;
+use super::log::finish;
+use super::log::log_refused;
+use super::packed::packed_q;
+use super::packed::packed_writes;
+use super::range::path_in_range;
+use super::reglist::halves;
+use super::reglist::second_descriptor;
+use super::tag::descriptor_at;
+use super::tag::place_after;
+use super::tag::place_at_tag;
+use super::tag::tag_writes;
+use super::tag::taken;
+ghost use mathlib.Core.Path.{_≡_};
+ghost use Rattle.gif.specs.Fields.{quadword};
+ghost use Rattle.gif.specs.Log.{LogFits};
+ghost use Rattle.gif.specs.Range.{TagFits, PlaceFits};
+ghost use Rattle.gif.specs.Step.{left, refusedResult, tagStep, packedStep, reglistStep, imageStep, dataStep, gifStep, takeOf};
+
+fn refuse(number: u32, path: Path, used: u64) -> GifResult
+    ensures { λ r. ⌜ r ≡ refusedResult number path used ⌝ }
+{
+    GifResult {
+        answer: GifAnswer::Refused(number),
+        path,
+        used,
+    }
+}
+
+fn take_tag(path: Path, low: u64, high: u64, log: &mut [u64], used: u64) -> GifResult
+    requires { ⌜ LogFits (now log) used ⌝ }
+    ensures { λ r. ⌜ left r (now (log .exit)) ≡ tagStep path (quadword low high) used (now (log .entry)) ⌝ }
+{
+    let place = place_at_tag(low, high);
+    let after = Path {
+        q: 1065353216,
+        place,
+    };
+    let writes = tag_writes(low, high);
+    finish(path, after, writes, log, used)
+}
+
+fn take_packed(
+    path: Path,
+    tag: HeldTag,
+    low: u64,
+    high: u64,
+    log: &mut [u64],
+    used: u64,
+) -> GifResult
+    requires { ⌜ LogFits (now log) used × TagFits tag ⌝ }
+    ensures { λ r. ⌜ left r (now (log .exit)) ≡ packedStep path tag (quadword low high) used (now (log .entry)) ⌝ }
+{
+    let descriptor = descriptor_at(tag, taken(tag));
+    if descriptor == 11 {
+        return refuse(30, path, used);
+    }
+    let place = place_after(tag);
+    let q = packed_q(descriptor, path.q, low, high);
+    let writes = packed_writes(descriptor, path.q, low, high);
+    finish(path, Path { q, place }, writes, log, used)
+}
+
+fn take_reglist(
+    path: Path,
+    tag: HeldTag,
+    low: u64,
+    high: u64,
+    log: &mut [u64],
+    used: u64,
+) -> GifResult
+    requires { ⌜ LogFits (now log) used × TagFits tag ⌝ }
+    ensures { λ r. ⌜ left r (now (log .exit)) ≡ reglistStep path tag (quadword low high) used (now (log .entry)) ⌝ }
+{
+    let item = 2 * taken(tag);
+    let first = descriptor_at(tag, item);
+    let second = second_descriptor(tag, item + 1);
+    if first == 11 {
+        return refuse(30, path, used);
+    }
+    if second == 11 {
+        return refuse(30, path, used);
+    }
+    let place = place_after(tag);
+    let writes = halves(first, second, low, high);
+    finish(path, Path { q: path.q, place }, writes, log, used)
+}
+
+fn take_image(
+    path: Path,
+    tag: HeldTag,
+    low: u64,
+    high: u64,
+    log: &mut [u64],
+    used: u64,
+) -> GifResult
+    requires { ⌜ LogFits (now log) used × TagFits tag ⌝ }
+    ensures { λ r. ⌜ left r (now (log .exit)) ≡ imageStep path tag (quadword low high) used (now (log .entry)) ⌝ }
+{
+    let place = place_after(tag);
+    let lower = Entry {
+        register: 84,
+        value: low,
+    };
+    let upper = Entry {
+        register: 84,
+        value: high,
+    };
+    finish(
+        path,
+        Path { q: path.q, place },
+        Writes::Two(lower, upper),
+        log,
+        used,
+    )
+}
+
+fn take_data(path: Path, tag: HeldTag, low: u64, high: u64, log: &mut [u64], used: u64) -> GifResult
+    requires { ⌜ LogFits (now log) used × TagFits tag ⌝ }
+    ensures { λ r. ⌜ left r (now (log .exit)) ≡ dataStep (tag .format) path tag (quadword low high) used (now (log .entry)) ⌝ }
+{
+    let format = tag.format;
+    match format {
+        TagFormat::Packed => take_packed(path, tag, low, high, log, used),
+        TagFormat::Reglist => take_reglist(path, tag, low, high, log, used),
+        TagFormat::Image => take_image(path, tag, low, high, log, used),
+    }
+}
+
+// Document 01's step, on a log and a path that were tested.
+fn step(path: Path, low: u64, high: u64, log: &mut [u64], used: u64) -> GifResult
+    requires { ⌜ LogFits (now log) used × PlaceFits (path .place) ⌝ }
+    ensures { λ r. ⌜ left r (now (log .exit)) ≡ gifStep path (quadword low high) used (now (log .entry)) ⌝ }
+{
+    let place = path.place;
+    match place {
+        Place::Idle => take_tag(path, low, high, log, used),
+        Place::Data(tag) => take_data(path, tag, low, high, log, used),
+    }
+}
+
+// One quadword given to a path, on any input at all.
+pub fn take_quadword(path: Path, low: u64, high: u64, log: &mut [u64], used: u64) -> GifResult
+    ensures { λ r. ⌜ left r (now (log .exit)) ≡ takeOf path (quadword low high) used (now (log .entry)) ⌝ }
+{
+    if log_refused(log, used) {
+        return refuse(4, path, used);
+    }
+    if path_in_range(path) {
+        step(path, low, high, log, used)
+    } else {
+        refuse(5, path, used)
+    }
+}

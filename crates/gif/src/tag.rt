@@ -1,0 +1,115 @@
+// The tag's fields, and what a path holds of a tag.
+use super::Entry;
+use super::HeldTag;
+use super::Place;
+use super::TagFormat;
+use super::Writes;
+ghost use mathlib.Core.Path.{_≡_};
+ghost use Prim.Native.Nat.{_≤_};
+ghost use Rattle.gif.specs.Fields.{quadword};
+ghost use Rattle.gif.specs.Log.{listed};
+ghost use Rattle.gif.specs.Range.{TagFits};
+ghost use Rattle.gif.specs.Tag.{formatOf, nregOf, quadwordsOf, tagOf, takenOf, descriptorAt, placeAfter, placeAtTag, tagWrites};
+
+fn format_of(flg: u64) -> TagFormat
+    ensures { λ r. ⌜ r ≡ formatOf flg ⌝ }
+{
+    match flg {
+        0 => TagFormat::Packed,
+        1 => TagFormat::Reglist,
+        _ => TagFormat::Image,
+    }
+}
+
+fn nreg_of(nreg: u32) -> u32
+    ensures { λ r. ⌜ r ≡ nregOf nreg ⌝ }
+{
+    if nreg == 0 { 16 } else { nreg }
+}
+
+pub fn quadwords(format: TagFormat, nloop: u32, nreg: u32) -> u32
+    requires { ⌜ (nloop ≤ 32767) × (nreg ≤ 16) ⌝ }
+    ensures { λ r. ⌜ r ≡ quadwordsOf format nloop nreg ⌝ }
+{
+    match format {
+        TagFormat::Packed => nloop * nreg,
+        TagFormat::Reglist => (nloop * nreg + 1) / 2,
+        TagFormat::Image => nloop,
+    }
+}
+
+fn tag_of(low: u64, high: u64) -> HeldTag
+    ensures { λ r. ⌜ r ≡ tagOf (quadword low high) ⌝ }
+{
+    let nloop = (low % 32768) as u32;
+    let format = format_of(low / 288230376151711744 % 4);
+    let nreg = nreg_of((low / 1152921504606846976) as u32);
+    let due = quadwords(format, nloop, nreg);
+    HeldTag {
+        nloop,
+        eop: low / 32768 % 2 == 1,
+        format,
+        nreg,
+        descriptors: high,
+        due,
+    }
+}
+
+// How many of the tag's quadwords were taken.
+pub fn taken(tag: HeldTag) -> u32
+    requires { ⌜ TagFits tag ⌝ }
+    ensures { λ r. ⌜ r ≡ takenOf tag ⌝ }
+{
+    let format = tag.format;
+    quadwords(format, tag.nloop, tag.nreg) - tag.due
+}
+
+pub fn descriptor_at(tag: HeldTag, item: u32) -> u64
+    requires { ⌜ TagFits tag ⌝ }
+    ensures { λ r. ⌜ r ≡ descriptorAt tag item ⌝ }
+{
+    let nibble = 4 * (item % tag.nreg);
+    (tag.descriptors >> nibble) % 16
+}
+
+pub fn place_after(tag: HeldTag) -> Place
+    requires { ⌜ TagFits tag ⌝ }
+    ensures { λ r. ⌜ r ≡ placeAfter tag ⌝ }
+{
+    if tag.due == 1 {
+        return Place::Idle;
+    }
+    let mut rest = tag;
+    rest.due = tag.due - 1;
+    Place::Data(rest)
+}
+
+pub fn place_at_tag(low: u64, high: u64) -> Place
+    ensures { λ r. ⌜ r ≡ placeAtTag (quadword low high) ⌝ }
+{
+    if low % 32768 == 0 {
+        Place::Idle
+    } else {
+        Place::Data(tag_of(low, high))
+    }
+}
+
+// A tag's own write.
+pub fn tag_writes(low: u64, high: u64) -> Writes
+    ensures { λ r. ⌜ listed r ≡ tagWrites (quadword low high) ⌝ }
+{
+    if low % 32768 == 0 {
+        return Writes::Nothing;
+    }
+    if low / 70368744177664 % 2 == 0 {
+        return Writes::Nothing;
+    }
+    if low / 288230376151711744 % 4 == 0 {
+        Writes::One(Entry {
+            register: 0,
+            value: low / 140737488355328 % 2048,
+        })
+    } else {
+        Writes::Nothing
+    }
+}

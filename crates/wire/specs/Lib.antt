@@ -1,0 +1,2 @@
+-- Words in byte buffers.
+pub mod Words

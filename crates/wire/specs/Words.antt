@@ -1,0 +1,32 @@
+-- Little-endian words of a byte buffer.
+use Prim.Native.Nat.{ℕ, _+_, _*_, _/_, _%_}
+use mathlib.Core.Bool.{Bool, true, false}
+use mathlib.Core.List.{List}
+use lib.ListN.{length, getD, set}
+use lib.Dec.{leb}
+
+-- the choice by a test
+unfoldable pub if : {A : Type 0} → Bool → A → A → A
+if true a b = a
+if false a b = b
+
+-- the word at a place, 0 where it is not whole
+unfoldable pub wordAt : List ℕ → ℕ → ℕ
+wordAt b a =
+    if (leb (a + 4) (length b))
+    (getD b a 0 + getD b (a + 1) 0 * 256 + getD b (a + 2) 0 * 65536 + getD b (a + 3) 0 * 16777216)
+    0
+
+-- the buffer with a word stored, as it was where the word does not fit
+unfoldable pub withWord : List ℕ → ℕ → ℕ → List ℕ
+withWord b a x =
+    if (leb (a + 4) (length b))
+    (set (set (set (set b a (x % 256)) (a + 1) (x / 256 % 256)) (a + 2) (x / 65536 % 256)) (a + 3) (x / 16777216))
+    b
+
+-- the place after a word that was put into a buffer of a length, at its start where it was full
+unfoldable pub nextPlace : ℕ → ℕ → ℕ
+nextPlace n a = if (leb (a + 4) n) (a + 4) 4
+
+unfoldable pub emitted : List ℕ → ℕ → ℕ → List ℕ
+emitted b a x = if (leb (a + 4) (length b)) (withWord b a x) (withWord b 0 x)

@@ -1,0 +1,173 @@
+//! Time per quadword of another program and of our own.
+
+use crate::compare::Program;
+use crate::gif::Tag;
+use crate::gif_generate::tag_quadword;
+use crate::gif_time::{input, MOST_QUADWORDS};
+use crate::random::Random;
+use crate::words::word;
+use std::time::Instant;
+
+const TRIES: usize = 3;
+const SMALL: u32 = 1;
+/// Aimed at for a run with the large number of rounds, in seconds.
+const AIM: f64 = 0.7;
+
+/// Measures the GIF on each timing input and prints a table.
+pub fn bench_gif(program: &Program) -> Result<(), String> {
+    let own = Program::own("time-gif")?;
+    check_other_inputs(program)?;
+    println!("GIF, ns per quadword; best of {TRIES} runs each.");
+    println!("Start-up is taken off: the time of {SMALL} round is subtracted from that of many.");
+    println!("Buffers are not cleared between rounds.");
+    println!();
+    println!(
+        "{:<14} {:>8} {:>8} {:>7}",
+        "input", "program", "second", "ratio"
+    );
+    for (name, data) in inputs() {
+        let (theirs, ours) = measure(program, &own, &data).map_err(|e| format!("{name}: {e}"))?;
+        println!(
+            "{:<14} {:>8.2} {:>8.2} {:>7.2}",
+            name,
+            theirs,
+            ours,
+            theirs / ours
+        );
+    }
+    Ok(())
+}
+
+fn seconds(program: &Program, input: &[u8]) -> Result<(f64, Vec<u8>), String> {
+    let start = Instant::now();
+    let output = program.run(input)?;
+    Ok((start.elapsed().as_secs_f64(), output))
+}
+
+/// A number of rounds that takes about the time aimed at.
+fn large_rounds(program: &Program, data: &[u128]) -> Result<u32, String> {
+    let (start_up, _) = seconds(program, &input(SMALL, data))?;
+    let mut rounds = 64u32;
+    loop {
+        let (time, _) = seconds(program, &input(rounds, data))?;
+        let net = time - start_up;
+        if net > 0.1 {
+            let wanted = rounds as f64 * AIM / net;
+            return Ok(wanted.clamp(SMALL as f64 + 1.0, 1e9) as u32);
+        }
+        if rounds > 1 << 28 {
+            return Err("too fast to be measured".to_string());
+        }
+        rounds *= 4;
+    }
+}
+
+/// Nanoseconds per quadword of both programs.
+fn measure(program: &Program, own: &Program, data: &[u128]) -> Result<(f64, f64), String> {
+    let both = [program, own];
+    let rounds = [large_rounds(program, data)?, large_rounds(own, data)?];
+    for rounds in [0, SMALL, rounds[0].min(rounds[1])] {
+        let given = input(rounds, data);
+        let (theirs, ours) = (program.run(&given)?, own.run(&given)?);
+        if theirs != ours {
+            return Err(format!(
+                "{rounds} rounds: results differ: {theirs:02X?}, ours {ours:02X?}"
+            ));
+        }
+        if word(&ours, 0) != 0 {
+            return Err(format!(
+                "{rounds} rounds: {} quadwords were refused",
+                word(&ours, 0)
+            ));
+        }
+    }
+    let mut small = [f64::MAX; 2];
+    let mut large = [f64::MAX; 2];
+    for _ in 0..TRIES {
+        for i in 0..2 {
+            small[i] = small[i].min(seconds(both[i], &input(SMALL, data))?.0);
+            large[i] = large[i].min(seconds(both[i], &input(rounds[i], data))?.0);
+        }
+    }
+    let each = |i: usize| {
+        let given = (rounds[i] - SMALL) as f64 * data.len() as f64;
+        (large[i] - small[i]) / given * 1e9
+    };
+    Ok((each(0), each(1)))
+}
+
+/// Inputs that are no timing input give no result.
+fn check_other_inputs(program: &Program) -> Result<(), String> {
+    let tag = tag_quadword(0, 0, 1, 0);
+    let whole = input(1, &[tag, tag]);
+    let mut longer = whole.clone();
+    longer.push(0);
+    let others = [
+        ("an empty input", Vec::new()),
+        ("a cut header", whole[..7].to_vec()),
+        ("n 0", input(1, &[])),
+        (
+            "n above its limit",
+            input(1, &vec![tag; MOST_QUADWORDS + 1]),
+        ),
+        ("a cut quadword", whole[..whole.len() - 1].to_vec()),
+        ("a missing quadword", whole[..whole.len() - 16].to_vec()),
+        ("a byte too many", longer),
+    ];
+    for (name, bytes) in others {
+        if !program.run(&bytes)?.is_empty() {
+            return Err(format!("{name} gives a result"));
+        }
+    }
+    Ok(())
+}
+
+/// The timing inputs by name. All their quadwords are legal, and each ends between tags.
+fn inputs() -> Vec<(&'static str, Vec<u128>)> {
+    let mut random = Random::new(1);
+    // All descriptors but B, with ST before RGBAQ.
+    let mixed = 0xFEDC_0A98_7654_3012;
+    let any_descriptors = |random: &mut Random| {
+        (0..16).fold(0, |all, i| {
+            all | random.pick(&[0u64, 1, 2, 3, 4, 5, 10, 14, 15]) << (4 * i)
+        })
+    };
+    let mut make = |tag: &mut dyn FnMut(&mut Random) -> u128| {
+        let mut data = Vec::new();
+        while data.len() < MOST_QUADWORDS {
+            let quadword = tag(&mut random);
+            let all = Tag::decode(quadword).all_data() as usize;
+            if data.len() + 1 + all > MOST_QUADWORDS {
+                data.push(tag_quadword(0, 0, 1, 0));
+                continue;
+            }
+            data.push(quadword);
+            data.extend((0..all).map(|_| random.quadword()));
+        }
+        data
+    };
+    vec![
+        ("PACKED A+D", make(&mut |_| tag_quadword(255, 0, 1, 0xE))),
+        (
+            "PACKED mixed",
+            make(&mut |random| tag_quadword(random.within(1..=12), 0, 0, mixed)),
+        ),
+        (
+            "REGLIST",
+            make(&mut |random| {
+                let nreg = random.within(1..=15);
+                tag_quadword(random.within(1..=40), 1, nreg, 0x0123_4567_89AC_D012)
+            }),
+        ),
+        ("IMAGE", make(&mut |_| tag_quadword(255, 2, 1, 0))),
+        (
+            "all mixed",
+            make(&mut |random| {
+                let flg = random.below(4);
+                let descriptors = any_descriptors(random);
+                let pre = (random.below(2) as u128) << 46;
+                tag_quadword(random.within(0..=8), flg, random.below(16), descriptors) | pre
+            }),
+        ),
+    ]
+}

@@ -1,0 +1,92 @@
+//! Running another program on an input, and comparing bytes.
+
+use std::io::{Read, Write};
+use std::process::{Command, Stdio};
+
+/// A program to run, with arguments.
+pub struct Program {
+    file: String,
+    arguments: Vec<String>,
+}
+
+impl Program {
+    /// The path of an executable, or a path and arguments with blanks between.
+    pub fn parse(text: &str) -> Program {
+        let mut parts = text.split_whitespace().map(String::from);
+        if std::path::Path::new(text).exists() {
+            return Program {
+                file: text.to_string(),
+                arguments: Vec::new(),
+            };
+        }
+        let file = parts.next().unwrap_or_default();
+        Program {
+            file,
+            arguments: parts.collect(),
+        }
+    }
+
+    /// This program itself, with one argument.
+    pub fn own(argument: &str) -> Result<Program, String> {
+        let file = std::env::current_exe().map_err(|e| format!("own path: {e}"))?;
+        Ok(Program {
+            file: file.to_string_lossy().into_owned(),
+            arguments: vec![argument.to_string()],
+        })
+    }
+
+    /// Runs the program on the input and hands back all it writes.
+    pub fn run(&self, input: &[u8]) -> Result<Vec<u8>, String> {
+        let told = |e: std::io::Error| format!("{}: {e}", self.file);
+        let mut child = Command::new(&self.file)
+            .args(&self.arguments)
+            .stdin(Stdio::piped())
+            .stdout(Stdio::piped())
+            .spawn()
+            .map_err(told)?;
+        let mut to = child.stdin.take().unwrap();
+        let mut from = child.stdout.take().unwrap();
+        let mut output = Vec::new();
+        let read = std::thread::scope(|scope| {
+            // A program may stop reading before the end.
+            scope.spawn(move || to.write_all(input));
+            from.read_to_end(&mut output)
+        });
+        let status = child.wait().map_err(told)?;
+        read.map_err(told)?;
+        if status.code().is_none() {
+            return Err(format!("{}: ended by {status}", self.file));
+        }
+        Ok(output)
+    }
+}
+
+/// The offset of the first byte that differs or that only one of the two has.
+pub fn first_difference(a: &[u8], b: &[u8]) -> Option<usize> {
+    let shorter = a.len().min(b.len());
+    match (0..shorter).find(|&i| a[i] != b[i]) {
+        None if a.len() == b.len() => None,
+        None => Some(shorter),
+        found => found,
+    }
+}
+
+/// Prints a table of counts, a line each.
+pub fn table(rows: &[(String, u64)]) -> String {
+    rows.iter()
+        .map(|(name, count)| format!("{count:>12}  {name}\n"))
+        .collect()
+}
+
+/// The names of the counts that are zero.
+pub fn zeros(rows: &[(String, u64)]) -> Vec<&str> {
+    rows.iter()
+        .filter(|(_, count)| *count == 0)
+        .map(|(name, _)| name.as_str())
+        .collect()
+}
+
+/// Seeds with commas between.
+pub fn seeds(text: &str) -> Option<Vec<u64>> {
+    text.split(',').map(|seed| seed.parse().ok()).collect()
+}

@@ -1,0 +1,363 @@
+//! GIF case files and their results.
+
+use crate::gif::{self, Format, Path, Place, Tag};
+use crate::gif_counts::Counts;
+use crate::words::{self, number, put_number, put_quadword, put_word, word, QUADWORD, WORD};
+
+pub const MARK: u32 = 0x4649_4754;
+pub const MOST_QUADWORDS: u32 = 65_535;
+pub const MOST_LOG: u32 = 131_080;
+const HEADER: usize = 16 * WORD;
+const FILL_STEP: u64 = 0x9E37_79B9_7F4A_7C15;
+
+/// A path block as it lies in files.
+pub type Block = [u32; 9];
+
+#[derive(Clone)]
+pub struct Case {
+    pub log_length: u32,
+    pub used: u64,
+    pub fill: u64,
+    pub block: Block,
+    pub quadwords: Vec<u128>,
+}
+
+impl Case {
+    pub fn write(&self, out: &mut Vec<u8>) {
+        put_word(out, MARK);
+        put_word(out, self.quadwords.len() as u32);
+        put_word(out, self.log_length);
+        put_number(out, self.used);
+        put_number(out, self.fill);
+        for &w in &self.block {
+            put_word(out, w);
+        }
+        for &quadword in &self.quadwords {
+            put_quadword(out, quadword);
+        }
+    }
+}
+
+/// The path of a block; none where it exists in no path.
+pub fn read_block(block: &Block) -> Option<Path> {
+    let q = block[0];
+    let place = match block[1] {
+        0 => Place::Idle,
+        1 => {
+            let format = match block[2] {
+                0 => Format::Packed,
+                1 => Format::Reglist,
+                2 => Format::Image,
+                _ => return None,
+            };
+            let eop = match block[4] {
+                0 => false,
+                1 => true,
+                _ => return None,
+            };
+            let tag = Tag {
+                format,
+                nloop: block[3],
+                eop,
+                nreg: block[5],
+                descriptors: block[6] as u64 | (block[7] as u64) << 32,
+            };
+            Place::Data { tag, due: block[8] }
+        }
+        _ => return None,
+    };
+    Some(Path { q, place })
+}
+
+pub fn write_block(path: &Path) -> Block {
+    match &path.place {
+        Place::Idle => [path.q, 0, 0, 0, 0, 0, 0, 0, 0],
+        Place::Data { tag, due } => {
+            let format = match tag.format {
+                Format::Packed => 0,
+                Format::Reglist => 1,
+                Format::Image => 2,
+            };
+            let low = tag.descriptors as u32;
+            let high = (tag.descriptors >> 32) as u32;
+            [
+                path.q,
+                1,
+                format,
+                tag.nloop,
+                tag.eop as u32,
+                tag.nreg,
+                low,
+                high,
+                *due,
+            ]
+        }
+    }
+}
+
+/// Number `index` of a log with this fill.
+pub fn fill_number(fill: u64, index: u64) -> u64 {
+    fill.wrapping_add(index.wrapping_mul(FILL_STEP))
+}
+
+/// What stands while the quadwords of a case are given.
+pub struct Standing {
+    /// None where the case's block exists in no path.
+    pub path: Option<Path>,
+    given: Block,
+    pub used: u64,
+    pub log: Vec<u64>,
+}
+
+impl Standing {
+    pub fn new(case: &Case) -> Standing {
+        Standing {
+            path: read_block(&case.block),
+            given: case.block,
+            used: case.used,
+            log: (0..case.log_length as u64)
+                .map(|i| fill_number(case.fill, i))
+                .collect(),
+        }
+    }
+
+    /// Gives a quadword; answers 0 or the refusal.
+    pub fn take(&mut self, quadword: u128) -> u32 {
+        let taken = match &mut self.path {
+            Some(path) => gif::take(path, &mut self.used, &mut self.log, quadword),
+            None if !gif::log_in_range(self.log.len(), self.used) => Err(gif::REFUSED_LOG),
+            None => Err(gif::REFUSED_RANGE),
+        };
+        taken.err().unwrap_or(0)
+    }
+
+    pub fn block(&self) -> Block {
+        match &self.path {
+            Some(path) => write_block(path),
+            None => self.given,
+        }
+    }
+}
+
+/// Where the result of a quadword starts.
+pub struct Start {
+    pub offset: usize,
+    pub case: usize,
+    pub quadword: usize,
+}
+
+#[derive(Default)]
+pub struct Results {
+    pub bytes: Vec<u8>,
+    pub starts: Vec<Start>,
+    /// Where the line about a damaged case starts.
+    pub damage: Option<usize>,
+}
+
+/// The first case of the bytes.
+enum Found {
+    Whole(Case, usize),
+    /// With the quadwords that are whole, if any.
+    Damaged(Option<Case>),
+}
+
+fn first_case(bytes: &[u8]) -> Found {
+    if bytes.len() < HEADER {
+        return Found::Damaged(None);
+    }
+    let count = word(bytes, 1);
+    let log_length = word(bytes, 2);
+    if word(bytes, 0) != MARK || count > MOST_QUADWORDS || log_length > MOST_LOG {
+        return Found::Damaged(None);
+    }
+    let data = &bytes[HEADER..];
+    let wanted = count as usize * QUADWORD;
+    let there = wanted.min(data.len());
+    let mut block = [0; 9];
+    for (i, w) in block.iter_mut().enumerate() {
+        *w = word(bytes, 7 + i);
+    }
+    let case = Case {
+        log_length,
+        used: number(bytes, 3),
+        fill: number(bytes, 5),
+        block,
+        quadwords: words::quadwords(&data[..there]),
+    };
+    if there == wanted {
+        Found::Whole(case, HEADER + wanted)
+    } else {
+        Found::Damaged(Some(case))
+    }
+}
+
+/// The results of a case file.
+pub fn results(file: &[u8], counts: &mut Counts) -> Results {
+    let mut results = Results::default();
+    let mut rest = file;
+    let mut index = 0;
+    while !rest.is_empty() {
+        match first_case(rest) {
+            Found::Whole(case, length) => {
+                run_case(&case, index, &mut results, counts);
+                rest = &rest[length..];
+            }
+            Found::Damaged(case) => {
+                if let Some(case) = case {
+                    run_case(&case, index, &mut results, counts);
+                }
+                results.damage = Some(results.bytes.len());
+                results
+                    .bytes
+                    .extend_from_slice(format!("damaged case {index}\n").as_bytes());
+                return results;
+            }
+        }
+        index += 1;
+    }
+    results
+}
+
+/// Where each case of a file starts, a damaged last one too.
+pub fn case_starts(file: &[u8]) -> Vec<usize> {
+    let mut starts = Vec::new();
+    let mut at = 0;
+    while at < file.len() {
+        starts.push(at);
+        match first_case(&file[at..]) {
+            Found::Whole(_, length) => at += length,
+            Found::Damaged(_) => break,
+        }
+    }
+    starts
+}
+
+fn run_case(case: &Case, index: usize, results: &mut Results, counts: &mut Counts) {
+    let mut standing = Standing::new(case);
+    let mut log_before = standing.log.clone();
+    counts.cases += 1;
+    for (i, &quadword) in case.quadwords.iter().enumerate() {
+        results.starts.push(Start {
+            offset: results.bytes.len(),
+            case: index,
+            quadword: i,
+        });
+        let path_before = standing.path;
+        let used_before = standing.used;
+        let answer = standing.take(quadword);
+        let changes = changes(&log_before, &standing.log);
+        write_result(&mut results.bytes, answer, &standing, &changes);
+        counts.note(
+            path_before.as_ref(),
+            used_before,
+            quadword,
+            answer,
+            &standing,
+            changes.len(),
+        );
+        for &(at, value) in &changes {
+            log_before[at] = value;
+        }
+    }
+}
+
+fn write_result(out: &mut Vec<u8>, answer: u32, standing: &Standing, changes: &[(usize, u64)]) {
+    put_word(out, answer);
+    put_number(out, standing.used);
+    for w in standing.block() {
+        put_word(out, w);
+    }
+    put_word(out, changes.len() as u32);
+    for &(at, value) in changes {
+        put_word(out, at as u32);
+        put_number(out, value);
+    }
+}
+
+/// The numbers that differ, with their index and new value.
+fn changes(before: &[u64], after: &[u64]) -> Vec<(usize, u64)> {
+    const PIECE: usize = 1024;
+    let mut found = Vec::new();
+    for (i, (old, new)) in before.chunks(PIECE).zip(after.chunks(PIECE)).enumerate() {
+        if old != new {
+            for (j, (a, b)) in old.iter().zip(new).enumerate() {
+                if a != b {
+                    found.push((i * PIECE + j, *b));
+                }
+            }
+        }
+    }
+    found
+}
+
+/// The result that starts at the head of the bytes, in words to read.
+pub fn describe_result(bytes: &[u8]) -> String {
+    if bytes.len() < 13 * WORD {
+        return format!(
+            "cut after {} bytes: {}",
+            bytes.len(),
+            String::from_utf8_lossy(bytes).escape_debug()
+        );
+    }
+    let mut block = [0; 9];
+    for (i, w) in block.iter_mut().enumerate() {
+        *w = word(bytes, 3 + i);
+    }
+    let count = word(bytes, 12);
+    let mut text = format!(
+        "answer {}, entries used {}\n    {}\n    {} numbers changed",
+        word(bytes, 0),
+        number(bytes, 1),
+        describe_block(&block),
+        count
+    );
+    for i in 0..count as usize {
+        let at = 13 + 3 * i;
+        if bytes.len() < (at + 3) * WORD {
+            text.push_str("\n    cut here");
+            break;
+        }
+        if i == 8 {
+            text.push_str("\n    and more");
+            break;
+        }
+        text.push_str(&format!(
+            "\n    number {} = {:016X}",
+            word(bytes, at),
+            number(bytes, at + 1)
+        ));
+    }
+    text
+}
+
+pub fn describe_block(block: &Block) -> String {
+    format!(
+        "path: Q {:08X}, place {}, format {}, NLOOP {}, EOP {}, NREG {}, descriptors {:08X}{:08X}, due {}",
+        block[0], block[1], block[2], block[3], block[4], block[5], block[7], block[6], block[8]
+    )
+}
+
+/// A case in hexadecimal, from its header to quadword `last`.
+pub fn describe_case(bytes: &[u8], last: usize) -> String {
+    let header = &bytes[..bytes.len().min(HEADER)];
+    let data = &bytes[header.len()..];
+    let shown = data
+        .len()
+        .min(last.saturating_add(1).saturating_mul(QUADWORD));
+    let mut text = String::new();
+    for line in header
+        .chunks(QUADWORD)
+        .chain(data[..shown].chunks(QUADWORD))
+    {
+        text.push_str("    ");
+        for piece in line.chunks(WORD) {
+            for byte in piece {
+                text.push_str(&format!("{byte:02X}"));
+            }
+            text.push(' ');
+        }
+        text.pop();
+        text.push('\n');
+    }
+    text
+}

@@ -1,0 +1,130 @@
+//! Another program's GIF results against our own.
+
+use crate::compare::{first_difference, table, zeros, Program};
+use crate::gif_cases::{self, case_starts, describe_case, describe_result, Results};
+use crate::gif_counts::Counts;
+use crate::gif_generate::generate;
+use crate::random::Random;
+
+/// Compares on the cases of each seed and on damaged files made from them.
+pub fn compare(program: &Program, seeds: &[u64], quadwords: u64) -> Result<(), String> {
+    let mut counts = Counts::default();
+    let mut damaged_files = 0;
+    for &seed in seeds {
+        let file = generate(seed, quadwords);
+        compare_file(program, &file, &mut counts).map_err(|e| format!("seed {seed}: {e}"))?;
+        for (name, damaged) in damaged(&file, seed) {
+            compare_file(program, &damaged, &mut Counts::default())
+                .map_err(|e| format!("seed {seed}, damaged file ({name}): {e}"))?;
+            damaged_files += 1;
+        }
+    }
+    let mut rows = counts.rows();
+    rows.push(("damaged files".to_string(), damaged_files));
+    print!("{}", table(&rows));
+    let missing = zeros(&rows);
+    if !missing.is_empty() {
+        return Err(format!("never reached: {}", missing.join("; ")));
+    }
+    println!("no difference");
+    Ok(())
+}
+
+fn compare_file(program: &Program, file: &[u8], counts: &mut Counts) -> Result<(), String> {
+    let own = gif_cases::results(file, counts);
+    let theirs = program.run(file)?;
+    match first_difference(&own.bytes, &theirs) {
+        None => Ok(()),
+        Some(at) => Err(explain(file, &own, &theirs, at)),
+    }
+}
+
+fn explain(file: &[u8], own: &Results, theirs: &[u8], at: usize) -> String {
+    let lengths = format!("{} bytes, ours {}", theirs.len(), own.bytes.len());
+    if own.damage.is_some_and(|line| at >= line) || at >= own.bytes.len() {
+        let line = own.damage.unwrap_or(own.bytes.len());
+        let text = |bytes: &[u8]| {
+            let end = bytes.len().min(line + 80);
+            String::from_utf8_lossy(&bytes[line.min(end)..end])
+                .escape_debug()
+                .to_string()
+        };
+        let case = own.starts.last().map_or(0, |start| start.case);
+        return format!(
+            "differs after the last result, that of case {case}: {lengths}\n  program: {}\n  ours: {}",
+            text(theirs),
+            text(&own.bytes)
+        );
+    }
+    let index = own.starts.partition_point(|start| start.offset <= at) - 1;
+    let start = &own.starts[index];
+    let from = case_starts(file)[start.case];
+    format!(
+        "case {}, quadword {}: results differ at byte {at} ({lengths})\n  program: {}\n  ours: {}\n  \
+         the case to this quadword:\n{}",
+        start.case,
+        start.quadword,
+        describe_result(&theirs[start.offset..]),
+        describe_result(&own.bytes[start.offset..]),
+        describe_case(&file[from..], start.quadword)
+    )
+}
+
+/// The first three cases and up to seventeen in a row from anywhere.
+fn some_cases(file: &[u8], random: &mut Random) -> Vec<u8> {
+    let mut bounds = case_starts(file);
+    bounds.push(file.len());
+    let count = bounds.len() - 1;
+    let first = random.within(3..=count as u64 - 1) as usize;
+    let end = (first + 17).min(count);
+    [&file[..bounds[3]], &file[bounds[first]..bounds[end]]].concat()
+}
+
+/// Damaged files made from a whole one, each with a name.
+fn damaged(file: &[u8], seed: u64) -> Vec<(String, Vec<u8>)> {
+    let mut random = Random::new(seed ^ 0x5EED);
+    let file = &some_cases(file, &mut random);
+    let starts = case_starts(file);
+    let mut made = vec![("empty".to_string(), Vec::new())];
+    let cut = |made: &mut Vec<(String, Vec<u8>)>, at: usize| {
+        let at = at.min(file.len());
+        made.push((format!("cut after {at} bytes"), file[..at].to_vec()));
+    };
+    for at in [1, 3, 4, 8, 60, 63, 64, 65, 79, 80, 81, 111, file.len() - 1] {
+        cut(&mut made, at);
+    }
+    let last = starts.len() - 1;
+    for index in [1, last / 2, last] {
+        let start = starts[index];
+        for after in [1, 4, 63, 64, 72, 80, 95] {
+            cut(&mut made, start + after);
+        }
+        cut(&mut made, random.below(file.len() as u64) as usize);
+    }
+    for index in [0, 1, last / 2, last] {
+        let start = starts[index];
+        let mut spoil = |name: &str, word: usize, value: u32| {
+            let mut bytes = file.to_vec();
+            let at = start + 4 * word;
+            bytes[at..at + 4].copy_from_slice(&value.to_le_bytes());
+            made.push((format!("case {index}, {name}"), bytes));
+        };
+        let count = crate::words::word(&file[start..], 1);
+        spoil("mark with its first bit flipped", 0, gif_cases::MARK ^ 1);
+        spoil(
+            "mark with its last bit flipped",
+            0,
+            gif_cases::MARK ^ 1 << 31,
+        );
+        spoil("mark 0", 0, 0);
+        spoil("n one above its limit", 1, gif_cases::MOST_QUADWORDS + 1);
+        spoil("n the greatest", 1, u32::MAX);
+        spoil("n at its limit", 1, gif_cases::MOST_QUADWORDS);
+        spoil("n one more", 1, count + 1);
+        spoil("n one less", 1, count.saturating_sub(1));
+        spoil("L one above its limit", 2, gif_cases::MOST_LOG + 1);
+        spoil("L the greatest", 2, u32::MAX);
+        spoil("L at its limit", 2, gif_cases::MOST_LOG);
+    }
+    made
+}

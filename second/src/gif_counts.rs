@@ -1,0 +1,272 @@
+//! What GIF cases reached.
+
+use crate::gif::{self, bits, Format, Path, Place, Tag};
+use crate::gif_cases::Standing;
+
+#[derive(Default)]
+pub struct Counts {
+    pub cases: u64,
+    quadwords: u64,
+    /// Tags with data by FLG.
+    tags: [u64; 4],
+    /// Tags with NLOOP 0 by FLG.
+    empty_tags: [u64; 4],
+    pre_writes: u64,
+    /// PRE set in a tag that doesn't write it, by the reason.
+    pre_ignored_empty: u64,
+    pre_ignored_reglist: u64,
+    pre_ignored_image: u64,
+    nreg: [u64; 16],
+    /// Data met by descriptor; B is met when it is refused.
+    packed: [u64; 16],
+    redirected: [u64; 2],
+    reglist: [u64; 16],
+    dropped_halves: u64,
+    dropped_b: u64,
+    image: u64,
+    completed: [u64; 3],
+    refused_log_odd: u64,
+    refused_log_long: u64,
+    refused_log_used: u64,
+    refused_log_used_doubled_wraps: u64,
+    refused_log_before_range: u64,
+    refused_no_path: u64,
+    refused_nloop: u64,
+    refused_nreg: u64,
+    refused_due: u64,
+    refused_b_packed: u64,
+    refused_b_first: u64,
+    refused_b_second: u64,
+    refused_b_and_full: u64,
+    refused_room_tag: u64,
+    refused_room_packed: u64,
+    refused_room_reglist: u64,
+    refused_room_image: u64,
+    refused_room_one_free: u64,
+    exactly_full: u64,
+    taken_while_full: u64,
+    unchanged: u64,
+}
+
+impl Counts {
+    /// Notes one quadword: what stood before it, its answer, and what stands now.
+    pub fn note(
+        &mut self,
+        before: Option<&Path>,
+        used: u64,
+        quadword: u128,
+        answer: u32,
+        now: &Standing,
+        changed: usize,
+    ) {
+        self.quadwords += 1;
+        match answer {
+            gif::REFUSED_LOG => self.note_log(before, used, now.log.len()),
+            gif::REFUSED_RANGE => self.note_range(before),
+            _ => {
+                let path = before.expect("only an existing path is stepped");
+                match &path.place {
+                    Place::Idle => self.note_tag(quadword, answer),
+                    Place::Data { tag, due } => {
+                        let free = now.log.len() as u64 / 2 - used;
+                        self.note_data(tag, *due, quadword, answer, free);
+                    }
+                }
+                if answer == 0 {
+                    self.note_writes(used, now, changed);
+                }
+            }
+        }
+    }
+
+    fn note_log(&mut self, before: Option<&Path>, used: u64, length: usize) {
+        if !before.is_some_and(gif::path_in_range) {
+            self.refused_log_before_range += 1;
+        }
+        if length % 2 == 1 {
+            self.refused_log_odd += 1;
+        } else if length > gif::LOG_LIMIT {
+            self.refused_log_long += 1;
+        } else if used.wrapping_mul(2) <= length as u64 {
+            self.refused_log_used_doubled_wraps += 1;
+        } else {
+            self.refused_log_used += 1;
+        }
+    }
+
+    fn note_range(&mut self, before: Option<&Path>) {
+        match before {
+            None => self.refused_no_path += 1,
+            Some(Path {
+                place: Place::Data { tag, .. },
+                ..
+            }) => {
+                if !(1..=32_767).contains(&tag.nloop) {
+                    self.refused_nloop += 1;
+                } else if !(1..=16).contains(&tag.nreg) {
+                    self.refused_nreg += 1;
+                } else {
+                    self.refused_due += 1;
+                }
+            }
+            Some(_) => {}
+        }
+    }
+
+    fn note_tag(&mut self, quadword: u128, answer: u32) {
+        if answer != 0 {
+            self.refused_room_tag += 1;
+            return;
+        }
+        let flg = bits(quadword, 58, 2) as usize;
+        let pre = bits(quadword, 46, 1) == 1;
+        if bits(quadword, 0, 15) == 0 {
+            self.empty_tags[flg] += 1;
+            self.pre_ignored_empty += (pre && flg == 0) as u64;
+            return;
+        }
+        self.tags[flg] += 1;
+        self.nreg[bits(quadword, 60, 4) as usize] += 1;
+        if pre {
+            match flg {
+                0 => self.pre_writes += 1,
+                1 => self.pre_ignored_reglist += 1,
+                _ => self.pre_ignored_image += 1,
+            }
+        }
+    }
+
+    fn note_data(&mut self, tag: &Tag, due: u32, quadword: u128, answer: u32, free: u64) {
+        if answer == gif::REFUSED_DESCRIPTOR && free == 0 {
+            self.refused_b_and_full += 1;
+        }
+        if answer == gif::REFUSED_ROOM && free == 1 {
+            self.refused_room_one_free += 1;
+        }
+        match tag.format {
+            Format::Packed => self.note_packed(tag.packed_descriptor(due), quadword, answer),
+            Format::Reglist => self.note_reglist(tag, tag.reglist_descriptors(due), answer),
+            Format::Image if answer == 0 => self.image += 1,
+            Format::Image => self.refused_room_image += 1,
+        }
+        if answer == 0 && due == 1 {
+            self.completed[tag.format as usize] += 1;
+        }
+    }
+
+    fn note_packed(&mut self, descriptor: u8, quadword: u128, answer: u32) {
+        if answer == gif::REFUSED_ROOM {
+            self.refused_room_packed += 1;
+            return;
+        }
+        self.packed[descriptor as usize] += 1;
+        match descriptor {
+            4 | 5 => self.redirected[descriptor as usize - 4] += bits(quadword, 111, 1),
+            0xB => self.refused_b_packed += 1,
+            _ => {}
+        }
+    }
+
+    fn note_reglist(&mut self, tag: &Tag, halves: (u8, Option<u8>), answer: u32) {
+        if answer == gif::REFUSED_ROOM {
+            self.refused_room_reglist += 1;
+            return;
+        }
+        if answer == gif::REFUSED_DESCRIPTOR {
+            self.reglist[0xB] += 1;
+            if halves.0 == 0xB {
+                self.refused_b_first += 1;
+            } else {
+                self.refused_b_second += 1;
+            }
+            return;
+        }
+        self.reglist[halves.0 as usize] += 1;
+        match halves.1 {
+            Some(second) => self.reglist[second as usize] += 1,
+            None => {
+                self.dropped_halves += 1;
+                // Read on, the dropped half would go by descriptor 0.
+                self.dropped_b += (tag.descriptors & 15 == 0xB) as u64;
+            }
+        }
+    }
+
+    fn note_writes(&mut self, used: u64, now: &Standing, changed: usize) {
+        let written = now.used - used;
+        let full = now.used * 2 == now.log.len() as u64;
+        self.exactly_full += (full && written > 0) as u64;
+        self.taken_while_full += (full && written == 0) as u64;
+        self.unchanged += 2 * written - changed as u64;
+    }
+
+    /// Every count by name.
+    pub fn rows(&self) -> Vec<(String, u64)> {
+        let mut rows: Vec<(String, u64)> = Vec::new();
+        let mut row = |name: &str, count: u64| rows.push((name.to_string(), count));
+        row("cases", self.cases);
+        row("quadwords", self.quadwords);
+        for (flg, name) in ["PACKED", "REGLIST", "IMAGE (2)", "IMAGE (3)"]
+            .iter()
+            .enumerate()
+        {
+            row(&format!("tags with data, {name}"), self.tags[flg]);
+            row(&format!("tags with NLOOP 0, {name}"), self.empty_tags[flg]);
+        }
+        for (n, &count) in self.nreg.iter().enumerate() {
+            row(&format!("tags with data, NREG field {n}"), count);
+        }
+        row("PRE writes", self.pre_writes);
+        row(
+            "PRE without a write, PACKED with NLOOP 0",
+            self.pre_ignored_empty,
+        );
+        row("PRE without a write, REGLIST", self.pre_ignored_reglist);
+        row("PRE without a write, IMAGE", self.pre_ignored_image);
+        for (d, &count) in self.packed.iter().enumerate() {
+            row(&format!("PACKED data, descriptor {d:X}"), count);
+        }
+        row("PACKED 4 redirected to 0C", self.redirected[0]);
+        row("PACKED 5 redirected to 0D", self.redirected[1]);
+        for (d, &count) in self.reglist.iter().enumerate() {
+            row(&format!("REGLIST data, descriptor {d:X}"), count);
+        }
+        row("REGLIST odd halves dropped", self.dropped_halves);
+        row(
+            "REGLIST odd halves dropped, descriptor B next",
+            self.dropped_b,
+        );
+        row("IMAGE quadwords", self.image);
+        row("tags completed, PACKED", self.completed[0]);
+        row("tags completed, REGLIST", self.completed[1]);
+        row("tags completed, IMAGE", self.completed[2]);
+        row("refused 4, log length odd", self.refused_log_odd);
+        row("refused 4, log too long", self.refused_log_long);
+        row("refused 4, too many entries used", self.refused_log_used);
+        row(
+            "refused 4, twice the entries used wraps",
+            self.refused_log_used_doubled_wraps,
+        );
+        row(
+            "refused 4, path out of range too",
+            self.refused_log_before_range,
+        );
+        row("refused 5, block in no path", self.refused_no_path);
+        row("refused 5, NLOOP", self.refused_nloop);
+        row("refused 5, NREG", self.refused_nreg);
+        row("refused 5, quadwords due", self.refused_due);
+        row("refused 30, PACKED", self.refused_b_packed);
+        row("refused 30, REGLIST first half", self.refused_b_first);
+        row("refused 30, REGLIST second half", self.refused_b_second);
+        row("refused 30 with the log full", self.refused_b_and_full);
+        row("refused 31, at a tag", self.refused_room_tag);
+        row("refused 31, PACKED", self.refused_room_packed);
+        row("refused 31, REGLIST", self.refused_room_reglist);
+        row("refused 31, IMAGE", self.refused_room_image);
+        row("refused 31 with one entry free", self.refused_room_one_free);
+        row("log exactly full after a write", self.exactly_full);
+        row("taken without a write, log full", self.taken_while_full);
+        row("numbers written with the value held", self.unchanged);
+        rows
+    }
+}

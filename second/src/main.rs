@@ -1,0 +1,94 @@
+//! The second program: made from the documents alone, to be compared with the proved one.
+
+mod bench;
+mod compare;
+mod gif;
+mod gif_cases;
+mod gif_compare;
+mod gif_counts;
+mod gif_generate;
+mod gif_time;
+mod random;
+mod words;
+
+use std::io::{Read, Write};
+use std::process::ExitCode;
+
+const USAGE: &str = "\
+usage:
+  second gif [--counts] < CASES > RESULTS
+  second generate-gif SEED QUADWORDS > CASES
+  second compare-gif PROGRAM SEED[,SEED..] QUADWORDS
+  second bench-gif PROGRAM
+  second time-gif < INPUT > RESULT
+PROGRAM is the path of an executable; one argument may hold a path and its arguments.
+";
+
+fn main() -> ExitCode {
+    let arguments: Vec<String> = std::env::args().skip(1).collect();
+    let arguments: Vec<&str> = arguments.iter().map(String::as_str).collect();
+    match command(&arguments) {
+        None => {
+            eprint!("{USAGE}");
+            ExitCode::from(2)
+        }
+        Some(Ok(())) => ExitCode::SUCCESS,
+        Some(Err(told)) => {
+            eprintln!("{told}");
+            ExitCode::FAILURE
+        }
+    }
+}
+
+/// Performs a command; none where the arguments name none.
+fn command(arguments: &[&str]) -> Option<Result<(), String>> {
+    let done = match arguments {
+        ["gif"] => gif_results(false),
+        ["gif", "--counts"] => gif_results(true),
+        ["generate-gif", seed, quadwords] => write(&gif_generate::generate(
+            seed.parse().ok()?,
+            quadwords.parse().ok()?,
+        )),
+        ["compare-gif", program, seeds, quadwords] => {
+            let program = compare::Program::parse(program);
+            gif_compare::compare(&program, &compare::seeds(seeds)?, quadwords.parse().ok()?)
+        }
+        ["bench-gif", program] => bench::bench_gif(&compare::Program::parse(program)),
+        ["time-gif"] => time_gif(),
+        _ => return None,
+    };
+    Some(done)
+}
+
+fn gif_results(with_counts: bool) -> Result<(), String> {
+    let mut counts = gif_counts::Counts::default();
+    let results = gif_cases::results(&read()?, &mut counts);
+    write(&results.bytes)?;
+    if with_counts {
+        eprint!("{}", compare::table(&counts.rows()));
+    }
+    Ok(())
+}
+
+fn time_gif() -> Result<(), String> {
+    match gif_time::result(&read()?) {
+        Some(result) => write(&result),
+        None => Ok(()),
+    }
+}
+
+fn read() -> Result<Vec<u8>, String> {
+    let mut bytes = Vec::new();
+    std::io::stdin()
+        .lock()
+        .read_to_end(&mut bytes)
+        .map_err(|e| format!("standard input: {e}"))?;
+    Ok(bytes)
+}
+
+fn write(bytes: &[u8]) -> Result<(), String> {
+    let mut out = std::io::stdout().lock();
+    out.write_all(bytes)
+        .and_then(|()| out.flush())
+        .map_err(|e| format!("standard output: {e}"))
+}
