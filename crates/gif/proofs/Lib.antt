@@ -6,3 +6,4 @@ pub mod TagLaws
 pub mod DataLaws
 pub mod StepLaws
 pub mod SheetLaws
+pub mod BlockLaws

@@ -7,3 +7,4 @@ pub mod Reglist
 pub mod Range
 pub mod Step
 pub mod Run
+pub mod Block

@@ -1,4 +1,5 @@
 // The GIF: tags and data, one quadword at a time, on one path. What each function means is said by the definitions of specs/.
+mod block;
 mod log;
 mod packed;
 mod range;
@@ -6,6 +7,8 @@ mod reglist;
 mod step;
 mod tag;
 
+pub use block::path_block;
+pub use block::path_in_block;
 pub use range::path_in_range;
 pub use step::take_quadword;
 
@@ -46,6 +49,12 @@ pub enum Writes {
     Nothing,
     One(Entry),
     Two(Entry, Entry),
+}
+
+// What a path block holds.
+pub enum ReadPath {
+    Whole(Path),
+    Unknown,
 }
 
 pub enum GifAnswer {

@@ -2,8 +2,7 @@
 ghost use mathlib.Core.Path.{_≡_};
 ghost use Prim.Native.Nat.{_+_, _*_, _/_, _%_, _<_, _≤_, _^_};
 ghost use lib.ListN.{length};
-ghost use lib.Dec.{leb};
-ghost use Rattle.wire.specs.Words.{wordAt, withWord, nextPlace, emitted};
+ghost use Rattle.wire.specs.Words.{wholeAt, storedAt, wordAt, withWord, nextPlace, emitted};
 
 fn wide(x: u8) -> u32
     ensures { λ r. ⌜ (r ≡ x) × (r < 256) ⌝ }
@@ -11,40 +10,50 @@ fn wide(x: u8) -> u32
     x as u32
 }
 
-// Whether a word at this place lies inside.
-fn inside(size: usize, at: usize) -> bool
-    ensures { λ r. ⌜ r ≡ leb (at + 4) size ⌝ }
+fn read_word(bytes: &[u8], at: usize) -> u32
+    requires { ⌜ at + 4 ≤ length (now bytes) ⌝ }
+    ensures { λ r. ⌜ r ≡ wholeAt (now (bytes .entry)) at ⌝ }
 {
-    if size < 4 {
-        return false;
-    }
-    at <= size - 4
+    wide(bytes[at])
+        + wide(bytes[at + 1]) * 256
+        + wide(bytes[at + 2]) * 65536
+        + wide(bytes[at + 3]) * 16777216
+}
+
+fn store_word(bytes: &mut [u8], at: usize, x: u32)
+    requires { ⌜ at + 4 ≤ length (now bytes) ⌝ }
+    ensures { λ _. ⌜ now (bytes .exit) ≡ storedAt (now (bytes .entry)) at x ⌝ }
+{
+    bytes[at] = (x % 256) as u8;
+    bytes[at + 1] = (x / 256 % 256) as u8;
+    bytes[at + 2] = (x / 65536 % 256) as u8;
+    bytes[at + 3] = (x / 16777216) as u8;
 }
 
 // The word at a place, 0 where it is not whole.
 pub fn word_at(bytes: &[u8], at: usize) -> u32
     ensures { λ r. ⌜ r ≡ wordAt (now (bytes .entry)) at ⌝ }
 {
-    if inside(bytes.len(), at) {
-        wide(bytes[at])
-            + wide(bytes[at + 1]) * 256
-            + wide(bytes[at + 2]) * 65536
-            + wide(bytes[at + 3]) * 16777216
-    } else {
-        0
+    if bytes.len() < 4 {
+        return 0;
     }
+    if bytes.len() - 4 < at {
+        return 0;
+    }
+    read_word(bytes, at)
 }
 
 // Stores a word, or nothing where it does not fit.
 pub fn put_word(bytes: &mut [u8], at: usize, x: u32)
     ensures { λ _. ⌜ now (bytes .exit) ≡ withWord (now (bytes .entry)) at x ⌝ }
 {
-    if inside(bytes.len(), at) {
-        bytes[at] = (x % 256) as u8;
-        bytes[at + 1] = (x / 256 % 256) as u8;
-        bytes[at + 2] = (x / 65536 % 256) as u8;
-        bytes[at + 3] = (x / 16777216) as u8;
+    if bytes.len() < 4 {
+        return;
     }
+    if bytes.len() - 4 < at {
+        return;
+    }
+    store_word(bytes, at, x);
 }
 
 // The 64-bit number of a low and a high word.
@@ -76,15 +85,15 @@ pub fn flush(out: &[u8], at: usize) -> usize
     0
 }
 
-// Puts a word into the buffer, writing the buffer out first where it is full, and answers the next place.
-pub fn emit(out: &mut [u8], at: usize, x: u32) -> usize
-    ensures { λ r. ⌜ (r ≡ nextPlace (length (now (out .entry))) at) × (now (out .exit) ≡ emitted (now (out .entry)) at x) ⌝ }
+// Puts a word into a buffer of 65,536 bytes, writing the buffer out first where it is full, and answers the next place.
+pub fn emit(out: &mut [u8; 65536], at: usize, x: u32) -> usize
+    ensures { λ r. ⌜ (r ≡ nextPlace at) × (now (out .exit) ≡ emitted (now (out .entry)) at x) ⌝ }
 {
-    if inside(out.len(), at) {
-        put_word(out, at, x);
-        return at + 4;
+    if 65532 < at {
+        flush(out, at);
+        put_word(out, 0, x);
+        return 4;
     }
-    flush(out, at);
-    put_word(out, 0, x);
-    4
+    put_word(out, at, x);
+    at + 4
 }

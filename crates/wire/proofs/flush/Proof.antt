@@ -1,3 +1,6 @@
+use lib.Seq.{length-take-le}
+use mathlib.Core.Path.{sym}
+use native.Mathlib.Omega.{arith}
 use borrow.Author.Needs.{needs}
 use Rattle.wire.proofs.flush.Statement.{statement}
 use Rattle.wire.proofs.flush.Tie as tie
@@ -5,19 +8,19 @@ use Rattle.wire.proofs.flush.Reads as reads
 use Rattle.wire.proofs.flush.Lts as lts
 use Rattle.io.proofs.write_all.Reads as write-all-reads
 
--- src/lib.rt:74:26
+-- src/lib.rt:83:26
 slice-aggregate-write-all : tie.Need-slice-aggregate-write-all
-slice-aggregate-write-all c = ?
+slice-aggregate-write-all c = sym (length-take-le (c .before .before .before .args .at) (c .before .before .before .args .out .now) (c .before .if1 .taken))
 
--- src/lib.rt:74:9
+-- src/lib.rt:83:9
 write-all-requires : tie.Need-write-all-requires
 write-all-requires c κs = search needs
 
--- src/lib.rt:70:1
+-- src/lib.rt:79:1
 returns : tie.Need-returns
 returns c = search needs
 
--- src/lib.rt:70:1
+-- src/lib.rt:79:1
 returns-2 : tie.Need-returns-2
 returns-2 c = search needs
 
