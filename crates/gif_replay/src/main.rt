@@ -6,6 +6,8 @@ use gif::Place;
 use gif::ReadPath;
 use gif::TagFormat;
 use wire::emit;
+use wire::emit_all;
+use wire::emit_long;
 use wire::joined;
 use wire::word_at;
 
@@ -52,23 +54,6 @@ fn put(log: &mut [u64], i: usize, x: u64) {
     if i < log.len() {
         log[i] = x;
     }
-}
-
-fn emit_block(out: &mut [u8; 65536], at: usize, b: [u32; 9]) -> usize {
-    let n = emit(out, at, b[0]);
-    let n = emit(out, n, b[1]);
-    let n = emit(out, n, b[2]);
-    let n = emit(out, n, b[3]);
-    let n = emit(out, n, b[4]);
-    let n = emit(out, n, b[5]);
-    let n = emit(out, n, b[6]);
-    let n = emit(out, n, b[7]);
-    emit(out, n, b[8])
-}
-
-fn emit_long(out: &mut [u8; 65536], at: usize, x: u64) -> usize {
-    let n = emit(out, at, wire::low_word(x));
-    emit(out, n, wire::high_word(x))
 }
 
 fn changed(log: &[u64], before: &[u64], i: usize) -> bool {
@@ -158,7 +143,8 @@ fn give(
     let after = r.path;
     let first = emit(out, s.at, number_of(answer));
     let n = emit_long(out, first, r.used);
-    let m = emit_block(out, n, shown(after, s.known, given));
+    let block = shown(after, s.known, given);
+    let m = emit_all(out, n, &block);
     let k = emit(out, m, changes(log, before));
     let at = emit_changes(out, k, log, before);
     Running {
@@ -280,7 +266,7 @@ fn run_whole(
 }
 
 // Writes out the results and the line about a damaged case.
-fn tell_damaged(out: &[u8], at: usize, number: u64) {
+fn tell_damaged(out: &[u8; 65536], at: usize, number: u64) {
     wire::flush(out, at);
     io::write_all(1, b"damaged case ");
     io::print_decimal(1, number);

@@ -1,7 +1,7 @@
 -- Little-endian words of a byte buffer.
 use Prim.Native.Nat.{ℕ, _+_, _*_, _/_, _%_}
 use mathlib.Core.Bool.{Bool, true, false}
-use mathlib.Core.List.{List}
+use mathlib.Core.List.{List, [], _∷_}
 use lib.ListN.{length, getD, set}
 use lib.Dec.{leb, ltb}
 
@@ -32,3 +32,16 @@ nextPlace a = if (ltb 65532 a) 4 (a + 4)
 
 unfoldable pub emitted : List ℕ → ℕ → ℕ → List ℕ
 emitted b a x = if (ltb 65532 a) (withWord b 0 x) (withWord b a x)
+
+-- a buffer and the place in it
+pub record Sent : Type 0 where
+  pub out : List ℕ
+  pub at : ℕ
+
+abbrev pub sent : List ℕ → ℕ → Sent
+sent out at = record { out = out; at = at }
+
+-- words put into the buffer, one after another
+abbrev pub sentAll : List ℕ → ℕ → List ℕ → Sent
+sentAll out at [] = sent out at
+sentAll out at (x ∷ xs) = sentAll (emitted out at x) (nextPlace at) xs

@@ -2,7 +2,8 @@
 ghost use mathlib.Core.Path.{_≡_};
 ghost use Prim.Native.Nat.{_+_, _*_, _/_, _%_, _<_, _≤_, _^_};
 ghost use lib.ListN.{length};
-ghost use Rattle.wire.specs.Words.{wholeAt, storedAt, wordAt, withWord, nextPlace, emitted};
+ghost use mathlib.Core.List.{[], _∷_};
+ghost use Rattle.wire.specs.Words.{wholeAt, storedAt, wordAt, withWord, nextPlace, emitted, sent, sentAll};
 
 fn wide(x: u8) -> u32
     ensures { λ r. ⌜ (r ≡ x) × (r < 256) ⌝ }
@@ -75,8 +76,7 @@ pub fn high_word(x: u64) -> u32
     (x / 4294967296) as u32
 }
 
-// Writes out the first `at` bytes, and answers the place to go on at.
-pub fn flush(out: &[u8], at: usize) -> usize
+fn write_out(out: &[u8], at: usize) -> usize
     ensures { λ r. ⌜ r ≡ 0 ⌝ }
 {
     if at <= out.len() {
@@ -85,9 +85,16 @@ pub fn flush(out: &[u8], at: usize) -> usize
     0
 }
 
+// Writes out the first `at` bytes, and answers the place to go on at.
+pub fn flush(out: &[u8; 65536], at: usize) -> usize
+    ensures { λ r. ⌜ r ≡ 0 ⌝ }
+{
+    write_out(out, at)
+}
+
 // Puts a word into a buffer of 65,536 bytes, writing the buffer out first where it is full, and answers the next place.
 pub fn emit(out: &mut [u8; 65536], at: usize, x: u32) -> usize
-    ensures { λ r. ⌜ (r ≡ nextPlace at) × (now (out .exit) ≡ emitted (now (out .entry)) at x) ⌝ }
+    ensures { λ r. ⌜ sent (now (out .exit)) r ≡ sentAll (now (out .entry)) at (x ∷ []) ⌝ }
 {
     if 65532 < at {
         flush(out, at);
@@ -96,4 +103,25 @@ pub fn emit(out: &mut [u8; 65536], at: usize, x: u32) -> usize
     }
     put_word(out, at, x);
     at + 4
+}
+
+// Puts words into the buffer, one after another.
+pub fn emit_all(out: &mut [u8; 65536], at: usize, words: &[u32]) -> usize
+    ensures { λ r. ⌜ sent (now (out .exit)) r ≡ sentAll (now (out .entry)) at (now (words .entry)) ⌝ }
+{
+    let mut n = at;
+    let mut i = 0;
+    while i < words.len() {
+        n = emit(out, n, words[i]);
+        i += 1;
+    }
+    n
+}
+
+// Puts the two words of a 64-bit number into the buffer.
+pub fn emit_long(out: &mut [u8; 65536], at: usize, x: u64) -> usize
+    ensures { λ r. ⌜ sent (now (out .exit)) r ≡ sentAll (now (out .entry)) at (x % 2 ^ 32 ∷ x / 2 ^ 32 ∷ []) ⌝ }
+{
+    let n = emit(out, at, low_word(x));
+    emit(out, n, high_word(x))
 }

@@ -1,11 +1,10 @@
 use lib.Seq.{length-take-le}
 use mathlib.Core.Path.{sym}
-use native.Mathlib.Omega.{arith}
 use borrow.Author.Needs.{needs}
-use Rattle.wire.proofs.flush.Statement.{statement}
-use Rattle.wire.proofs.flush.Tie as tie
-use Rattle.wire.proofs.flush.Reads as reads
-use Rattle.wire.proofs.flush.Lts as lts
+use Rattle.wire.proofs.write_out.Statement.{statement}
+use Rattle.wire.proofs.write_out.Tie as tie
+use Rattle.wire.proofs.write_out.Reads as reads
+use Rattle.wire.proofs.write_out.Lts as lts
 use Rattle.io.proofs.write_all.Reads as write-all-reads
 
 -- src/lib.rt:83:26
@@ -24,5 +23,6 @@ returns c = search needs
 returns-2 : tie.Need-returns-2
 returns-2 c = search needs
 
-pub flush-spec : {M : Type 1} → statement M
-flush-spec = tie.close (tie.spec slice-aggregate-write-all write-all-requires returns returns-2)
+pub write-out-spec : {M : Type 1} → statement M
+write-out-spec =
+    tie.close (tie.spec slice-aggregate-write-all write-all-requires returns returns-2)
