@@ -1,0 +1,29 @@
+# Nothing but calls of rt, cargo and the programs that they build. What is built here goes to build/ and target/.
+.POSIX:
+.PHONY: test check second bench clean
+
+SECOND = build/second/release/second
+
+# The tests. The last line is rt ci's own, printed again only where everything passed.
+test:
+	rt fmt --check
+	mkdir -p build
+	{ rt ci 2>&1; echo $$? > build/ci.status; } | tee build/ci.log; test "$$(cat build/ci.status)" = 0
+	$(MAKE) second
+	$(SECOND) compare-gif target/bin/gif_replay 1,2,3 20000
+	@tail -n 1 build/ci.log
+
+# The proofs and the programs alone.
+check:
+	rt check
+
+second:
+	cargo build --quiet --release --offline --manifest-path second/Cargo.toml --target-dir build/second
+
+# Times beside the second program, in one run.
+bench: second
+	rt check gif_bench
+	$(SECOND) bench-gif target/bin/gif_bench
+
+clean:
+	rm -rf build target
