@@ -216,7 +216,7 @@ fn long_case(random: &mut Random) -> Case {
 }
 
 /// The length of the log and the entries used.
-fn random_log(random: &mut Random) -> (u32, u64) {
+pub fn random_log(random: &mut Random) -> (u32, u64) {
     match random.below(1000) {
         0..=399 => {
             let entries = random.within(0..=32);
@@ -276,7 +276,7 @@ fn random_q(random: &mut Random) -> u32 {
     random.pick(&[0, 0x3F80_0000, u32::MAX, any, any, any])
 }
 
-fn random_block(random: &mut Random) -> Block {
+pub fn random_block(random: &mut Random) -> Block {
     match random.below(100) {
         0..=29 => [random_q(random), 0, 0, 0, 0, 0, 0, 0, 0],
         30..=41 => {
@@ -303,7 +303,7 @@ fn held_block(q: u32, tag: &Tag, due: u32) -> Block {
 }
 
 /// A block inside the data of a tag.
-fn random_held_block(random: &mut Random) -> Block {
+pub fn random_held_block(random: &mut Random) -> Block {
     let with_b = random.percent(12);
     let mut tag = Tag::decode(random_tag(random, with_b));
     tag.nloop = tag.nloop.max(1);
@@ -322,7 +322,7 @@ fn random_held_block(random: &mut Random) -> Block {
     held_block(random_q(random), &tag, due as u32)
 }
 
-fn random_out_of_range_block(random: &mut Random) -> Block {
+pub fn random_out_of_range_block(random: &mut Random) -> Block {
     let mut block = random_held_block(random);
     let (nloop, nreg) = (block[3], block[5]);
     let units = nloop * nreg;
@@ -367,7 +367,7 @@ fn random_out_of_range_block(random: &mut Random) -> Block {
     block
 }
 
-fn random_no_path_block(random: &mut Random) -> Block {
+pub fn random_no_path_block(random: &mut Random) -> Block {
     let mut block = if random.percent(80) {
         random_held_block(random)
     } else {
@@ -409,7 +409,7 @@ fn random_descriptors(random: &mut Random, with_b: bool, nreg: u64) -> u64 {
     descriptors
 }
 
-fn random_tag(random: &mut Random, with_b: bool) -> u128 {
+pub fn random_tag(random: &mut Random, with_b: bool) -> u128 {
     if random.percent(1) {
         return random.quadword();
     }

@@ -9,6 +9,12 @@ mod gif_counts;
 mod gif_generate;
 mod gif_time;
 mod random;
+mod vif;
+mod vif_cases;
+mod vif_compare;
+mod vif_counts;
+mod vif_generate;
+mod vif_unpack;
 mod words;
 
 use std::io::{Read, Write};
@@ -21,6 +27,9 @@ usage:
   second compare-gif PROGRAM SEED[,SEED..] QUADWORDS
   second bench-gif PROGRAM
   second time-gif < INPUT > RESULT
+  second vif [--counts] < CASES > RESULTS
+  second generate-vif SEED WORDS > CASES
+  second compare-vif PROGRAM SEED[,SEED..] WORDS
 PROGRAM is the path of an executable; one argument may hold a path and its arguments.
 ";
 
@@ -55,6 +64,16 @@ fn command(arguments: &[&str]) -> Option<Result<(), String>> {
         }
         ["bench-gif", program] => bench::bench_gif(&compare::Program::parse(program)),
         ["time-gif"] => time_gif(),
+        ["vif"] => vif_results(false),
+        ["vif", "--counts"] => vif_results(true),
+        ["generate-vif", seed, words] => write(&vif_generate::generate(
+            seed.parse().ok()?,
+            words.parse().ok()?,
+        )),
+        ["compare-vif", program, seeds, words] => {
+            let program = compare::Program::parse(program);
+            vif_compare::compare(&program, &compare::seeds(seeds)?, words.parse().ok()?)
+        }
         _ => return None,
     };
     Some(done)
@@ -63,6 +82,16 @@ fn command(arguments: &[&str]) -> Option<Result<(), String>> {
 fn gif_results(with_counts: bool) -> Result<(), String> {
     let mut counts = gif_counts::Counts::default();
     let results = gif_cases::results(&read()?, &mut counts);
+    write(&results.bytes)?;
+    if with_counts {
+        eprint!("{}", compare::table(&counts.rows()));
+    }
+    Ok(())
+}
+
+fn vif_results(with_counts: bool) -> Result<(), String> {
+    let mut counts = vif_counts::Counts::default();
+    let results = vif_cases::results(&read()?, &mut counts);
     write(&results.bytes)?;
     if with_counts {
         eprint!("{}", compare::table(&counts.rows()));

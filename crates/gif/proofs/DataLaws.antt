@@ -12,12 +12,12 @@ use Rattle.gif.specs.declared.Place.{Place}
 use Rattle.gif.specs.declared.Path.{Path}
 use Rattle.gif.specs.declared.Entry.{Entry}
 use Rattle.gif.specs.declared.GifResult.{GifResult}
-use Rattle.gif.specs.Fields.{if, bits, quadword}
+use Rattle.fields.specs.Fields.{if, bits, quadword}
 use Rattle.gif.specs.Tag.{pathOf, placeAfter, takenOf, descriptorAt}
 use Rattle.gif.specs.Packed.{packedWrites, packedQ}
 use Rattle.gif.specs.Reglist.{reglistWrite, reglistWrites, reglistRefused}
 use Rattle.gif.specs.Step.{Left, left, refused, refusedResult, commit, packedWith, packedStep, reglistStep, dataStep, stepAt}
-use Rattle.gif.proofs.FieldLaws.{whole-low, whole-high}
+use Rattle.fields.proofs.FieldLaws.{whole-low, whole-high}
 
 module _ (p : Path) (t : HeldTag) (quad used : ℕ) (log : List ℕ) {k d : ℕ} (ek : k ≡ takenOf t) (ed : d ≡ descriptorAt t k) where
   pub packed-refused : d ≡ 11 → {r : GifResult} → r ≡ refusedResult 30 p used → left r log ≡ packedStep p t quad used log

@@ -1,5 +1,4 @@
 -- Laws of the definitions, by subject; the crates above cite them.
-pub mod FieldLaws
 pub mod LogLaws
 pub mod RangeLaws
 pub mod TagLaws

@@ -15,7 +15,7 @@ use Rattle.gif.specs.declared.Path.{Path}
 use Rattle.gif.specs.declared.GifAnswer.the-variants.{Taken}
 use Rattle.gif.specs.declared.Writes.{Writes}
 use Rattle.gif.specs.declared.Writes.the-variants.{Nothing, One, Two}
-use Rattle.gif.specs.Fields.{if}
+use Rattle.fields.specs.Fields.{if}
 use Rattle.gif.specs.Log.{numbers, listed, logged, lacksRoom}
 use Rattle.gif.specs.Step.{Left, refused, commit}
 

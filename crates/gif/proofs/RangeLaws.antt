@@ -4,6 +4,7 @@ use mathlib.Core.Bool.{Bool, true, false, _&&_, _||_}
 use mathlib.Core.List.{List}
 use Prim.Native.Nat.{ℕ, _+_, _*_, _%_, _<_, _≤_}
 use native.Mathlib.Omega.{arith}
+use Rattle.fields.proofs.ChoiceLaws.{and-left, and-right, or-left, or-right}
 use borrow.Author.Tests.{ltb-false, leb-true, le-leb}
 use lib.ListN.{length}
 use lib.Dec.{eqb, ltb, leb}
@@ -13,22 +14,6 @@ use Rattle.gif.specs.declared.Place.the-variants.{Idle, Data}
 use Rattle.gif.specs.Log.{logRefused, LogFits}
 use Rattle.gif.specs.Tag.{quadwordsOf}
 use Rattle.gif.specs.Range.{within, tagInRange, placeInRange, TagFits, PlaceFits}
-
-pub and-left : (a b : Bool) → (a && b) ≡ true → a ≡ true
-and-left true b h = refl
-and-left false b h = h
-
-pub and-right : (a b : Bool) → (a && b) ≡ true → b ≡ true
-and-right true b h = h
-and-right false b h = absurd (let z : _≡_ {A = ℕ} 0 1 = cc in omega arith)
-
-pub or-left : (a b : Bool) → (a || b) ≡ false → a ≡ false
-or-left true b h = h
-or-left false b h = refl
-
-pub or-right : (a b : Bool) → (a || b) ≡ false → b ≡ false
-or-right true b h = absurd (let z : _≡_ {A = ℕ} 0 1 = cc in omega arith)
-or-right false b h = h
 
 pub within-fits : (a b n : ℕ) → within a b n ≡ true → (a ≤ n) × (n ≤ b)
 within-fits a b n h = (leb-true _ _ (and-left _ _ h), leb-true _ _ (and-right (leb a n) _ h))

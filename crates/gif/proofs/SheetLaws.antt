@@ -15,13 +15,13 @@ use Rattle.gif.specs.declared.Place.{Place}
 use Rattle.gif.specs.declared.Place.the-variants.{Idle, Data}
 use Rattle.gif.specs.declared.Path.{Path}
 use Rattle.gif.specs.declared.GifAnswer.the-variants.{Taken, Refused}
-use Rattle.gif.specs.Fields.{if, bits, quadword}
+use Rattle.fields.specs.Fields.{if, bits, quadword}
 use Rattle.gif.specs.Log.{logged, lacksRoom}
 use Rattle.gif.specs.Tag.{pathOf, formatOf, nregOf, quadwordsOf, tagOf, tagQ, tagWrites, takenOf, descriptorAt, placeAfter, placeAtTag, withDue}
 use Rattle.gif.specs.Packed.{packedWrites, packedQ}
 use Rattle.gif.specs.Step.{Left, commit, tagStep, packedWith, packedStep, stepAt, gifStep}
 use Rattle.gif.specs.Run.{gifRun, sheetTag, addressData, addressDatas}
-use Rattle.gif.proofs.FieldLaws.{whole-high}
+use Rattle.fields.proofs.FieldLaws.{whole-high}
 use Rattle.gif.proofs.TagLaws.{flg-at, nreg-at, nloop-at, pre-at, eop-at}
 use Rattle.gif.proofs.LogLaws.{logged-then, logged-length}
 

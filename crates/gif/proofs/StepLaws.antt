@@ -18,27 +18,16 @@ use Rattle.gif.specs.declared.Place.the-variants.{Idle, Data}
 use Rattle.gif.specs.declared.Path.{Path}
 use Rattle.gif.specs.declared.GifAnswer.{GifAnswer}
 use Rattle.gif.specs.declared.GifAnswer.the-variants.{Taken, Refused}
-use Rattle.gif.specs.Fields.{if, bits, quadword}
+use Rattle.fields.specs.Fields.{if, bits, quadword}
 use Rattle.gif.specs.Log.{numbers, logged, lacksRoom, logRefused}
 use Rattle.gif.specs.Tag.{pathOf, formatOf, nregOf, quadwordsOf, tagOf, placeAfter, placeAtTag, withDue, nloopOf}
 use Rattle.gif.specs.Range.{within, tagInRange, placeInRange, pathInRange, TagFits}
 use Rattle.gif.specs.Step.{Left, refused, commit, tagStep, packedWith, reglistStep, imageStep, dataStep, stepAt, gifStep, takeOf}
+use Rattle.fields.proofs.ChoiceLaws.{if-ind, if-ind-by}
 use Rattle.gif.proofs.LogLaws.{logged-length}
-use Rattle.gif.proofs.FieldLaws.{bits-below}
+use Rattle.fields.proofs.FieldLaws.{bits-below}
 use Rattle.gif.proofs.TagLaws.{nreg-some}
 use Rattle.gif.proofs.RangeLaws.{tag-fits, fits-tag}
-
--- what holds of both arms holds of the choice
-pub if-ind : {A : Type 0} (P : A → Type 0) (b : Bool) {x y : A} → P x → P y → P (if b x y)
-unfolding if
-if-ind P true p q = p
-if-ind P false p q = q
-
--- the same, where each arm may use the test's answer
-pub if-ind-by : {A : Type 0} (P : A → Type 0) (b : Bool) {x y : A} → (b ≡ true → P x) → (b ≡ false → P y) → P (if b x y)
-unfolding if
-if-ind-by P true p q = p refl
-if-ind-by P false p q = q refl
 
 -- What a step leaves of the log: some entries more, none where it is refused.
 pub record Wrote (p : Path) (used : ℕ) (log : List ℕ) (o : Left) : Type 0 where

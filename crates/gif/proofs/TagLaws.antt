@@ -9,10 +9,10 @@ use lib.Dec.{eqb}
 use Rattle.gif.specs.declared.TagFormat.{TagFormat}
 use Rattle.gif.specs.declared.TagFormat.the-variants.{Packed, Reglist, Image}
 use Rattle.gif.specs.declared.HeldTag.{HeldTag}
-use Rattle.gif.specs.Fields.{if, bits, quadword}
+use Rattle.fields.specs.Fields.{if, bits, quadword}
 use Rattle.gif.specs.Tag.{formatOf, nregOf, quadwordsOf, tagOf, takenOf, isPacked}
 use Rattle.gif.specs.Range.{TagFits}
-use Rattle.gif.proofs.FieldLaws.{bits-low, bits-first, whole-high}
+use Rattle.fields.proofs.FieldLaws.{bits-low, bits-first, whole-high}
 
 pub product-most : {n r : ℕ} → n ≤ 32767 → r ≤ 16 → n * r ≤ 524272
 product-most p q = mul-le-mul p q

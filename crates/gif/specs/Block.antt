@@ -12,7 +12,7 @@ use Rattle.gif.specs.declared.Place.the-variants.{Idle, Data}
 use Rattle.gif.specs.declared.Path.{Path}
 use Rattle.gif.specs.declared.ReadPath.{ReadPath}
 use Rattle.gif.specs.declared.ReadPath.the-variants.{Whole, Unknown}
-use Rattle.gif.specs.Fields.{if}
+use Rattle.fields.specs.Fields.{if}
 use Rattle.gif.specs.Tag.{formatOf, pathOf}
 
 abbrev pub bitOf : Bool → ℕ

@@ -1,5 +1,4 @@
 -- The GIF, as document 01's chapter "GIF tags" has it, read top to bottom.
-pub mod Fields
 pub mod Log
 pub mod Tag
 pub mod Packed

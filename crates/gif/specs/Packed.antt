@@ -3,7 +3,7 @@ use Prim.Native.Nat.{ℕ, _+_, _*_, _^_}
 use mathlib.Core.List.{List, [], _∷_}
 use lib.Dec.{eqb}
 use Rattle.gif.specs.declared.Entry.{Entry}
-use Rattle.gif.specs.Fields.{if, bits}
+use Rattle.fields.specs.Fields.{if, bits}
 use Rattle.gif.specs.Log.{entry}
 
 -- "1 RGBAQ from bits 0-7, 32-39, 64-71, 96-103, Q on top"

@@ -5,7 +5,7 @@ use mathlib.Core.List.{List, [], _∷_, _++_}
 use lib.Dec.{eqb, ltb}
 use Rattle.gif.specs.declared.Entry.{Entry}
 use Rattle.gif.specs.declared.HeldTag.{HeldTag}
-use Rattle.gif.specs.Fields.{if, bits}
+use Rattle.fields.specs.Fields.{if, bits}
 use Rattle.gif.specs.Log.{entry}
 use Rattle.gif.specs.Tag.{takenOf, descriptorAt}
 

@@ -5,7 +5,7 @@ use Rattle.gif.specs.declared.Entry.{Entry}
 use Rattle.gif.specs.declared.Path.{Path}
 use Rattle.gif.specs.declared.GifAnswer.{GifAnswer}
 use Rattle.gif.specs.declared.GifAnswer.the-variants.{Taken, Refused}
-use Rattle.gif.specs.Fields.{bits, quadword}
+use Rattle.fields.specs.Fields.{bits, quadword}
 use Rattle.gif.specs.Log.{entry}
 use Rattle.gif.specs.Step.{Left, gifStep}
 

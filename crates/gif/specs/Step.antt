@@ -14,7 +14,7 @@ use Rattle.gif.specs.declared.Path.{Path}
 use Rattle.gif.specs.declared.GifAnswer.{GifAnswer}
 use Rattle.gif.specs.declared.GifAnswer.the-variants.{Taken, Refused}
 use Rattle.gif.specs.declared.GifResult.{GifResult}
-use Rattle.gif.specs.Fields.{if, bits}
+use Rattle.fields.specs.Fields.{if, bits}
 use Rattle.gif.specs.Log.{entry, logged, lacksRoom, logRefused}
 use Rattle.gif.specs.Tag.{pathOf, placeAfter, placeAtTag, tagQ, tagWrites, takenOf, descriptorAt}
 use Rattle.gif.specs.Packed.{packedWrites, packedQ}

@@ -10,7 +10,7 @@ use Rattle.gif.specs.declared.HeldTag.{HeldTag}
 use Rattle.gif.specs.declared.Place.{Place}
 use Rattle.gif.specs.declared.Place.the-variants.{Idle, Data}
 use Rattle.gif.specs.declared.Path.{Path}
-use Rattle.gif.specs.Fields.{if, bits}
+use Rattle.fields.specs.Fields.{if, bits}
 use Rattle.gif.specs.Log.{entry}
 
 abbrev pub nloopOf : ℕ → ℕ

@@ -45,7 +45,13 @@ fn store(log: &mut [u64], used: u64, writes: Writes)
 }
 
 // The step's writes and its path, all or none.
-pub fn finish(path: Path, after: Path, writes: Writes, log: &mut [u64], used: u64) -> GifResult
+pub(crate) fn finish(
+    path: Path,
+    after: Path,
+    writes: Writes,
+    log: &mut [u64],
+    used: u64,
+) -> GifResult
     requires { ⌜ LogFits (now log) used ⌝ }
     ensures { λ r. ⌜ left r (now (log .exit)) ≡ commit path after (listed writes) used (now (log .entry)) ⌝ }
 {
@@ -66,7 +72,7 @@ pub fn finish(path: Path, after: Path, writes: Writes, log: &mut [u64], used: u6
 }
 
 // Whether refusal 4 names this length.
-pub fn log_refused(log: &[u64], used: u64) -> bool
+pub(crate) fn log_refused(log: &[u64], used: u64) -> bool
     ensures { λ r. ⌜ r ≡ logRefused (now (log .entry)) used ⌝ }
 {
     let n = log.len() as u64;

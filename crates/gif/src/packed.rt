@@ -3,7 +3,7 @@ use super::Entry;
 use super::Writes;
 ghost use mathlib.Core.Path.{_≡_};
 ghost use Prim.Native.Nat.{_<_};
-ghost use Rattle.gif.specs.Fields.{quadword};
+ghost use Rattle.fields.specs.Fields.{quadword};
 ghost use Rattle.gif.specs.Log.{entry, listed};
 ghost use Rattle.gif.specs.Packed.{rgbaq, uv, xyzf, xyz, redirected, packedWrites, packedQ};
 
@@ -55,7 +55,7 @@ fn redirect(register: u64, low: u64, high: u64) -> u64
     }
 }
 
-pub fn packed_writes(descriptor: u64, q: u32, low: u64, high: u64) -> Writes
+pub(crate) fn packed_writes(descriptor: u64, q: u32, low: u64, high: u64) -> Writes
     ensures { λ r. ⌜ listed r ≡ packedWrites descriptor q (quadword low high) ⌝ }
 {
     match descriptor {
@@ -71,7 +71,7 @@ pub fn packed_writes(descriptor: u64, q: u32, low: u64, high: u64) -> Writes
     }
 }
 
-pub fn packed_q(descriptor: u64, q: u32, low: u64, high: u64) -> u32
+pub(crate) fn packed_q(descriptor: u64, q: u32, low: u64, high: u64) -> u32
     ensures { λ r. ⌜ r ≡ packedQ descriptor q (quadword low high) ⌝ }
 {
     if descriptor == 2 {

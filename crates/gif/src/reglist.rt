@@ -9,7 +9,7 @@ ghost use mathlib.Core.Bool.{_||_};
 ghost use Prim.Native.Nat.{_*_};
 ghost use lib.Dec.{eqb, ltb};
 ghost use Rattle.gif.specs.Log.{listed};
-ghost use Rattle.gif.specs.Fields.{if};
+ghost use Rattle.fields.specs.Fields.{if};
 ghost use Rattle.gif.specs.Range.{TagFits};
 ghost use Rattle.gif.specs.Tag.{descriptorAt};
 ghost use Rattle.gif.specs.Reglist.{reglistWrite};
@@ -24,7 +24,7 @@ fn silent(descriptor: u64) -> bool
 }
 
 // The writes of two halves by their descriptors.
-pub fn halves(first: u64, second: u64, low: u64, high: u64) -> Writes
+pub(crate) fn halves(first: u64, second: u64, low: u64, high: u64) -> Writes
     ensures { λ r. ⌜ listed r ≡ reglistWrite first low ++ reglistWrite second high ⌝ }
 {
     let upper = Entry {
@@ -51,7 +51,7 @@ pub fn halves(first: u64, second: u64, low: u64, high: u64) -> Writes
 }
 
 // The descriptor of a quadword's high half; a dropped half has that of no write.
-pub fn second_descriptor(tag: HeldTag, item: u32) -> u64
+pub(crate) fn second_descriptor(tag: HeldTag, item: u32) -> u64
     requires { ⌜ TagFits tag ⌝ }
     ensures { λ r. ⌜ r ≡ if (ltb item (tag .nloop * tag .nreg)) (descriptorAt tag item) 15 ⌝ }
 {

@@ -20,7 +20,7 @@ use super::tag::place_at_tag;
 use super::tag::tag_writes;
 use super::tag::taken;
 ghost use mathlib.Core.Path.{_≡_};
-ghost use Rattle.gif.specs.Fields.{quadword};
+ghost use Rattle.fields.specs.Fields.{quadword};
 ghost use Rattle.gif.specs.Log.{LogFits};
 ghost use Rattle.gif.specs.Range.{TagFits, PlaceFits};
 ghost use Rattle.gif.specs.Step.{left, refusedResult, tagStep, packedStep, reglistStep, imageStep, dataStep, gifStep, takeOf};

@@ -6,12 +6,12 @@ use super::TagFormat;
 use super::Writes;
 ghost use mathlib.Core.Path.{_≡_};
 ghost use Prim.Native.Nat.{_≤_};
-ghost use Rattle.gif.specs.Fields.{quadword};
+ghost use Rattle.fields.specs.Fields.{quadword};
 ghost use Rattle.gif.specs.Log.{listed};
 ghost use Rattle.gif.specs.Range.{TagFits};
 ghost use Rattle.gif.specs.Tag.{formatOf, nregOf, quadwordsOf, tagOf, takenOf, descriptorAt, placeAfter, placeAtTag, tagWrites};
 
-pub fn format_of(flg: u64) -> TagFormat
+pub(crate) fn format_of(flg: u64) -> TagFormat
     ensures { λ r. ⌜ r ≡ formatOf flg ⌝ }
 {
     match flg {
@@ -27,7 +27,7 @@ fn nreg_of(nreg: u32) -> u32
     if nreg == 0 { 16 } else { nreg }
 }
 
-pub fn quadwords(format: TagFormat, nloop: u32, nreg: u32) -> u32
+pub(crate) fn quadwords(format: TagFormat, nloop: u32, nreg: u32) -> u32
     requires { ⌜ (nloop ≤ 32767) × (nreg ≤ 16) ⌝ }
     ensures { λ r. ⌜ r ≡ quadwordsOf format nloop nreg ⌝ }
 {
@@ -56,7 +56,7 @@ fn tag_of(low: u64, high: u64) -> HeldTag
 }
 
 // How many of the tag's quadwords were taken.
-pub fn taken(tag: HeldTag) -> u32
+pub(crate) fn taken(tag: HeldTag) -> u32
     requires { ⌜ TagFits tag ⌝ }
     ensures { λ r. ⌜ r ≡ takenOf tag ⌝ }
 {
@@ -64,7 +64,7 @@ pub fn taken(tag: HeldTag) -> u32
     quadwords(format, tag.nloop, tag.nreg) - tag.due
 }
 
-pub fn descriptor_at(tag: HeldTag, item: u32) -> u64
+pub(crate) fn descriptor_at(tag: HeldTag, item: u32) -> u64
     requires { ⌜ TagFits tag ⌝ }
     ensures { λ r. ⌜ r ≡ descriptorAt tag item ⌝ }
 {
@@ -72,7 +72,7 @@ pub fn descriptor_at(tag: HeldTag, item: u32) -> u64
     (tag.descriptors >> nibble) % 16
 }
 
-pub fn place_after(tag: HeldTag) -> Place
+pub(crate) fn place_after(tag: HeldTag) -> Place
     requires { ⌜ TagFits tag ⌝ }
     ensures { λ r. ⌜ r ≡ placeAfter tag ⌝ }
 {
@@ -84,7 +84,7 @@ pub fn place_after(tag: HeldTag) -> Place
     Place::Data(rest)
 }
 
-pub fn place_at_tag(low: u64, high: u64) -> Place
+pub(crate) fn place_at_tag(low: u64, high: u64) -> Place
     ensures { λ r. ⌜ r ≡ placeAtTag (quadword low high) ⌝ }
 {
     if low % 32768 == 0 {
@@ -95,7 +95,7 @@ pub fn place_at_tag(low: u64, high: u64) -> Place
 }
 
 // A tag's own write.
-pub fn tag_writes(low: u64, high: u64) -> Writes
+pub(crate) fn tag_writes(low: u64, high: u64) -> Writes
     ensures { λ r. ⌜ listed r ≡ tagWrites (quadword low high) ⌝ }
 {
     if low % 32768 == 0 {

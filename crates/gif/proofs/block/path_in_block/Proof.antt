@@ -1,5 +1,5 @@
 use Rattle.gif.specs.Block.{pathInBlock}
-use Rattle.gif.specs.Fields.{if}
+use Rattle.fields.specs.Fields.{if}
 use borrow.Author.Tests.{eq-eqb, ne-eqb, lt-ltb, le-ltb}
 use borrow.Author.Needs.{needs}
 use Rattle.gif.proofs.block.path_in_block.Statement.{statement}

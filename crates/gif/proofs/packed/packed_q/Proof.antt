@@ -1,6 +1,6 @@
-use Rattle.gif.proofs.FieldLaws.{bits-middle}
+use Rattle.fields.proofs.FieldLaws.{bits-middle}
 use Rattle.gif.specs.Packed.{packedQ}
-use Rattle.gif.specs.Fields.{if}
+use Rattle.fields.specs.Fields.{if}
 use borrow.Author.Tests.{eq-eqb, ne-eqb}
 use borrow.Author.Needs.{needs}
 use Rattle.gif.proofs.packed.packed_q.Statement.{statement}

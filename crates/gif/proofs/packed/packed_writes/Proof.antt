@@ -1,6 +1,6 @@
-use Rattle.gif.proofs.FieldLaws.{bits-first, bits-middle, bits-high, whole-low}
+use Rattle.fields.proofs.FieldLaws.{bits-first, bits-middle, bits-high, whole-low}
 use Rattle.gif.specs.Packed.{packedWrites}
-use Rattle.gif.specs.Fields.{if}
+use Rattle.fields.specs.Fields.{if}
 use borrow.Author.Tests.{ne-eqb}
 use native.Mathlib.Omega.{arith}
 use borrow.Author.Needs.{needs}

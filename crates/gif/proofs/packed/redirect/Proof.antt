@@ -1,6 +1,6 @@
-use Rattle.gif.proofs.FieldLaws.{bits-high}
+use Rattle.fields.proofs.FieldLaws.{bits-high}
 use Rattle.gif.specs.Packed.{redirected}
-use Rattle.gif.specs.Fields.{if}
+use Rattle.fields.specs.Fields.{if}
 use borrow.Author.Tests.{eq-eqb, ne-eqb}
 use native.Mathlib.Omega.{arith}
 use borrow.Author.Needs.{needs}

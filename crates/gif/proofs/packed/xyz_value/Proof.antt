@@ -1,4 +1,4 @@
-use Rattle.gif.proofs.FieldLaws.{bits-first, bits-low, bits-middle}
+use Rattle.fields.proofs.FieldLaws.{bits-first, bits-low, bits-middle}
 use Rattle.gif.specs.Packed.{xyz}
 use native.Mathlib.Omega.{arith}
 use borrow.Author.Needs.{needs}

@@ -1,4 +1,4 @@
-use Rattle.gif.proofs.FieldLaws.{bits-first, bits-low, bits-high}
+use Rattle.fields.proofs.FieldLaws.{bits-first, bits-low, bits-high}
 use Rattle.gif.specs.Packed.{xyzf}
 use native.Mathlib.Omega.{arith}
 use borrow.Author.Needs.{needs}

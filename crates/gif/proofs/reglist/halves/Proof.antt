@@ -1,5 +1,5 @@
 use Rattle.gif.specs.Reglist.{reglistWrite}
-use Rattle.gif.specs.Fields.{if}
+use Rattle.fields.specs.Fields.{if}
 use mathlib.Core.Path.{sym, _∙_}
 use borrow.Author.Needs.{needs}
 use Rattle.gif.proofs.reglist.halves.Statement.{statement}

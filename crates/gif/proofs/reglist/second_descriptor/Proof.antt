@@ -1,5 +1,5 @@
 use Rattle.gif.proofs.TagLaws.{product-most}
-use Rattle.gif.specs.Fields.{if}
+use Rattle.fields.specs.Fields.{if}
 use borrow.Author.Tests.{lt-ltb, le-ltb}
 use native.Mathlib.Omega.{arith}
 use borrow.Author.Needs.{needs}

@@ -1,4 +1,4 @@
-use Rattle.gif.proofs.FieldLaws.{whole-low, whole-high}
+use Rattle.fields.proofs.FieldLaws.{whole-low, whole-high}
 use Rattle.gif.specs.Step.{imageStep}
 use borrow.Author.Needs.{needs}
 use Rattle.gif.proofs.step.take_image.Statement.{statement}

@@ -1,6 +1,6 @@
 use Rattle.gif.proofs.RangeLaws.{log-fits}
 use Rattle.gif.specs.Step.{takeOf}
-use Rattle.gif.specs.Fields.{if}
+use Rattle.fields.specs.Fields.{if}
 use mathlib.Core.Path.{sym, _∙_}
 use borrow.Author.Needs.{needs}
 use Rattle.gif.proofs.step.take_quadword.Statement.{statement}

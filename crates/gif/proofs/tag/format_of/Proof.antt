@@ -1,5 +1,5 @@
 use Rattle.gif.specs.Tag.{formatOf}
-use Rattle.gif.specs.Fields.{if}
+use Rattle.fields.specs.Fields.{if}
 use borrow.Author.Tests.{ne-eqb}
 use Rattle.gif.proofs.tag.format_of.Statement.{statement}
 use Rattle.gif.proofs.tag.format_of.Tie as tie

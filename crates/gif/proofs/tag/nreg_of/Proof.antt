@@ -1,5 +1,5 @@
 use Rattle.gif.specs.Tag.{nregOf}
-use Rattle.gif.specs.Fields.{if}
+use Rattle.fields.specs.Fields.{if}
 use borrow.Author.Tests.{eq-eqb, ne-eqb}
 use Rattle.gif.proofs.tag.nreg_of.Statement.{statement}
 use Rattle.gif.proofs.tag.nreg_of.Tie as tie

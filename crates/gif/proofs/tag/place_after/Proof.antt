@@ -1,5 +1,5 @@
 use Rattle.gif.specs.Tag.{placeAfter}
-use Rattle.gif.specs.Fields.{if}
+use Rattle.fields.specs.Fields.{if}
 use borrow.Author.Tests.{eq-eqb, ne-eqb}
 use borrow.Author.Needs.{needs}
 use Rattle.gif.proofs.tag.place_after.Statement.{statement}

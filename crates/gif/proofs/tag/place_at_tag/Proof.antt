@@ -1,6 +1,6 @@
 use Rattle.gif.proofs.TagLaws.{nloop-at}
 use Rattle.gif.specs.Tag.{placeAtTag}
-use Rattle.gif.specs.Fields.{if}
+use Rattle.fields.specs.Fields.{if}
 use borrow.Author.Tests.{eq-eqb, ne-eqb}
 use borrow.Author.Needs.{needs}
 use Rattle.gif.proofs.tag.place_at_tag.Statement.{statement}

@@ -3,7 +3,7 @@ use Prim.Native.Nat.{_/_}
 use borrow.Author.Needs.{needs}
 use Rattle.gif.proofs.TagLaws.{nloop-at, pre-at, prim-at, flg-at}
 use Rattle.gif.specs.Tag.{tagWrites, formatOf}
-use Rattle.gif.specs.Fields.{if}
+use Rattle.fields.specs.Fields.{if}
 use borrow.Author.Tests.{eq-eqb, ne-eqb}
 use Rattle.gif.proofs.tag.tag_writes.Statement.{statement}
 use Rattle.gif.proofs.tag.tag_writes.Tie as tie

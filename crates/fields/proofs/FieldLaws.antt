@@ -4,7 +4,7 @@ use Prim.Native.Nat.{ℕ, _+_, _*_, _-_, _/_, _%_, _^_, _<_, _≤_}
 use native.Mathlib.Nat.{add-mul-div-right, add-mul-mod-self-right, div-div-eq-div-mul, div-eq-of-lt, div-one, mod-eq-of-lt, mod-lt, mul-assoc, zero-add}
 use native.Mathlib.Omega.{arith}
 use lib.Pow.{pow-pos, pow-add}
-use Rattle.gif.specs.Fields.{bits, quadword}
+use Rattle.fields.specs.Fields.{bits, quadword}
 
 -- a power of two split at a smaller one
 pub pow-split : (a b : ℕ) → a ≤ b → 2 ^ b ≡ 2 ^ (b - a) * 2 ^ a

@@ -1,0 +1,3 @@
+-- Laws of fields and of choices.
+pub mod FieldLaws
+pub mod ChoiceLaws

@@ -1,0 +1,2 @@
+-- What every layer's definitions are written with.
+pub mod Fields

@@ -1,0 +1,515 @@
+//! VIF1 by itself: a unit takes one word at a time, or one quadword inside
+//! DIRECT and DIRECTHL.
+
+use crate::gif;
+use crate::vif_unpack::{Format, Unpack};
+
+/// The data memory in words.
+pub const DATA_WORDS: usize = 4_096;
+/// The code memory in bytes.
+pub const CODE_BYTES: usize = 16_384;
+/// The code memory in instructions.
+pub const INSTRUCTIONS: u32 = 2_048;
+/// The data memory in quadwords.
+pub const QUADWORDS: u32 = 1_024;
+/// What DIRECT with IMM 0 takes.
+pub const MOST_DIRECT: u32 = 65_536;
+/// What UNPACK and MPG with NUM 0 take.
+pub const MOST_NUM: u32 = 256;
+
+pub const REFUSED_DATA: u32 = 2;
+pub const REFUSED_CODE: u32 = 3;
+pub const REFUSED_COMMAND: u32 = 20;
+pub const REFUSED_FORMAT: u32 = 21;
+pub const REFUSED_CYCLE: u32 = 22;
+pub const REFUSED_MODE: u32 = 23;
+pub const REFUSED_PLACE: u32 = 24;
+
+const ENTRY_MSCAL: u64 = 256;
+const ENTRY_MSCALF: u64 = 257;
+const ENTRY_MSCNT: u64 = 258;
+
+#[derive(Clone, Copy, PartialEq, Eq, Debug, Default)]
+pub struct Registers {
+    pub cl: u32,
+    pub wl: u32,
+    pub ofst: u32,
+    pub base: u32,
+    pub tops: u32,
+    pub top: u32,
+    pub itops: u32,
+    pub itop: u32,
+    pub dbf: bool,
+    pub mode: u32,
+    pub mskpath3: bool,
+    pub mark: u32,
+    pub mask: u32,
+    pub row: [u32; 4],
+    pub col: [u32; 4],
+}
+
+/// The code that waits for payload.
+#[derive(Clone, Copy, PartialEq, Eq, Debug)]
+pub enum Payload {
+    Stmask,
+    Strow,
+    Stcol,
+    Mpg(Mpg),
+    Direct,
+    Directhl,
+    Unpack(Unpack),
+}
+
+#[derive(Clone, Copy, PartialEq, Eq, Debug)]
+pub struct Mpg {
+    /// Where the first instruction goes.
+    pub address: u32,
+    /// Instructions, 1 to 256 where in range.
+    pub count: u32,
+}
+
+#[derive(Clone, Copy, PartialEq, Eq, Debug)]
+pub struct Waiting {
+    pub payload: Payload,
+    pub interrupt: bool,
+    /// Words still due, quadwords for DIRECT and DIRECTHL.
+    pub due: u32,
+}
+
+#[derive(Clone, Copy, PartialEq, Eq, Debug, Default)]
+pub struct Unit {
+    pub registers: Registers,
+    pub waiting: Option<Waiting>,
+}
+
+/// The next word: word 0 with its whole quadword, or a later word alone.
+#[derive(Clone, Copy, PartialEq, Eq, Debug)]
+pub enum Given {
+    Quadword(u128),
+    Word(u32),
+}
+
+impl Given {
+    pub fn word(&self) -> u32 {
+        match *self {
+            Given::Quadword(quadword) => quadword as u32,
+            Given::Word(word) => word,
+        }
+    }
+}
+
+#[derive(Clone, Copy, PartialEq, Eq, Debug)]
+pub struct Taken {
+    /// The whole quadword was taken, not only its word 0.
+    pub quadword: bool,
+    /// This completed a code with its bit 31 set.
+    pub interrupt: bool,
+}
+
+#[derive(Clone, Copy, PartialEq, Eq, Debug)]
+pub enum Code {
+    Nop,
+    Stcycl {
+        cl: u32,
+        wl: u32,
+    },
+    Offset(u32),
+    Base(u32),
+    Itop(u32),
+    Stmod(u32),
+    Mskpath3(bool),
+    Mark(u32),
+    Flushe,
+    Flush,
+    Flusha,
+    Mscal(u32),
+    Mscalf(u32),
+    Mscnt,
+    Stmask,
+    Strow,
+    Stcol,
+    Mpg(Mpg),
+    /// The quadwords, 1 to 65,536.
+    Direct(u32),
+    Directhl(u32),
+    Unpack {
+        format: Format,
+        masked: bool,
+        address: u32,
+        add_tops: bool,
+        unsigned: bool,
+        count: u32,
+    },
+}
+
+impl Code {
+    /// Reads a code; refuses what no registers would make legal.
+    pub fn decode(word: u32) -> Result<Code, u32> {
+        let imm = word & 0xFFFF;
+        let num = word >> 16 & 0xFF;
+        let ten = imm & 0x3FF;
+        let count = if num == 0 { MOST_NUM } else { num };
+        let quadwords = if imm == 0 { MOST_DIRECT } else { imm };
+        let code = match word >> 24 & 0x7F {
+            0x00 => Code::Nop,
+            0x01 => Code::Stcycl {
+                cl: imm & 0xFF,
+                wl: imm >> 8,
+            },
+            0x02 => Code::Offset(ten),
+            0x03 => Code::Base(ten),
+            0x04 => Code::Itop(ten),
+            0x05 if imm & 3 == 3 => return Err(REFUSED_MODE),
+            0x05 => Code::Stmod(imm & 3),
+            0x06 => Code::Mskpath3(imm >> 15 == 1),
+            0x07 => Code::Mark(imm),
+            0x10 => Code::Flushe,
+            0x11 => Code::Flush,
+            0x13 => Code::Flusha,
+            0x14 => Code::Mscal(imm),
+            0x15 => Code::Mscalf(imm),
+            0x17 => Code::Mscnt,
+            0x20 => Code::Stmask,
+            0x30 => Code::Strow,
+            0x31 => Code::Stcol,
+            0x4A => Code::Mpg(Mpg {
+                address: imm % INSTRUCTIONS,
+                count,
+            }),
+            0x50 => Code::Direct(quadwords),
+            0x51 => Code::Directhl(quadwords),
+            command @ 0x60..=0x7F => Code::Unpack {
+                format: Format::from_number(command & 15).ok_or(REFUSED_FORMAT)?,
+                masked: command >> 4 & 1 == 1,
+                address: ten,
+                add_tops: imm >> 15 & 1 == 1,
+                unsigned: imm >> 14 & 1 == 1,
+                count,
+            },
+            _ => return Err(REFUSED_COMMAND),
+        };
+        Ok(code)
+    }
+}
+
+/// Gives the next word to the unit, or the next quadword to path 2 where DIRECT
+/// waits. A refusal hands back its number and changes nothing.
+pub fn take(
+    unit: &mut Unit,
+    path: &mut gif::Path,
+    given: Given,
+    data: &mut [u32],
+    code: &mut [u8],
+    log: &mut [u64],
+    used: &mut u64,
+) -> Result<Taken, u32> {
+    check_lengths(data.len(), code.len(), log.len(), *used)?;
+    if !in_range(unit) || !gif::path_in_range(path) {
+        return Err(gif::REFUSED_RANGE);
+    }
+    let registers = &mut unit.registers;
+    let Some(waiting) = &mut unit.waiting else {
+        let word = given.word();
+        unit.waiting = take_code(registers, word, log, used)?;
+        return Ok(Taken {
+            quadword: false,
+            interrupt: unit.waiting.is_none() && word >> 31 == 1,
+        });
+    };
+    let mut quadword_taken = false;
+    match &mut waiting.payload {
+        Payload::Stmask => registers.mask = given.word(),
+        Payload::Strow => registers.row[4 - waiting.due as usize] = given.word(),
+        Payload::Stcol => registers.col[4 - waiting.due as usize] = given.word(),
+        Payload::Mpg(mpg) => mpg.take_word(waiting.due, given.word(), code),
+        Payload::Direct | Payload::Directhl => {
+            let Given::Quadword(quadword) = given else {
+                return Err(REFUSED_PLACE);
+            };
+            gif::take(path, used, log, quadword)?;
+            quadword_taken = true;
+        }
+        Payload::Unpack(unpack) => unpack.take_word(registers, waiting.due, given.word(), data),
+    }
+    waiting.due -= 1;
+    let completed = waiting.due == 0;
+    let interrupt = completed && waiting.interrupt;
+    if completed {
+        unit.waiting = None;
+    }
+    Ok(Taken {
+        quadword: quadword_taken,
+        interrupt,
+    })
+}
+
+/// Tests for the refusals 2, 3 and 4.
+pub fn check_lengths(data: usize, code: usize, log: usize, used: u64) -> Result<(), u32> {
+    if data != DATA_WORDS {
+        return Err(REFUSED_DATA);
+    }
+    if code != CODE_BYTES {
+        return Err(REFUSED_CODE);
+    }
+    if !gif::log_in_range(log, used) {
+        return Err(gif::REFUSED_LOG);
+    }
+    Ok(())
+}
+
+/// Whether the unit passes refusal 5.
+pub fn in_range(unit: &Unit) -> bool {
+    let registers = &unit.registers;
+    let addresses = [
+        registers.ofst,
+        registers.base,
+        registers.tops,
+        registers.top,
+        registers.itops,
+        registers.itop,
+    ];
+    registers.cl <= 255
+        && registers.wl <= 255
+        && addresses.iter().all(|&address| address <= 1_023)
+        && registers.mode <= 2
+        && registers.mark <= 65_535
+        && unit
+            .waiting
+            .as_ref()
+            .is_none_or(|waiting| waiting_in_range(registers, waiting))
+}
+
+fn waiting_in_range(registers: &Registers, waiting: &Waiting) -> bool {
+    let all = match &waiting.payload {
+        Payload::Stmask => 1,
+        Payload::Strow | Payload::Stcol => 4,
+        Payload::Mpg(mpg) if mpg.in_range() => mpg.all_words(),
+        Payload::Direct | Payload::Directhl => MOST_DIRECT,
+        Payload::Unpack(unpack) if unpack.in_range() && cycle_legal(registers) => {
+            unpack.all_words()
+        }
+        Payload::Mpg(_) | Payload::Unpack(_) => return false,
+    };
+    (1..=all).contains(&waiting.due)
+}
+
+/// Whether UNPACK is accepted under the held CL and WL.
+pub fn cycle_legal(registers: &Registers) -> bool {
+    registers.wl != 0 && registers.wl <= registers.cl
+}
+
+impl Mpg {
+    pub fn in_range(&self) -> bool {
+        self.address < INSTRUCTIONS && (1..=MOST_NUM).contains(&self.count)
+    }
+
+    pub fn all_words(&self) -> u32 {
+        2 * self.count
+    }
+
+    /// The byte address of the word that comes with `due` still due.
+    pub fn byte_address(&self, due: u32) -> usize {
+        let taken = self.all_words() - due;
+        let instruction = (self.address + taken / 2) % INSTRUCTIONS;
+        (8 * instruction + 4 * (taken % 2)) as usize
+    }
+
+    fn take_word(&self, due: u32, word: u32, code: &mut [u8]) {
+        let at = self.byte_address(due);
+        code[at..at + 4].copy_from_slice(&word.to_le_bytes());
+    }
+}
+
+/// A word that is a code; hands back what waits afterwards.
+fn take_code(
+    registers: &mut Registers,
+    word: u32,
+    log: &mut [u64],
+    used: &mut u64,
+) -> Result<Option<Waiting>, u32> {
+    let waits = |payload, due| {
+        Some(Waiting {
+            payload,
+            interrupt: word >> 31 == 1,
+            due,
+        })
+    };
+    let mut waiting = None;
+    match Code::decode(word)? {
+        Code::Nop | Code::Flushe | Code::Flush | Code::Flusha => {}
+        Code::Stcycl { cl, wl } => {
+            registers.cl = cl;
+            registers.wl = wl;
+        }
+        Code::Offset(ofst) => {
+            registers.ofst = ofst;
+            registers.dbf = false;
+            registers.tops = registers.base;
+        }
+        Code::Base(base) => registers.base = base,
+        Code::Itop(itops) => registers.itops = itops,
+        Code::Stmod(mode) => registers.mode = mode,
+        Code::Mskpath3(bit) => registers.mskpath3 = bit,
+        Code::Mark(mark) => registers.mark = mark,
+        Code::Mscal(imm) => call(registers, ENTRY_MSCAL, imm, log, used)?,
+        Code::Mscalf(imm) => call(registers, ENTRY_MSCALF, imm, log, used)?,
+        Code::Mscnt => call(registers, ENTRY_MSCNT, 0, log, used)?,
+        Code::Stmask => waiting = waits(Payload::Stmask, 1),
+        Code::Strow => waiting = waits(Payload::Strow, 4),
+        Code::Stcol => waiting = waits(Payload::Stcol, 4),
+        Code::Mpg(mpg) => waiting = waits(Payload::Mpg(mpg), mpg.all_words()),
+        Code::Direct(quadwords) => waiting = waits(Payload::Direct, quadwords),
+        Code::Directhl(quadwords) => waiting = waits(Payload::Directhl, quadwords),
+        Code::Unpack {
+            format,
+            masked,
+            address,
+            add_tops,
+            unsigned,
+            count,
+        } => {
+            if !cycle_legal(registers) {
+                return Err(REFUSED_CYCLE);
+            }
+            let added = if add_tops { registers.tops } else { 0 };
+            let unpack = Unpack {
+                format,
+                masked,
+                unsigned,
+                address: (address + added) % QUADWORDS,
+                count,
+                held: [0; 3],
+            };
+            waiting = waits(Payload::Unpack(unpack), unpack.all_words());
+        }
+    }
+    Ok(waiting)
+}
+
+/// MSCAL, MSCALF and MSCNT.
+fn call(
+    registers: &mut Registers,
+    entry: u64,
+    value: u32,
+    log: &mut [u64],
+    used: &mut u64,
+) -> Result<(), u32> {
+    let at = 2 * *used as usize;
+    if log.len() - at < 2 {
+        return Err(gif::REFUSED_ROOM);
+    }
+    log[at] = entry;
+    log[at + 1] = value as u64;
+    *used += 1;
+    registers.itop = registers.itops;
+    registers.top = registers.tops;
+    registers.dbf = !registers.dbf;
+    registers.tops = if registers.dbf {
+        (registers.base + registers.ofst) % QUADWORDS
+    } else {
+        registers.base
+    };
+    Ok(())
+}
+
+#[cfg(test)]
+mod tests {
+    use super::*;
+
+    /// A unit with its memories, fed legal words that are all taken.
+    struct Bench {
+        unit: Unit,
+        data: Vec<u32>,
+        code: Vec<u8>,
+    }
+
+    impl Bench {
+        fn new() -> Bench {
+            Bench {
+                unit: Unit::default(),
+                data: vec![0; DATA_WORDS],
+                code: vec![0; CODE_BYTES],
+            }
+        }
+
+        fn give(&mut self, word: u32) -> Result<Taken, u32> {
+            let mut path = gif::Path {
+                q: 0,
+                place: gif::Place::Idle,
+            };
+            take(
+                &mut self.unit,
+                &mut path,
+                Given::Word(word),
+                &mut self.data,
+                &mut self.code,
+                &mut [],
+                &mut 0,
+            )
+        }
+
+        fn run(&mut self, words: &[u32]) {
+            for &word in words {
+                assert!(self.give(word).is_ok());
+            }
+        }
+
+        fn quadword(&self, at: usize) -> &[u32] {
+            &self.data[4 * at..4 * at + 4]
+        }
+    }
+
+    #[test]
+    fn byte_ff() {
+        let mut bench = Bench::new();
+        bench.run(&[0x0100_0101, 0x6201_0000, 0xFF, 0x6201_4001, 0xFF]);
+        assert_eq!(bench.quadword(0), [u32::MAX; 4]);
+        assert_eq!(bench.quadword(1), [0xFF; 4]);
+    }
+
+    #[test]
+    fn payload_lengths() {
+        let mut bench = Bench::new();
+        bench.run(&[0x0100_0101, 0x6A05_0000, 0, 0, 0]);
+        assert!(bench.unit.waiting.is_some());
+        bench.run(&[0]);
+        assert!(bench.unit.waiting.is_none());
+        bench.run(&[0x6C00_0000]);
+        assert_eq!(bench.unit.waiting.unwrap().due, 1_024);
+    }
+
+    #[test]
+    fn five_bit_fields() {
+        let mut bench = Bench::new();
+        bench.run(&[0x0100_0101, 0x6F01_0000, 0xFFFF]);
+        assert_eq!(bench.quadword(0), [0xF8, 0xF8, 0xF8, 0x80]);
+    }
+
+    #[test]
+    fn mode_2_sum_wraps() {
+        let mut bench = Bench::new();
+        bench.run(&[0x0100_0101, 0x0500_0002, 0x3000_0000]);
+        bench.run(&[u32::MAX; 4]);
+        bench.run(&[0x6001_0000, 2]);
+        assert_eq!(bench.quadword(0), [1; 4]);
+        assert_eq!(bench.unit.registers.row, [1; 4]);
+    }
+
+    #[test]
+    fn write_positions() {
+        let mut bench = Bench::new();
+        bench.run(&[0x0100_0204, 0x6004_0000, 1, 2, 3, 4]);
+        let firsts: Vec<u32> = (0..6).map(|at| bench.data[4 * at]).collect();
+        assert_eq!(firsts, [1, 2, 0, 0, 3, 4]);
+        bench.run(&[0x0100_0302]);
+        assert_eq!(bench.give(0x6004_0000), Err(22));
+    }
+
+    #[test]
+    fn mpg_round_the_end() {
+        let mut bench = Bench::new();
+        bench.run(&[0x4A02_07FF, 1, 2, 3, 4]);
+        assert_eq!(bench.code[16_376..], [1, 0, 0, 0, 2, 0, 0, 0]);
+        assert_eq!(bench.code[..8], [3, 0, 0, 0, 4, 0, 0, 0]);
+    }
+}

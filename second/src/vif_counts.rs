@@ -1,0 +1,748 @@
+//! What VIF cases reached.
+
+use crate::gif::{self, Path, Place};
+use crate::vif::{self, Code, Given, Payload, Registers, Unit, Waiting};
+use crate::vif_cases::{
+    read_block, waiting_number, write_block, Block, Case, Standing, INTERRUPT, REFUSED,
+};
+use crate::vif_unpack::{mask_row, Format, Unpack};
+use std::collections::HashMap;
+
+/// One call: what stood before it, its answer, and what stands now.
+pub struct Call<'a> {
+    pub before: Option<(Unit, Path)>,
+    pub used_before: u64,
+    pub given: Given,
+    /// The word's number in its quadword.
+    pub number: u32,
+    pub answer: u32,
+    pub now: &'a Standing,
+    /// The unit was read from a block just before.
+    pub restored: bool,
+    /// The case's first call.
+    pub first: bool,
+}
+
+/// The names of codes by `kind`.
+const KINDS: [&str; 21] = [
+    "NOP", "STCYCL", "OFFSET", "BASE", "ITOP", "STMOD", "MSKPATH3", "MARK", "FLUSHE", "FLUSH",
+    "FLUSHA", "MSCAL", "MSCALF", "MSCNT", "STMASK", "STROW", "STCOL", "MPG", "DIRECT", "DIRECTHL",
+    "UNPACK",
+];
+
+/// The codes that wait, by word 21 of the unit block less 1.
+const WAITING: [&str; 7] = [
+    "STMASK", "STROW", "STCOL", "MPG", "DIRECT", "DIRECTHL", "UNPACK",
+];
+
+const REGISTER_NAMES: [&str; 12] = [
+    "CL", "WL", "OFST", "BASE", "TOPS", "TOP", "ITOPS", "ITOP", "DBF", "MODE", "MSKPATH3", "MARK",
+];
+
+fn kind(code: &Code) -> usize {
+    match code {
+        Code::Nop => 0,
+        Code::Stcycl { .. } => 1,
+        Code::Offset(_) => 2,
+        Code::Base(_) => 3,
+        Code::Itop(_) => 4,
+        Code::Stmod(_) => 5,
+        Code::Mskpath3(_) => 6,
+        Code::Mark(_) => 7,
+        Code::Flushe => 8,
+        Code::Flush => 9,
+        Code::Flusha => 10,
+        Code::Mscal(_) => 11,
+        Code::Mscalf(_) => 12,
+        Code::Mscnt => 13,
+        Code::Stmask => 14,
+        Code::Strow => 15,
+        Code::Stcol => 16,
+        Code::Mpg(_) => 17,
+        Code::Direct(_) => 18,
+        Code::Directhl(_) => 19,
+        Code::Unpack { .. } => 20,
+    }
+}
+
+/// The bits of a code that say nothing.
+fn unused_bits(code: &Code) -> u32 {
+    match code {
+        Code::Nop | Code::Flushe | Code::Flush | Code::Flusha | Code::Mscnt => 0x00FF_FFFF,
+        Code::Stmask | Code::Strow | Code::Stcol => 0x00FF_FFFF,
+        Code::Offset(_) | Code::Base(_) | Code::Itop(_) => 0x00FF_FC00,
+        Code::Stmod(_) => 0x00FF_FFFC,
+        Code::Mskpath3(_) => 0x00FF_7FFF,
+        Code::Stcycl { .. } | Code::Mark(_) | Code::Mscal(_) | Code::Mscalf(_) => 0x00FF_0000,
+        Code::Mpg(_) => 0x0000_F800,
+        Code::Direct(_) | Code::Directhl(_) => 0x00FF_0000,
+        Code::Unpack { .. } => 0x0000_3C00,
+    }
+}
+
+pub fn format_name(format: &Format) -> String {
+    let number = format.number();
+    let elements = ["S", "V2", "V3", "V4"][(number >> 2) as usize];
+    let bits = ["32", "16", "8", "5"][(number & 3) as usize];
+    format!("{elements}-{bits}")
+}
+
+pub fn all_formats() -> Vec<Format> {
+    (0..16).filter_map(Format::from_number).collect()
+}
+
+#[derive(Default)]
+pub struct Counts {
+    by_name: HashMap<String, u64>,
+    cases: u64,
+    groups: u64,
+    calls: u64,
+    words: u64,
+    quadwords: u64,
+    codes: [u64; 21],
+    codes_with_unused_bits: [u64; 21],
+    /// Codes completed with their bit 31 set.
+    interrupts: [u64; 21],
+    payload_words: [u64; 7],
+    completed: [u64; 7],
+    /// By format, M, USN and MODE.
+    unpacked: [[[[u64; 3]; 2]; 2]; 16],
+    vectors: u64,
+    /// Payload words of UNPACK by the vectors that they made whole.
+    vectors_per_word: [u64; 5],
+    /// Writes with M set by field and code.
+    mask_codes: [[u64; 4]; 4],
+    /// Writes with M set by row.
+    mask_rows: [u64; 4],
+    /// Fields that got COL by its number.
+    cols: [u64; 4],
+    /// Fields that got ROW by its number.
+    rows_used: [u64; 4],
+}
+
+impl Counts {
+    fn add(&mut self, name: &str) {
+        self.add_if(name, true);
+    }
+
+    fn add_if(&mut self, name: &str, happened: bool) {
+        if happened {
+            match self.by_name.get_mut(name) {
+                Some(count) => *count += 1,
+                None => {
+                    self.by_name.insert(name.to_string(), 1);
+                }
+            }
+        }
+    }
+
+    pub fn note_case(&mut self, case: &Case) {
+        self.cases += 1;
+        if let Some(unit) = read_block(&case.unit) {
+            let junk = write_block(&unit) != case.unit;
+            self.add_if("unit blocks with words that mean nothing", junk);
+        }
+    }
+
+    /// Notes the end of a group of so many calls.
+    pub fn note_group(&mut self, now: &Standing, calls: u32, words_at_end: bool) {
+        self.groups += 1;
+        match calls {
+            0 => self.add("groups without a call"),
+            1 => self.add("groups of one call"),
+            2..=9 => self.add("groups of 2 to 9 calls"),
+            _ => self.add("groups of 10 calls or more"),
+        }
+        self.add_if("groups with no word left", words_at_end && calls == 0);
+        if let Some((unit, path)) = &now.both {
+            if let Some(Waiting {
+                payload: Payload::Mpg(mpg),
+                due,
+                ..
+            }) = &unit.waiting
+            {
+                let started = mpg.in_range() && due % 2 == 1;
+                self.add_if("groups that end inside an instruction", started);
+            }
+            let inside = matches!(path.place, Place::Data { .. });
+            self.add_if("groups that end inside a GIF tag", inside && calls > 0);
+        }
+    }
+
+    /// Notes the end of a case.
+    pub fn note_end(&mut self, now: &Standing, words_left: bool) {
+        self.add_if("cases with words left over", words_left);
+        if let Some((unit, _)) = &now.both {
+            if let Some(waiting) = &unit.waiting {
+                let number = waiting_number(&waiting.payload) as usize - 1;
+                self.add(&format!("cases that end with {} waiting", WAITING[number]));
+            }
+        }
+    }
+
+    pub fn note(&mut self, call: &Call) {
+        self.calls += 1;
+        let refusal = call.answer.checked_sub(REFUSED);
+        match refusal {
+            Some(vif::REFUSED_DATA | vif::REFUSED_CODE | gif::REFUSED_LOG) => {
+                self.note_lengths(call, refusal.unwrap());
+                return;
+            }
+            Some(gif::REFUSED_RANGE) => {
+                self.note_range(call);
+                return;
+            }
+            _ => {}
+        }
+        let (unit, path) = call.before.as_ref().expect("only what exists is stepped");
+        if refusal.is_none() {
+            match call.answer & 1 {
+                0 => self.words += 1,
+                _ => self.quadwords += 1,
+            }
+            self.note_writes(call);
+        }
+        match (&unit.waiting, refusal) {
+            (None, None) => self.note_code(&unit.registers, call),
+            (None, Some(refusal)) => self.note_code_refused(&unit.registers, call, refusal),
+            (Some(waiting), None) => self.note_payload(&unit.registers, waiting, path, call),
+            (Some(_), Some(refusal)) => self.note_direct_refused(path, call, refusal),
+        }
+    }
+
+    fn note_lengths(&mut self, call: &Call, refusal: u32) {
+        let now = call.now;
+        let good_code = now.code.len() == vif::CODE_BYTES;
+        let good_log = gif::log_in_range(now.log.len(), now.used);
+        let good_range = call
+            .before
+            .as_ref()
+            .is_some_and(|(unit, path)| vif::in_range(unit) && gif::path_in_range(path));
+        match refusal {
+            vif::REFUSED_DATA => {
+                let short = now.data.len() < vif::DATA_WORDS;
+                self.add(if short {
+                    "refused 2, data memory too short"
+                } else {
+                    "refused 2, data memory too long"
+                });
+                self.add_if("refused 2, 3 would be next", !good_code);
+                self.add_if("refused 2, 4 would be next", good_code && !good_log);
+                let only = good_code && good_log;
+                self.add_if("refused 2, 5 would be next", only && !good_range);
+                self.add_if("refused 2, nothing else wrong", only && good_range);
+            }
+            vif::REFUSED_CODE => {
+                let short = now.code.len() < vif::CODE_BYTES;
+                self.add(if short {
+                    "refused 3, code memory too short"
+                } else {
+                    "refused 3, code memory too long"
+                });
+                self.add_if("refused 3, 4 would be next", !good_log);
+                self.add_if("refused 3, 5 would be next", good_log && !good_range);
+                self.add_if("refused 3, nothing else wrong", good_log && good_range);
+            }
+            _ => {
+                let length = now.log.len();
+                self.add(if length % 2 == 1 {
+                    "refused 4, log length odd"
+                } else if length > gif::LOG_LIMIT {
+                    "refused 4, log too long"
+                } else if now.used.wrapping_mul(2) <= length as u64 {
+                    "refused 4, twice the entries used wraps"
+                } else {
+                    "refused 4, too many entries used"
+                });
+                self.add_if("refused 4, 5 would be next", !good_range);
+                self.add_if("refused 4, nothing else wrong", good_range);
+            }
+        }
+    }
+
+    fn note_range(&mut self, call: &Call) {
+        let (unit_block, path_block) = call.now.blocks();
+        let fields = wrong_fields(&unit_block);
+        let path_wrong = match crate::gif_cases::read_block(&path_block) {
+            None => Some("refused 5, path block in no path"),
+            Some(path) if !gif::path_in_range(&path) => Some("refused 5, path out of range"),
+            Some(_) => None,
+        };
+        match (&fields[..], path_wrong) {
+            ([field], None) => self.add(&format!("refused 5, {field}")),
+            ([], Some(name)) => self.add(name),
+            _ => self.add("refused 5, several at once"),
+        }
+    }
+
+    fn note_writes(&mut self, call: &Call) {
+        let now = call.now;
+        let written = now.used - call.used_before;
+        let full = 2 * now.used == now.log.len() as u64;
+        self.add_if("log exactly full after a write", full && written > 0);
+        self.add_if("taken without a write, log full", full && written == 0);
+    }
+
+    fn note_code(&mut self, registers: &Registers, call: &Call) {
+        let word = call.given.word();
+        let code = Code::decode(word).expect("a code taken is legal");
+        let kind = kind(&code);
+        self.codes[kind] += 1;
+        self.codes_with_unused_bits[kind] += (word & unused_bits(&code) != 0) as u64;
+        if call.answer & INTERRUPT != 0 {
+            self.interrupts[kind] += 1;
+        }
+        let now = &call.now.both.as_ref().unwrap().0.registers;
+        match code {
+            Code::Offset(_) => {
+                self.add_if("OFFSET with DBF 1", registers.dbf);
+                self.add_if(
+                    "OFFSET with TOPS not BASE",
+                    registers.tops != registers.base,
+                );
+            }
+            Code::Base(base) => {
+                self.add_if("BASE with TOPS not the new BASE", registers.tops != base);
+            }
+            Code::Mscal(_) | Code::Mscalf(_) | Code::Mscnt => {
+                let sum = registers.base + registers.ofst;
+                self.add_if("DBF flips to 0", registers.dbf);
+                self.add_if("DBF flips to 1", !registers.dbf);
+                self.add_if("BASE + OFST from 1,024 up", now.dbf && sum >= 1_024);
+                self.add_if("TOP changes", now.top != registers.top);
+                self.add_if("TOP and TOPS differ afterwards", now.top != now.tops);
+                self.add_if("ITOP changes", now.itop != registers.itop);
+                let imm = word & 0xFFFF != 0;
+                self.add_if("MSCNT with IMM", imm && code == Code::Mscnt);
+            }
+            Code::Mpg(mpg) => {
+                self.add_if("MPG with NUM 0", word >> 16 & 0xFF == 0);
+                self.add_if("MPG with IMM from 2,048 up", word & 0xFFFF >= 2_048);
+                self.add_if("MPG with one instruction", mpg.count == 1);
+            }
+            Code::Direct(quadwords) | Code::Directhl(quadwords) => {
+                self.add_if("DIRECT with IMM 0", quadwords == vif::MOST_DIRECT);
+                self.add(&format!("DIRECT in word {}", call.number));
+            }
+            Code::Unpack {
+                address, add_tops, ..
+            } => {
+                let sum = address + registers.tops;
+                self.add_if("UNPACK with TOPS added", add_tops && registers.tops != 0);
+                self.add_if(
+                    "UNPACK, address + TOPS from 1,024 up",
+                    add_tops && sum >= 1_024,
+                );
+                self.add_if("UNPACK without TOPS", !add_tops && registers.tops != 0);
+            }
+            _ => {}
+        }
+    }
+
+    fn note_code_refused(&mut self, registers: &Registers, call: &Call, refusal: u32) {
+        let word = call.given.word();
+        let interrupt = word >> 31 == 1;
+        self.add_if("codes refused with their bit 31 set", interrupt);
+        match refusal {
+            vif::REFUSED_COMMAND => self.add("refused 20"),
+            vif::REFUSED_FORMAT => {
+                self.add(&format!("refused 21, vn {}", word >> 26 & 3));
+                let legal = vif::cycle_legal(registers);
+                self.add_if("refused 21 with CL and WL for 22", !legal);
+            }
+            vif::REFUSED_CYCLE if registers.wl == 0 => self.add("refused 22, WL 0"),
+            vif::REFUSED_CYCLE => self.add("refused 22, WL above CL"),
+            vif::REFUSED_MODE => self.add("refused 23"),
+            _ => {
+                let name = match word >> 24 & 0x7F {
+                    0x14 => "MSCAL",
+                    0x15 => "MSCALF",
+                    _ => "MSCNT",
+                };
+                self.add(&format!("refused 31, {name}"));
+            }
+        }
+    }
+
+    fn note_direct_refused(&mut self, path: &Path, call: &Call, refusal: u32) {
+        match (refusal, &path.place) {
+            (vif::REFUSED_PLACE, _) => self.add(&format!("refused 24, word {}", call.number)),
+            (gif::REFUSED_DESCRIPTOR, _) => self.add("refused 30 inside DIRECT"),
+            (_, Place::Idle) => self.add("refused 31 inside DIRECT, at a tag"),
+            (_, Place::Data { tag, .. }) => {
+                self.add(&format!("refused 31 inside DIRECT, {:?}", tag.format));
+            }
+        }
+    }
+
+    fn note_payload(&mut self, registers: &Registers, waiting: &Waiting, path: &Path, call: &Call) {
+        let number = waiting_number(&waiting.payload) as usize - 1;
+        self.payload_words[number] += 1;
+        let name = WAITING[number];
+        if call.first {
+            self.add(&format!("waiting at a case's start, {name}"));
+        } else if call.restored {
+            self.add(&format!("waiting at a later group's start, {name}"));
+        }
+        let last = waiting.due == 1;
+        if last {
+            self.completed[number] += 1;
+            self.interrupts[14 + number] += (call.answer & INTERRUPT != 0) as u64;
+        }
+        match &waiting.payload {
+            Payload::Mpg(mpg) => {
+                let taken = mpg.all_words() - waiting.due;
+                let wraps = mpg.address + taken / 2 >= vif::INSTRUCTIONS;
+                self.add_if("MPG words stored round the end", wraps);
+                let whole = last && mpg.count == vif::MOST_NUM;
+                self.add_if("MPG of 256 instructions completed", whole);
+            }
+            Payload::Direct | Payload::Directhl => {
+                match &path.place {
+                    Place::Idle => self.add("DIRECT quadwords, tags"),
+                    Place::Data { tag, .. } => {
+                        self.add(&format!("DIRECT quadwords, {:?}", tag.format));
+                    }
+                }
+                let now = &call.now.both.as_ref().unwrap().1;
+                let inside = matches!(now.place, Place::Data { .. });
+                self.add_if("DIRECT completed inside a GIF tag", last && inside);
+                self.add_if("DIRECT completed between GIF tags", last && !inside);
+            }
+            Payload::Unpack(unpack) => {
+                self.note_unpack(registers, unpack, waiting.due);
+                let (first, end) = unpack.made_whole(waiting.due);
+                let start = first * unpack.format.vector_bits();
+                let taken = 32 * (unpack.all_words() - waiting.due);
+                let across = end > first && start < taken;
+                self.add_if("vectors with bits from a block", across && call.restored);
+            }
+            _ => {}
+        }
+    }
+
+    /// Notes a payload word of UNPACK. The registers are those before it.
+    fn note_unpack(&mut self, registers: &Registers, unpack: &Unpack, due: u32) {
+        let (first, end) = unpack.made_whole(due);
+        self.vectors_per_word[(end - first) as usize] += 1;
+        let five = unpack.format.is_five_bits();
+        for i in first..end {
+            self.vectors += 1;
+            let position = unpack.position(registers, i);
+            self.add_if("vectors written round the end", position >= vif::QUADWORDS);
+            self.add_if(
+                "vectors written twice round the end",
+                position >= 2 * vif::QUADWORDS,
+            );
+            self.add_if("vectors with i mod WL above 3", i % registers.wl > 3);
+            self.add_if("V4-5 vectors with MODE set", five && registers.mode > 0);
+            if unpack.masked {
+                self.note_mask(registers, unpack, i, i == first);
+            }
+        }
+        if due == 1 {
+            self.note_unpack_completed(registers, unpack);
+        }
+    }
+
+    fn note_mask(&mut self, registers: &Registers, unpack: &Unpack, i: u32, first: bool) {
+        let row = (i % registers.wl).min(3);
+        let codes = mask_row(registers.mask, row);
+        let moves = registers.mode == 2 && !unpack.format.is_five_bits();
+        self.mask_rows[row as usize] += 1;
+        for (field, &code) in codes.iter().enumerate() {
+            self.mask_codes[field][code as usize] += 1;
+            match code {
+                1 => self.rows_used[field] += 1,
+                2 => self.cols[row as usize] += 1,
+                _ => {}
+            }
+            if moves && first {
+                self.add_if("MODE 2 with mask code 1", code == 1);
+                self.add_if("MODE 2 with mask code 2", code == 2);
+                self.add_if("MODE 2 with mask code 3", code == 3);
+            }
+        }
+    }
+
+    fn note_unpack_completed(&mut self, registers: &Registers, unpack: &Unpack) {
+        let number = unpack.format.number() as usize;
+        self.unpacked[number][unpack.masked as usize][unpack.unsigned as usize]
+            [registers.mode as usize] += 1;
+        let (cl, wl) = (registers.cl, registers.wl);
+        self.add_if("UNPACK completed, WL = CL", wl == cl);
+        self.add_if("UNPACK completed, WL < CL", wl < cl);
+        self.add_if("UNPACK completed, WL 1", wl == 1);
+        self.add_if("UNPACK completed, WL above 4", wl > 4);
+        self.add_if("UNPACK completed, WL 255", wl == 255);
+        let laps = unpack.count > wl && wl < cl;
+        self.add_if("UNPACK completed, WL < CL with several rounds", laps);
+        let bits = unpack.count * unpack.format.vector_bits();
+        self.add_if("UNPACK completed with leftover bits", bits % 32 != 0);
+        let whole = unpack.format.vectors_in(unpack.all_words()) > unpack.count;
+        self.add_if("UNPACK completed with a leftover vector", whole);
+        if unpack.count == vif::MOST_NUM {
+            let name = format_name(&unpack.format);
+            self.add(&format!("UNPACK {name} of 256 vectors completed"));
+            let mode = registers.mode == 2 && !unpack.format.is_five_bits();
+            self.add_if("UNPACK of 256 vectors completed with MODE 2", mode);
+        }
+    }
+
+    /// Every count by name.
+    pub fn rows(&self) -> Vec<(String, u64)> {
+        let mut rows: Vec<(String, u64)> = Vec::new();
+        let mut row = |name: &str, count: u64| rows.push((name.to_string(), count));
+        row("cases", self.cases);
+        row("groups", self.groups);
+        row("calls", self.calls);
+        row("words taken", self.words);
+        row("quadwords taken", self.quadwords);
+        for (i, kind) in KINDS.iter().enumerate() {
+            row(&format!("codes taken, {kind}"), self.codes[i]);
+            row(
+                &format!("codes taken with unused bits set, {kind}"),
+                self.codes_with_unused_bits[i],
+            );
+            row(&format!("interrupts completed, {kind}"), self.interrupts[i]);
+        }
+        for (i, kind) in WAITING.iter().enumerate() {
+            row(
+                &format!("payload units taken, {kind}"),
+                self.payload_words[i],
+            );
+            row(&format!("payloads completed, {kind}"), self.completed[i]);
+        }
+        for format in all_formats() {
+            for m in 0..2 {
+                for usn in 0..2 {
+                    for mode in 0..3 {
+                        row(
+                            &format!(
+                                "UNPACK {} completed, M {m}, USN {usn}, MODE {mode}",
+                                format_name(&format)
+                            ),
+                            self.unpacked[format.number() as usize][m][usn][mode],
+                        );
+                    }
+                }
+            }
+        }
+        row("vectors written", self.vectors);
+        for (n, &count) in self.vectors_per_word.iter().enumerate() {
+            row(&format!("UNPACK words that complete {n} vectors"), count);
+        }
+        for (field, name) in ["X", "Y", "Z", "W"].iter().enumerate() {
+            for code in 0..4 {
+                row(
+                    &format!("mask code {code} for {name}"),
+                    self.mask_codes[field][code],
+                );
+            }
+            row(&format!("fields from ROW {field}"), self.rows_used[field]);
+        }
+        for n in 0..4 {
+            row(&format!("masked writes by row {n}"), self.mask_rows[n]);
+            row(&format!("fields from COL {n}"), self.cols[n]);
+        }
+        let names = names();
+        assert!(self.by_name.keys().all(|name| names.contains(name)));
+        for name in names {
+            let count = self.by_name.get(&name).copied().unwrap_or(0);
+            rows.push((name, count));
+        }
+        rows
+    }
+}
+
+/// The fields of a unit block that are out of their range, by name.
+fn wrong_fields(block: &Block) -> Vec<String> {
+    let limits = [
+        255, 255, 1_023, 1_023, 1_023, 1_023, 1_023, 1_023, 1, 2, 1, 65_535,
+    ];
+    let mut wrong: Vec<String> = (0..12)
+        .filter(|&i| block[i] > limits[i])
+        .map(|i| REGISTER_NAMES[i].to_string())
+        .collect();
+    let waiting = block[21];
+    if waiting == 0 {
+        return wrong;
+    }
+    if waiting > 7 {
+        wrong.push("waiting code".to_string());
+        return wrong;
+    }
+    let name = WAITING[waiting as usize - 1];
+    let mut add = |field: &str| wrong.push(format!("{name} {field}"));
+    if block[22] > 1 {
+        add("interrupt");
+    }
+    let counted = waiting == 4 || waiting == 7;
+    if counted {
+        if block[24] > if waiting == 4 { 2_047 } else { 1_023 } {
+            add("address");
+        }
+        if !(1..=256).contains(&block[25]) {
+            add("count");
+        }
+    }
+    let count = block[25].min(256);
+    let mut all = match waiting {
+        1 => 1,
+        2 | 3 => 4,
+        4 => 2 * count,
+        _ => 65_536,
+    };
+    if waiting == 7 {
+        match Format::from_number(block[26]) {
+            None => add("format"),
+            Some(format) => all = (count * format.vector_bits()).div_ceil(32),
+        }
+        if block[27] > 1 {
+            add("USN");
+        }
+        if block[28] > 1 {
+            add("M");
+        }
+        if block[1] == 0 {
+            add("beside WL 0");
+        } else if block[1] > block[0] {
+            add("beside WL above CL");
+        }
+    }
+    if block[23] == 0 {
+        add("due 0");
+    } else if block[23] > all && (!counted || (1..=256).contains(&block[25])) {
+        add("due too many");
+    }
+    wrong
+}
+
+/// The names of the counts that are kept by name.
+fn names() -> Vec<String> {
+    let mut names: Vec<String> = NAMES.iter().map(|name| name.to_string()).collect();
+    let mut add = |name: String| names.push(name);
+    for name in REGISTER_NAMES {
+        add(format!("refused 5, {name}"));
+    }
+    for name in WAITING {
+        for field in ["interrupt", "due 0", "due too many"] {
+            add(format!("refused 5, {name} {field}"));
+        }
+        add(format!("waiting at a case's start, {name}"));
+        add(format!("waiting at a later group's start, {name}"));
+        add(format!("cases that end with {name} waiting"));
+    }
+    for field in ["address", "count"] {
+        add(format!("refused 5, MPG {field}"));
+        add(format!("refused 5, UNPACK {field}"));
+    }
+    for field in ["format", "USN", "M", "beside WL 0", "beside WL above CL"] {
+        add(format!("refused 5, UNPACK {field}"));
+    }
+    for name in ["MSCAL", "MSCALF", "MSCNT"] {
+        add(format!("refused 31, {name}"));
+    }
+    for format in ["Packed", "Reglist", "Image"] {
+        add(format!("DIRECT quadwords, {format}"));
+        add(format!("refused 31 inside DIRECT, {format}"));
+    }
+    for number in 0..4 {
+        add(format!("DIRECT in word {number}"));
+    }
+    for number in 1..4 {
+        add(format!("refused 24, word {number}"));
+    }
+    for vn in 0..3 {
+        add(format!("refused 21, vn {vn}"));
+    }
+    for format in all_formats() {
+        add(format!(
+            "UNPACK {} of 256 vectors completed",
+            format_name(&format)
+        ));
+    }
+    names
+}
+
+const NAMES: &[&str] = &[
+    "unit blocks with words that mean nothing",
+    "groups without a call",
+    "groups of one call",
+    "groups of 2 to 9 calls",
+    "groups of 10 calls or more",
+    "groups with no word left",
+    "groups that end inside an instruction",
+    "groups that end inside a GIF tag",
+    "cases with words left over",
+    "refused 2, data memory too short",
+    "refused 2, data memory too long",
+    "refused 2, 3 would be next",
+    "refused 2, 4 would be next",
+    "refused 2, 5 would be next",
+    "refused 2, nothing else wrong",
+    "refused 3, code memory too short",
+    "refused 3, code memory too long",
+    "refused 3, 4 would be next",
+    "refused 3, 5 would be next",
+    "refused 3, nothing else wrong",
+    "refused 4, log length odd",
+    "refused 4, log too long",
+    "refused 4, twice the entries used wraps",
+    "refused 4, too many entries used",
+    "refused 4, 5 would be next",
+    "refused 4, nothing else wrong",
+    "refused 5, waiting code",
+    "refused 5, several at once",
+    "refused 5, path block in no path",
+    "refused 5, path out of range",
+    "refused 20",
+    "refused 21 with CL and WL for 22",
+    "refused 22, WL 0",
+    "refused 22, WL above CL",
+    "refused 23",
+    "refused 30 inside DIRECT",
+    "refused 31 inside DIRECT, at a tag",
+    "codes refused with their bit 31 set",
+    "log exactly full after a write",
+    "taken without a write, log full",
+    "OFFSET with DBF 1",
+    "OFFSET with TOPS not BASE",
+    "BASE with TOPS not the new BASE",
+    "DBF flips to 0",
+    "DBF flips to 1",
+    "BASE + OFST from 1,024 up",
+    "TOP changes",
+    "TOP and TOPS differ afterwards",
+    "ITOP changes",
+    "MSCNT with IMM",
+    "MPG with NUM 0",
+    "MPG with IMM from 2,048 up",
+    "MPG with one instruction",
+    "MPG words stored round the end",
+    "MPG of 256 instructions completed",
+    "DIRECT with IMM 0",
+    "DIRECT quadwords, tags",
+    "DIRECT completed inside a GIF tag",
+    "DIRECT completed between GIF tags",
+    "UNPACK with TOPS added",
+    "UNPACK, address + TOPS from 1,024 up",
+    "UNPACK without TOPS",
+    "UNPACK completed, WL = CL",
+    "UNPACK completed, WL < CL",
+    "UNPACK completed, WL 1",
+    "UNPACK completed, WL above 4",
+    "UNPACK completed, WL 255",
+    "UNPACK completed, WL < CL with several rounds",
+    "UNPACK completed with leftover bits",
+    "UNPACK completed with a leftover vector",
+    "UNPACK of 256 vectors completed with MODE 2",
+    "vectors with bits from a block",
+    "vectors written round the end",
+    "vectors written twice round the end",
+    "vectors with i mod WL above 3",
+    "V4-5 vectors with MODE set",
+    "MODE 2 with mask code 1",
+    "MODE 2 with mask code 2",
+    "MODE 2 with mask code 3",
+];

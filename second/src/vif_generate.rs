@@ -1,0 +1,1183 @@
+//! VIF cases from a seed.
+
+use crate::gif::Place;
+use crate::gif_generate::{
+    random_block as random_gif_block, random_held_block, random_log, random_no_path_block,
+    random_out_of_range_block, random_tag, tag_quadword,
+};
+use crate::random::Random;
+use crate::vif::{cycle_legal, Code, Given, Mpg, Payload, Registers, Unit, Waiting};
+use crate::vif_cases::{
+    taken_quadword, write_block, Block, Case, PathBlock, Standing, MOST_CODE, MOST_DATA, REFUSED,
+};
+use crate::vif_counts::all_formats;
+use crate::vif_unpack::{Format, Unpack};
+
+const IDLE: PathBlock = [0; 9];
+const FILL: u64 = 0x0123_4567_89AB_CDEF;
+
+/// A case file of about `words` words, or more where the fixed part has more.
+pub fn generate(seed: u64, words: u64) -> Vec<u8> {
+    let mut random = Random::new(seed);
+    let mut file = Vec::new();
+    let mut made = 0;
+    let mut cases = fixed_cases();
+    add_edge_cases(&mut random, &mut cases);
+    for case in cases {
+        made += case.words.len() as u64;
+        case.write(&mut file);
+    }
+    while made < words {
+        let case = random_case(&mut random, words - made);
+        made += case.words.len().max(1) as u64;
+        case.write(&mut file);
+    }
+    file
+}
+
+/// The word of a code with its bit 31 clear.
+pub fn code_word(command: u32, num: u32, imm: u32) -> u32 {
+    command << 24 | num << 16 | imm
+}
+
+fn stcycl(cl: u32, wl: u32) -> u32 {
+    code_word(0x01, 0, cl | wl << 8)
+}
+
+/// A case under way: its words so far and what they led to.
+struct Maker {
+    case: Case,
+    standing: Standing,
+    calls: u32,
+}
+
+impl Maker {
+    fn new(case: Case) -> Maker {
+        Maker {
+            standing: Standing::new(&case),
+            case,
+            calls: 0,
+        }
+    }
+
+    /// A case with right lengths of the memories and no entries used.
+    fn with(unit: &Unit, log_length: u32, number: u32) -> Maker {
+        Maker::new(plain_case(write_block(unit), log_length, number))
+    }
+
+    fn unit(&self) -> Option<&Unit> {
+        self.standing.both.as_ref().map(|(unit, _)| unit)
+    }
+
+    /// The number of the next word in its quadword.
+    fn number(&self) -> u32 {
+        (self.case.number + self.case.words.len() as u32) % 4
+    }
+
+    /// Whether the next call takes a quadword.
+    fn wants_quadword(&self) -> bool {
+        self.number() == 0 && self.waits_for_quadwords()
+    }
+
+    fn waits_for_quadwords(&self) -> bool {
+        self.unit()
+            .and_then(|unit| unit.waiting)
+            .is_some_and(|waiting| matches!(waiting.payload, Payload::Direct | Payload::Directhl))
+    }
+
+    /// Gives a word; where a quadword is wanted, one with zeros above.
+    fn word(&mut self, word: u32) -> u32 {
+        if self.wants_quadword() {
+            return self.quadword(word as u128);
+        }
+        let given = if self.number() == 0 {
+            Given::Quadword(word as u128)
+        } else {
+            Given::Word(word)
+        };
+        self.case.words.push(word);
+        self.calls += 1;
+        self.standing.take(given)
+    }
+
+    /// Gives a quadword where one is wanted; where it is refused, its other words follow.
+    fn quadword(&mut self, quadword: u128) -> u32 {
+        let answer = self.standing.take(Given::Quadword(quadword));
+        let words: [u32; 4] = std::array::from_fn(|i| (quadword >> (32 * i)) as u32);
+        self.calls += 1;
+        if taken_quadword(answer) {
+            self.case.words.extend(words);
+            return answer;
+        }
+        self.case.words.push(words[0]);
+        for &w in &words[1..] {
+            self.word(w);
+        }
+        answer
+    }
+
+    fn words(&mut self, words: &[u32]) {
+        for &w in words {
+            self.word(w);
+        }
+    }
+
+    /// NOPs until the next word has the number.
+    fn pad(&mut self, number: u32) {
+        while self.number() != number {
+            self.word(0);
+        }
+    }
+
+    /// Payload until nothing waits, at most so many calls.
+    fn run_out(&mut self, random: &mut Random, most: u32) {
+        for _ in 0..most {
+            if self.unit().is_none_or(|unit| unit.waiting.is_none()) {
+                break;
+            }
+            if self.wants_quadword() {
+                let quadword = random_quadword(random, self, 0);
+                self.quadword(quadword);
+            } else {
+                let word = payload_word(random);
+                self.word(word);
+            }
+        }
+    }
+
+    /// The case with all calls in one group.
+    fn finish(mut self) -> Case {
+        self.align();
+        self.case.groups = vec![self.calls];
+        self.case
+    }
+
+    /// The case with groups by chance that hold all calls.
+    fn finish_in_groups(mut self, random: &mut Random) -> Case {
+        self.align();
+        self.case.groups = random_groups(random, self.calls);
+        self.case
+    }
+
+    /// The case with groups by chance; sometimes words are left over, sometimes groups.
+    fn finish_loosely(mut self, random: &mut Random) -> Case {
+        self.align();
+        let calls = match random.below(20) {
+            0 => random.below(self.calls as u64 + 1) as u32,
+            1 => self.calls + random.within(1..=6) as u32,
+            _ => self.calls,
+        };
+        self.case.groups = random_groups(random, calls);
+        self.case
+    }
+
+    fn align(&mut self) {
+        while self.number() != 0 {
+            let nothing_waits = self.unit().is_some_and(|unit| unit.waiting.is_none());
+            let word = if nothing_waits { 0 } else { 0x0101_0101 };
+            self.word(word);
+        }
+    }
+}
+
+fn plain_case(unit: Block, log_length: u32, number: u32) -> Case {
+    Case {
+        data_length: 4_096,
+        code_length: 16_384,
+        log_length,
+        used: 0,
+        fill: FILL,
+        unit,
+        path: IDLE,
+        number,
+        groups: Vec::new(),
+        words: Vec::new(),
+    }
+}
+
+fn random_groups(random: &mut Random, calls: u32) -> Vec<u32> {
+    let style = random.below(10);
+    let mut left = calls;
+    let mut groups = Vec::new();
+    while left > 0 {
+        let most = match style {
+            0..=1 => 1,
+            2..=4 => random.within(1..=4),
+            5..=6 => random.within(1..=40),
+            7 => random.pick(&[1, 1, 1, 60]),
+            8 => random.within(0..=12),
+            _ => 65_535,
+        };
+        let group = left.min(most as u32);
+        groups.push(group);
+        left -= group;
+    }
+    if random.percent(3) {
+        groups.push(random.pick(&[0, 1, 65_535]));
+    }
+    groups
+}
+
+/// The bench points and other cases that are the same in every file.
+fn fixed_cases() -> Vec<Case> {
+    let fed = |log_length: u32, used: u64, number: u32, words: &[u32]| {
+        let mut case = plain_case([0; 32], log_length, number);
+        case.used = used;
+        let mut maker = Maker::new(case);
+        maker.words(words);
+        maker.finish()
+    };
+    let mut cases = vec![
+        // S-8 byte FF, then with USN.
+        fed(
+            0,
+            0,
+            0,
+            &[
+                stcycl(1, 1),
+                code_word(0x62, 1, 0),
+                0xFF,
+                code_word(0x62, 1, 0x4001),
+                0xFF,
+            ],
+        ),
+        // V3-8, NUM 5: 4 words; then MARK shows that it ended.
+        fed(
+            0,
+            0,
+            0,
+            &[
+                stcycl(1, 1),
+                code_word(0x6A, 5, 0),
+                0x8382_8180,
+                0x0786_0584,
+                0x8B0A_8908,
+                0xFF8E_0D8C,
+                code_word(0x07, 0, 0x1234),
+            ],
+        ),
+        // V4-32, NUM 0: 1,024 words; then MARK shows that it ended.
+        {
+            let mut maker = Maker::with(&Unit::default(), 0, 0);
+            maker.words(&[stcycl(1, 1), code_word(0x6C, 0, 0x3F0)]);
+            for i in 0..1_024 {
+                maker.word(0xC0DE_0000 + i);
+            }
+            maker.word(code_word(0x07, 0, 0x1234));
+            maker.finish()
+        },
+        // V4-5 FFFF.
+        fed(0, 0, 0, &[stcycl(1, 1), code_word(0x6F, 1, 0), 0xFFFF]),
+        // MODE 2, ROW FFFFFFFF, data 2.
+        fed(
+            0,
+            0,
+            0,
+            &[
+                stcycl(1, 1),
+                code_word(0x05, 0, 2),
+                code_word(0x30, 0, 0),
+                u32::MAX,
+                u32::MAX,
+                u32::MAX,
+                u32::MAX,
+                code_word(0x60, 1, 0),
+                2,
+            ],
+        ),
+        // CL 4, WL 2, NUM 4, A 0: 0, 1, 4, 5.
+        fed(0, 0, 0, &[stcycl(4, 2), code_word(0x60, 4, 0), 1, 2, 3, 4]),
+        // CL 2, WL 3: refused 22.
+        fed(0, 0, 0, &[stcycl(2, 3), code_word(0x60, 4, 0), 0, 0]),
+        // MPG at 2,047, two instructions.
+        fed(0, 0, 0, &[code_word(0x4A, 2, 2_047), 1, 2, 3, 4]),
+    ];
+    // DIRECT as a sheet's kind 3 record has it.
+    let mut maker = Maker::with(&Unit::default(), 4, 0);
+    maker.words(&[0, 0, 0, code_word(0x50, 0, 2)]);
+    maker.quadword(0x0000_0000_0000_000E_1000_0000_0000_8001);
+    maker.quadword(0x0042_0000_0000_0000_7777);
+    cases.push(maker.finish());
+    // MSCAL moves TOP, DBF and TOPS; the third has no room.
+    cases.push(fed(
+        4,
+        0,
+        0,
+        &[
+            code_word(0x03, 0, 1_000),
+            code_word(0x02, 0, 100),
+            code_word(0x04, 0, 7),
+            code_word(0x14, 0, 0xFFFF),
+            code_word(0x04, 0, 8),
+            code_word(0x17, 0, 0xFFFF),
+            code_word(0x04, 0, 9),
+            code_word(0x15, 0, 5),
+        ],
+    ));
+    // STMOD 3: refused 23, MODE stays.
+    let stmod = |mode| code_word(0x05, 0, mode);
+    cases.push(fed(0, 0, 0, &[stmod(2), stmod(3), stmod(0xFFFF), stmod(1)]));
+    // No groups, and no words.
+    cases.push(plain_case([0; 32], 0, 0));
+    let mut case = plain_case([0; 32], 2, 0);
+    case.groups = vec![0, 3, 0];
+    cases.push(case);
+    cases
+}
+
+fn add_edge_cases(random: &mut Random, cases: &mut Vec<Case>) {
+    add_length_cases(random, cases);
+    add_path_cases(random, cases);
+    add_field_cases(random, cases);
+    add_waiting_cases(random, cases);
+    add_command_cases(random, cases);
+    add_unpack_cases(random, cases);
+    add_long_cases(random, cases);
+    add_direct_cases(random, cases);
+    add_call_cases(random, cases);
+}
+
+/// A case of a few words, whatever its blocks are.
+fn short_case(random: &mut Random, mut case: Case) -> Case {
+    case.number = random.below(4) as u32;
+    let mut maker = Maker::new(case);
+    for _ in 0..random.within(1..=3) {
+        if maker.wants_quadword() {
+            maker.quadword(0);
+        } else {
+            let word = if random.percent(50) {
+                0
+            } else {
+                payload_word(random)
+            };
+            maker.word(word);
+        }
+    }
+    maker.finish_in_groups(random)
+}
+
+/// Each length from both sides, and several inputs wrong at once.
+fn add_length_cases(random: &mut Random, cases: &mut Vec<Case>) {
+    let case = plain_case([0; 32], 8, 0);
+    for data_length in [0, 1, 4_092, 4_095, 4_097, MOST_DATA] {
+        let case = Case {
+            data_length,
+            ..case.clone()
+        };
+        cases.push(short_case(random, case));
+    }
+    for code_length in [0, 1, 16_380, 16_383, 16_385, 16_388, MOST_CODE] {
+        let case = Case {
+            code_length,
+            ..case.clone()
+        };
+        cases.push(short_case(random, case));
+    }
+    let logs = [
+        (0, 0),
+        (0, 1),
+        (1, 0),
+        (2, 1),
+        (2, 2),
+        (2, 1 << 63),
+        (2, (1 << 63) + 1),
+        (2, u64::MAX),
+        (64, 1 << 32),
+        (131_071, 0),
+        (131_072, 65_535),
+        (131_072, 65_536),
+        (131_072, 65_537),
+        (131_073, 0),
+        (131_074, 0),
+        (131_080, 0),
+    ];
+    for (log_length, used) in logs {
+        let mut case = plain_case([0; 32], log_length, 0);
+        case.used = used;
+        let mut maker = Maker::new(case);
+        maker.words(&[code_word(0x14, 0, 3), code_word(0x17, 0, 3), 0, 0]);
+        cases.push(maker.finish());
+    }
+    for wrong in 0..64 {
+        let mut case = case.clone();
+        let bit = |i: u32| wrong >> i & 1 == 1;
+        if bit(0) {
+            case.data_length = random.pick(&[4_095, 4_097]);
+        }
+        if bit(1) {
+            case.code_length = random.pick(&[16_383, 16_385]);
+        }
+        if bit(2) {
+            case.used = 5;
+        }
+        if bit(3) {
+            case.unit[9] = 3;
+        }
+        if bit(4) {
+            case.path = random_out_of_range_block(random);
+        }
+        if bit(5) {
+            let unit = &mut case.unit;
+            match random.below(2) {
+                0 => unit[8] = 2,
+                _ => case.path = random_no_path_block(random),
+            }
+        }
+        cases.push(short_case(random, case));
+    }
+}
+
+/// Paths out of range and in no path, beside a good unit.
+fn add_path_cases(random: &mut Random, cases: &mut Vec<Case>) {
+    for _ in 0..20 {
+        for path in [
+            random_held_block(random),
+            random_out_of_range_block(random),
+            random_no_path_block(random),
+        ] {
+            let unit = random_waiting_unit(random);
+            let mut case = plain_case(write_block(&unit), 8, 0);
+            // Words that mean nothing are kept beside a path that is none.
+            case.unit[31] = random.word();
+            case.path = path;
+            cases.push(short_case(random, case));
+        }
+    }
+}
+
+/// Each field of the unit block at its limits and just outside.
+fn add_field_cases(random: &mut Random, cases: &mut Vec<Case>) {
+    let mut add = |random: &mut Random, unit: Block| {
+        let case = plain_case(unit, 8, 0);
+        cases.push(short_case(random, case));
+    };
+    let limits = [
+        255, 255, 1_023, 1_023, 1_023, 1_023, 1_023, 1_023, 1, 2, 1, 65_535,
+    ];
+    for (field, limit) in limits.into_iter().enumerate() {
+        for value in [
+            limit,
+            limit + 1,
+            limit + 1 + random.word() % 1_000,
+            u32::MAX,
+        ] {
+            let mut unit = write_block(&Unit::default());
+            unit[field] = value;
+            add(random, unit);
+        }
+    }
+    for code in [8, 9, 15, 256, 257, u32::MAX] {
+        let mut unit = write_block(&random_unit(random));
+        unit[21] = code;
+        add(random, unit);
+    }
+    // What means nothing is ignored.
+    for code in 0..7 {
+        let mut unit = [0; 32];
+        unit[21] = code;
+        unit[22] = 1;
+        unit[23] = 1;
+        unit[24..].fill(u32::MAX);
+        match code {
+            0 => unit[22..].fill(u32::MAX),
+            4 => unit[24..26].copy_from_slice(&[2_047, 256]),
+            _ => {}
+        }
+        add(random, unit);
+    }
+    for payload in some_payloads(random) {
+        let mut unit = random_unit(random);
+        make_cycle_legal(random, &mut unit.registers);
+        let all = all_units(&payload);
+        unit.waiting = Some(Waiting {
+            payload,
+            interrupt: random.percent(50),
+            due: all,
+        });
+        let good = write_block(&unit);
+        let mut change = |random: &mut Random, changes: &[(usize, u32)]| {
+            let mut block = good;
+            for &(field, value) in changes {
+                block[field] = value;
+            }
+            add(random, block);
+        };
+        for due in [0, 1, all, all + 1, u32::MAX] {
+            change(random, &[(23, due)]);
+        }
+        for interrupt in [2, u32::MAX] {
+            change(random, &[(22, interrupt)]);
+        }
+        let last_address = match payload {
+            Payload::Mpg(_) => 2_047,
+            Payload::Unpack(_) => 1_023,
+            _ => continue,
+        };
+        for address in [last_address, last_address + 1, u32::MAX] {
+            change(random, &[(24, address), (23, 1)]);
+        }
+        for count in [0, 256, 257, 1 << 31, u32::MAX] {
+            change(random, &[(25, count), (23, 1)]);
+        }
+        if let Payload::Unpack(_) = payload {
+            for format in [3, 7, 11, 16, 19, u32::MAX] {
+                change(random, &[(26, format), (23, 1)]);
+            }
+            for field in [27, 28] {
+                change(random, &[(field, 2)]);
+                change(random, &[(field, u32::MAX)]);
+            }
+            change(random, &[(1, 0)]);
+            change(random, &[(0, 5), (1, 6)]);
+            change(random, &[(0, 6), (1, 6)]);
+            change(random, &[(0, 0), (1, 255)]);
+            change(random, &[(0, 255), (1, 255)]);
+        }
+    }
+}
+
+/// Each kind of payload, UNPACK in each format.
+fn some_payloads(random: &mut Random) -> Vec<Payload> {
+    let mut payloads = vec![
+        Payload::Stmask,
+        Payload::Strow,
+        Payload::Stcol,
+        Payload::Mpg(random_mpg(random, 4)),
+        Payload::Direct,
+        Payload::Directhl,
+    ];
+    for format in all_formats() {
+        let count = random.within(1..=7) as u32;
+        payloads.push(Payload::Unpack(random_unpack(random, format, count)));
+    }
+    payloads
+}
+
+/// All units of a payload, the most there can be for DIRECT.
+fn all_units(payload: &Payload) -> u32 {
+    match payload {
+        Payload::Stmask => 1,
+        Payload::Strow | Payload::Stcol => 4,
+        Payload::Mpg(mpg) => mpg.all_words(),
+        Payload::Direct | Payload::Directhl => 65_536,
+        Payload::Unpack(unpack) => unpack.all_words(),
+    }
+}
+
+/// Each waiting code with each number of units due, run to its end.
+fn add_waiting_cases(random: &mut Random, cases: &mut Vec<Case>) {
+    let mut payloads = vec![Payload::Stmask, Payload::Strow, Payload::Stcol];
+    for count in [1, 2, 5] {
+        payloads.push(Payload::Mpg(Mpg {
+            address: random.pick(&[0, 2_046, 2_047]),
+            count,
+        }));
+    }
+    for format in all_formats() {
+        for count in [1, 2, 3, 5] {
+            payloads.push(Payload::Unpack(random_unpack(random, format, count)));
+        }
+    }
+    for payload in payloads {
+        for due in 1..=all_units(&payload) {
+            let number = random.below(4) as u32;
+            add_waiting_case(random, cases, payload, due, number);
+        }
+    }
+    for payload in [Payload::Direct, Payload::Directhl] {
+        for due in [1, 2, 3, 65_536] {
+            for number in 0..4 {
+                add_waiting_case(random, cases, payload, due, number);
+            }
+        }
+    }
+}
+
+fn add_waiting_case(
+    random: &mut Random,
+    cases: &mut Vec<Case>,
+    payload: Payload,
+    due: u32,
+    number: u32,
+) {
+    let mut unit = random_unit(random);
+    make_cycle_legal(random, &mut unit.registers);
+    unit.waiting = Some(Waiting {
+        payload,
+        interrupt: random.percent(50),
+        due,
+    });
+    let mut maker = Maker::with(&unit, 32, number);
+    maker.run_out(random, 60);
+    maker.word(code_word(0x07, 0, 0x4321));
+    cases.push(maker.finish_in_groups(random));
+}
+
+/// Every CMD with bit 31 clear and set, with its payload.
+fn add_command_cases(random: &mut Random, cases: &mut Vec<Case>) {
+    for interrupt in 0..2 {
+        for cycle in [stcycl(1, 1), stcycl(7, 5), stcycl(1, 0), stcycl(3, 4)] {
+            let mut maker = Maker::with(&random_unit(random), 64, 0);
+            for command in 0..128 {
+                maker.word(cycle);
+                let num = random.within(1..=5) as u32;
+                let imm = match command {
+                    0x01 => cycle & 0xFFFF,
+                    0x50 | 0x51 => random.within(1..=3) as u32,
+                    _ => random.word() & 0xFFFF,
+                };
+                maker.word(interrupt << 31 | code_word(command, num, imm));
+                maker.run_out(random, 100);
+            }
+            cases.push(maker.finish_in_groups(random));
+        }
+    }
+}
+
+/// Every format with every M, USN and MODE, under many CL and WL.
+fn add_unpack_cases(random: &mut Random, cases: &mut Vec<Case>) {
+    for format in all_formats() {
+        for mode in 0..3 {
+            for flags in 0..4 {
+                let mut maker = Maker::with(&random_unit(random), 0, 0);
+                for _ in 0..2 {
+                    let cycle = legal_cycle(random);
+                    maker.words(&[cycle, code_word(0x05, 0, mode), code_word(0x20, 0, 0)]);
+                    let mask = random_mask(random);
+                    maker.word(mask);
+                    let num = random.pick(&[1, 2, 3, 4, 5, 7, 9, 13]);
+                    maker.word(unpack_word(random, format, flags, num));
+                    maker.run_out(random, 100);
+                }
+                cases.push(maker.finish_in_groups(random));
+            }
+        }
+    }
+}
+
+/// An UNPACK code: M is bit 0 of the flags, USN bit 1.
+fn unpack_word(random: &mut Random, format: Format, flags: u32, num: u32) -> u32 {
+    let command = 0x60 | format.number() | (flags & 1) << 4;
+    let near_end = 1_024 - random.within(1..=12) as u32;
+    let any = random.word() & 0x3FF;
+    let address = random.pick(&[0, any, any, near_end]);
+    // The unused bits and the one that adds TOPS are free.
+    let rest = random.word() & 0xBC00;
+    code_word(command, num, address | rest | (flags >> 1) << 14)
+}
+
+/// MPG and every format of UNPACK with NUM 0.
+fn add_long_cases(random: &mut Random, cases: &mut Vec<Case>) {
+    let mut maker = Maker::with(&random_unit(random), 0, 0);
+    let address = random.word() & 0xFFFF;
+    maker.word(code_word(0x4A, 0, address));
+    maker.run_out(random, 512);
+    maker.word(code_word(0x07, 0, 0x2345));
+    cases.push(maker.finish_in_groups(random));
+    for format in all_formats() {
+        let mut maker = Maker::with(&random_unit(random), 0, 0);
+        let cycle = legal_cycle(random);
+        let mode = random.pick(&[1, 2, 2]);
+        maker.words(&[cycle, code_word(0x05, 0, mode), code_word(0x20, 0, 0)]);
+        let mask = random_mask(random);
+        maker.word(mask);
+        let flags = random.below(4) as u32;
+        maker.word(unpack_word(random, format, flags, 0));
+        maker.run_out(random, 1_024);
+        maker.word(code_word(0x07, 0, 0x2345));
+        cases.push(maker.finish_in_groups(random));
+    }
+}
+
+/// DIRECT in each word, with each kind of tag, refused in each way.
+fn add_direct_cases(random: &mut Random, cases: &mut Vec<Case>) {
+    for command in [0x50, 0x51] {
+        for number in 0..4 {
+            for imm in [0, 1, 2] {
+                let interrupt = random.below(2) as u32;
+                let mut maker = Maker::with(&random_unit(random), 16, 0);
+                maker.pad(number);
+                maker.word(interrupt << 31 | code_word(command, 0, imm));
+                while !maker.wants_quadword() {
+                    maker.word(random.word());
+                }
+                maker.run_out(random, 3);
+                cases.push(maker.finish_in_groups(random));
+            }
+        }
+        // PRE, PACKED, REGLIST and IMAGE without room, and descriptor B.
+        let pre = 1u128 << 46;
+        let tags = [
+            tag_quadword(1, 0, 1, 0xE) | pre,
+            tag_quadword(1, 0, 1, 0xE),
+            tag_quadword(1, 1, 2, 0x21),
+            tag_quadword(1, 2, 1, 0),
+            tag_quadword(1, 0, 1, 0xB),
+            tag_quadword(1, 1, 2, 0xB1),
+        ];
+        for tag in tags {
+            for free in 0..3 {
+                let mut case = plain_case([0; 32], 8, 3);
+                case.used = 4 - free;
+                let mut maker = Maker::new(case);
+                maker.word(code_word(command, 0, 2));
+                maker.quadword(tag);
+                maker.quadword(random.quadword());
+                cases.push(maker.finish_in_groups(random));
+            }
+        }
+    }
+}
+
+/// MSCAL, MSCALF and MSCNT with a log that has room for three more, and MSCNT again.
+fn add_call_cases(random: &mut Random, cases: &mut Vec<Case>) {
+    for free in 0..4 {
+        let mut case = plain_case(write_block(&random_unit(random)), 40, 0);
+        case.used = 20 - free;
+        let mut maker = Maker::new(case);
+        for command in [0x14, 0x15, 0x17, 0x17] {
+            let (num, imm) = (random.word() & 255, random.word() & 0xFFFF);
+            maker.word(code_word(command, num, imm));
+            maker.word(code_word(0x04, 0, imm));
+            maker.word(code_word(
+                random.pick(&[0x02, 0x03, 0x07]),
+                0,
+                random.word() & 0xFFFF,
+            ));
+        }
+        cases.push(maker.finish_in_groups(random));
+    }
+}
+
+/// A random case of at most about `left` words.
+fn random_case(random: &mut Random, left: u64) -> Case {
+    let wanted = match random.below(20) {
+        0 => random.below(3),
+        1..=8 => random.within(1..=40),
+        9..=15 => random.within(20..=160),
+        16..=18 => random.within(100..=600),
+        _ => random.within(500..=3_000),
+    };
+    let (mut log_length, used) = random_log(random);
+    if wanted > 100 && used < 20 && log_length <= 1_200 && random.percent(60) {
+        log_length = 2 * random.within(100..=1_000) as u32;
+    }
+    let mut case = Case {
+        log_length,
+        used,
+        fill: random.number(),
+        unit: random_unit_block(random),
+        path: random_path_block(random),
+        ..plain_case([0; 32], 0, random.below(4) as u32)
+    };
+    if random.percent(4) {
+        spoil_lengths(random, &mut case);
+    }
+    let mut maker = Maker::new(case);
+    fill_case(random, &mut maker, wanted.min(left.max(1)));
+    maker.finish_loosely(random)
+}
+
+fn spoil_lengths(random: &mut Random, case: &mut Case) {
+    if random.percent(60) {
+        case.data_length = random.pick(&[0, 1, 1_024, 4_092, 4_095, 4_097, MOST_DATA]);
+    }
+    if random.percent(60) {
+        case.code_length = random.pick(&[0, 4, 2_048, 16_383, 16_385, 16_391, MOST_CODE]);
+    }
+}
+
+/// Gives the case its words, fitted to where the unit stands at each.
+fn fill_case(random: &mut Random, maker: &mut Maker, wanted: u64) {
+    let taste = Taste::new(random);
+    let mut left = wanted as i64;
+    while left > 0 {
+        let before = maker.case.words.len();
+        let answer = if maker.wants_quadword() {
+            let quadword = random_quadword(random, maker, taste.b_percent);
+            maker.quadword(quadword)
+        } else {
+            let word = random_word(random, maker, &taste);
+            maker.word(word)
+        };
+        left -= (maker.case.words.len() - before) as i64;
+        match answer.saturating_sub(REFUSED) {
+            2..=5 => left = left.min(random.below(3) as i64),
+            30 | 31 if maker.waits_for_quadwords() => left = left.min(random.below(9) as i64),
+            _ => {}
+        }
+    }
+}
+
+/// What a case has more or less of.
+struct Taste {
+    interrupt_percent: u64,
+    illegal_percent: u64,
+    b_percent: u64,
+    unpack_percent: u64,
+    long_percent: u64,
+}
+
+impl Taste {
+    fn new(random: &mut Random) -> Taste {
+        Taste {
+            interrupt_percent: random.pick(&[0, 10, 10, 40]),
+            illegal_percent: random.pick(&[0, 1, 4]),
+            b_percent: random.pick(&[0, 0, 0, 0, 12]),
+            unpack_percent: random.pick(&[15, 40, 60]),
+            long_percent: random.pick(&[0, 0, 0, 5]),
+        }
+    }
+}
+
+/// The next word: a code, or a word of payload.
+fn random_word(random: &mut Random, maker: &Maker, taste: &Taste) -> u32 {
+    let number = maker.number();
+    match maker.unit() {
+        Some(unit) if unit.waiting.is_none() => {
+            let interrupt = random.percent(taste.interrupt_percent) as u32;
+            interrupt << 31 | random_code(random, &unit.registers, number, taste)
+        }
+        Some(unit) => match unit.waiting.unwrap().payload {
+            Payload::Stmask => random_mask(random),
+            _ => payload_word(random),
+        },
+        None => random.word(),
+    }
+}
+
+/// A code with its bit 31 clear.
+fn random_code(random: &mut Random, registers: &Registers, number: u32, taste: &Taste) -> u32 {
+    let imm = random.word() & 0xFFFF;
+    let num = random.word() & 0xFF;
+    if random.percent(taste.illegal_percent) {
+        return illegal_code(random);
+    }
+    let direct_percent = if number == 3 { 30 } else { 1 };
+    if random.percent(direct_percent) {
+        return random_direct(random);
+    }
+    if random.percent(taste.unpack_percent) {
+        return random_unpack_code(random, registers, taste);
+    }
+    match random.below(24) {
+        0 => code_word(0x00, num, imm),
+        1..=3 => random_cycle(random) | num << 16,
+        4..=5 => code_word(0x02, num, imm),
+        6..=7 => code_word(0x03, num, imm),
+        8 => code_word(0x04, num, imm),
+        9..=11 => {
+            let mode = random.pick(&[0, 1, 1, 2, 2, 2]);
+            code_word(0x05, num, imm & !3 | mode)
+        }
+        12 => code_word(0x06, num, imm),
+        13 => code_word(0x07, num, imm),
+        14 => code_word(random.pick(&[0x10, 0x11, 0x13]), num, imm),
+        15..=17 => code_word(random.pick(&[0x14, 0x15, 0x17]), num, imm),
+        18..=19 => code_word(0x20, num, imm),
+        20 => code_word(0x30, num, imm),
+        21 => code_word(0x31, num, imm),
+        _ => {
+            let mpg = random_mpg(random, 6);
+            let many = random.percent(taste.long_percent);
+            let count = if many {
+                random.pick(&[0, num])
+            } else {
+                mpg.count
+            };
+            code_word(0x4A, count, mpg.address | imm & 0xF800)
+        }
+    }
+}
+
+/// A code that is refused with 20, 21 or 23.
+fn illegal_code(random: &mut Random) -> u32 {
+    let rest = random.word() & 0x00FF_FFFF;
+    match random.below(6) {
+        0 => code_word(0x05, 0, 0) | rest | 3,
+        1 => {
+            let command = random.pick(&[0x63, 0x67, 0x6B, 0x73, 0x77, 0x7B]);
+            code_word(command, 0, 0) | rest
+        }
+        _ => loop {
+            let near = random.pick(&[0x08, 0x12, 0x16, 0x21, 0x32, 0x4B, 0x49, 0x52, 0x5F, 0x0A]);
+            let any = random.below(128) as u32;
+            let word = code_word(random.pick(&[near, any]), 0, 0) | rest;
+            if Code::decode(word) == Err(20) {
+                return word;
+            }
+        },
+    }
+}
+
+fn random_direct(random: &mut Random) -> u32 {
+    let quadwords = match random.below(20) {
+        0 => 0,
+        1 => random.word() & 0xFFFF,
+        2..=8 => 1,
+        9..=16 => random.within(2..=6) as u32,
+        _ => random.within(1..=40) as u32,
+    };
+    let num = random.word() & 0xFF;
+    code_word(random.pick(&[0x50, 0x51]), num, quadwords)
+}
+
+/// An UNPACK, or mostly STCYCL where the held CL and WL allow none.
+fn random_unpack_code(random: &mut Random, registers: &Registers, taste: &Taste) -> u32 {
+    if !cycle_legal(registers) && random.percent(80) {
+        return legal_cycle(random);
+    }
+    let formats = all_formats();
+    let format = random.pick(&formats);
+    let num = if random.percent(taste.long_percent) {
+        random.pick(&[0, 0, 255, 128]).min(random.word() & 0xFF)
+    } else {
+        random_num(random)
+    };
+    let flags = random.below(4) as u32;
+    unpack_word(random, format, flags, num)
+}
+
+fn random_num(random: &mut Random) -> u32 {
+    match random.below(30) {
+        0..=24 => random.within(1..=9) as u32,
+        25..=28 => random.within(1..=24) as u32,
+        _ => random.within(1..=100) as u32,
+    }
+}
+
+fn random_mpg(random: &mut Random, most: u64) -> Mpg {
+    let any = random.word() % 2_048;
+    let near_end = 2_048 - random.within(1..=4) as u32;
+    Mpg {
+        address: random.pick(&[any, any, 0, near_end]),
+        count: random.within(1..=most) as u32,
+    }
+}
+
+/// An UNPACK under way, with held words that no run need have left.
+fn random_unpack(random: &mut Random, format: Format, count: u32) -> Unpack {
+    let any = random.word() % 1_024;
+    let near_end = 1_024 - random.within(1..=6) as u32;
+    Unpack {
+        format,
+        masked: random.percent(50),
+        unsigned: random.percent(50),
+        address: random.pick(&[any, 0, near_end]),
+        count,
+        held: std::array::from_fn(|_| payload_word(random)),
+    }
+}
+
+/// STCYCL with CL and WL that UNPACK accepts.
+fn legal_cycle(random: &mut Random) -> u32 {
+    let small = random.within(1..=9) as u32;
+    let any = random.within(1..=255) as u32;
+    let (cl, wl) = match random.below(12) {
+        0..=1 => (1, 1),
+        2..=3 => (small, small),
+        4 => (any, any),
+        5..=6 => (small + random.within(1..=6) as u32, small),
+        7 => (any, 1),
+        8 => (any, random.within(1..=any as u64) as u32),
+        9 => (255, random.pick(&[1, 2, 3, 4, 5, 254, 255])),
+        10 => (random.within(5..=12) as u32, 5),
+        _ => (4, random.within(1..=4) as u32),
+    };
+    stcycl(cl, wl)
+}
+
+/// STCYCL with any CL and WL, mostly legal.
+fn random_cycle(random: &mut Random) -> u32 {
+    let any = random.word() & 0xFF;
+    match random.below(25) {
+        0 => stcycl(any, 0),
+        1 => stcycl(any / 2, any / 2 + 1),
+        2 => stcycl(any, random.word() & 0xFF),
+        _ => legal_cycle(random),
+    }
+}
+
+fn make_cycle_legal(random: &mut Random, registers: &mut Registers) {
+    let cycle = legal_cycle(random);
+    registers.cl = cycle & 0xFF;
+    registers.wl = cycle >> 8 & 0xFF;
+}
+
+fn random_mask(random: &mut Random) -> u32 {
+    let code = random.below(4) as u32;
+    let any = random.word();
+    match random.below(10) {
+        // The same code everywhere.
+        0 => code * 0x5555_5555,
+        // Each row its own code, or each field.
+        1 => 0xFFAA_5500u32.rotate_left(8 * code),
+        2 => 0xE4E4_E4E4u32.rotate_left(2 * code),
+        3 => 0xE493_4E39u32.rotate_left(8 * code),
+        // One field of one row.
+        4 => code << (2 * random.below(16)),
+        _ => any,
+    }
+}
+
+/// A word of payload, often at the edges of elements.
+fn payload_word(random: &mut Random) -> u32 {
+    let any = random.word();
+    match random.below(16) {
+        0 => 0,
+        1 => u32::MAX,
+        2 => 0x8000_7FFF,
+        3 => 0x7FFF_8000,
+        4 => 0x807F_807F,
+        5 => 0x7F80_FF01,
+        6 => any & 0x8080_8080,
+        7 => 1 << random.below(32),
+        _ => any,
+    }
+}
+
+/// A quadword for path 2: a tag, or data.
+fn random_quadword(random: &mut Random, maker: &Maker, b_percent: u64) -> u128 {
+    let idle = maker
+        .standing
+        .both
+        .as_ref()
+        .is_some_and(|(_, path)| path.place == Place::Idle);
+    if idle {
+        let with_b = random.percent(b_percent);
+        return random_tag(random, with_b);
+    }
+    match random.below(12) {
+        0 => 0,
+        1 => u128::MAX,
+        _ => random.quadword(),
+    }
+}
+
+/// A unit in range with nothing waiting.
+fn random_unit(random: &mut Random) -> Unit {
+    let mut ten = || random.word() & 0x3FF;
+    let (ofst, base, tops, top, itops, itop) = (ten(), ten(), ten(), ten(), ten(), ten());
+    let mut registers = Registers {
+        ofst,
+        base,
+        tops,
+        top,
+        itops,
+        itop,
+        dbf: random.percent(50),
+        mode: random.below(3) as u32,
+        mskpath3: random.percent(50),
+        mark: random.word() & 0xFFFF,
+        mask: random_mask(random),
+        row: std::array::from_fn(|_| payload_word(random)),
+        col: std::array::from_fn(|_| payload_word(random)),
+        ..Registers::default()
+    };
+    if random.percent(85) {
+        make_cycle_legal(random, &mut registers);
+    } else {
+        registers.cl = random.word() & 0xFF;
+        registers.wl = random.word() & 0xFF;
+    }
+    Unit {
+        registers,
+        waiting: None,
+    }
+}
+
+/// A unit in range inside the payload of a code.
+fn random_waiting_unit(random: &mut Random) -> Unit {
+    let mut unit = random_unit(random);
+    let num = random_num(random);
+    let count = random.pick(&[num, num, num, 256, 255]);
+    let payload = match random.below(14) {
+        0 => Payload::Stmask,
+        1 => Payload::Strow,
+        2 => Payload::Stcol,
+        3 => Payload::Mpg(Mpg {
+            count,
+            ..random_mpg(random, 1)
+        }),
+        4 => Payload::Direct,
+        5 => Payload::Directhl,
+        _ => {
+            make_cycle_legal(random, &mut unit.registers);
+            let formats = all_formats();
+            let format = random.pick(&formats);
+            Payload::Unpack(random_unpack(random, format, count))
+        }
+    };
+    let all = all_units(&payload) as u64;
+    let due = match random.below(4) {
+        0 => all,
+        1 => random.within(1..=all.min(4)),
+        2 => random.within(1..=all.min(40)),
+        _ => random.within(1..=all),
+    };
+    unit.waiting = Some(Waiting {
+        payload,
+        interrupt: random.percent(30),
+        due: due as u32,
+    });
+    unit
+}
+
+fn random_unit_block(random: &mut Random) -> Block {
+    match random.below(100) {
+        0..=24 => [0; 32],
+        25..=44 => write_block(&random_unit(random)),
+        45..=51 => {
+            // Words that mean nothing for what waits.
+            let mut block = write_block(&random_waiting_unit(random));
+            let from = match block[21] {
+                7 => return block,
+                4 => 26,
+                _ => 24,
+            };
+            block[from..].iter_mut().for_each(|w| *w = random.word());
+            if random.percent(40) {
+                block[21] = 0;
+            }
+            block
+        }
+        52..=91 => write_block(&random_waiting_unit(random)),
+        92..=97 => random_spoiled_block(random),
+        _ => std::array::from_fn(|_| random.word()),
+    }
+}
+
+/// A block in range but for one or two of its words.
+fn random_spoiled_block(random: &mut Random) -> Block {
+    let mut block = write_block(&random_waiting_unit(random));
+    for _ in 0..random.within(1..=2) {
+        let field = random.pick(&[
+            0, 1, 2, 3, 4, 5, 6, 7, 8, 9, 10, 11, 21, 22, 23, 24, 25, 26, 27, 28,
+        ]);
+        let one_more = block[field].wrapping_add(1);
+        block[field] = random.pick(&[
+            0,
+            2,
+            3,
+            256,
+            257,
+            1_024,
+            2_048,
+            65_536,
+            65_537,
+            u32::MAX,
+            one_more,
+        ]);
+    }
+    block
+}
+
+fn random_path_block(random: &mut Random) -> PathBlock {
+    match random.below(100) {
+        0..=59 => IDLE,
+        60..=89 => random_held_block(random),
+        90..=97 => random_gif_block(random),
+        98 => random_out_of_range_block(random),
+        _ => random_no_path_block(random),
+    }
+}
