@@ -1,7 +1,7 @@
 -- Fields of a quadword, read from its two halves.
-use mathlib.Core.Path.{_≡_, ap, _∙_}
+use mathlib.Core.Path.{_≡_, ap, sym, _∙_}
 use Prim.Native.Nat.{ℕ, _+_, _*_, _-_, _/_, _%_, _^_, _<_, _≤_}
-use native.Mathlib.Nat.{add-mul-div-right, add-mul-mod-self-right, div-div-eq-div-mul, div-eq-of-lt, div-one, mod-eq-of-lt, mod-lt, mul-assoc, zero-add}
+use native.Mathlib.Nat.{add-mul-div-right, add-mul-mod-self-right, div-div-eq-div-mul, div-eq-of-lt, div-one, mod-add-div', mod-eq-of-lt, mod-lt, mul-assoc, zero-add}
 use native.Mathlib.Omega.{arith}
 use lib.Pow.{pow-pos, pow-add}
 use Rattle.fields.specs.Fields.{bits, quadword}
@@ -14,14 +14,26 @@ pub bits-below : (x from to : ℕ) → bits x from to < 2 ^ (to + 1 - from)
 unfolding bits
 bits-below x from to = mod-lt (x / 2 ^ from) (pow-pos (to + 1 - from))
 
+-- a field that lies below bit n, whatever stands from bit n on
+pub field-low : (n low high from w : ℕ) → from + w ≤ n → (low + high * 2 ^ n) / 2 ^ from % 2 ^ w ≡ low / 2 ^ from % 2 ^ w
+field-low n low high from w h =
+    rw (pow-split from n (omega arith), ← mul-assoc high, add-mul-div-right low (high * 2 ^ (n - from)) (pow-pos from))
+    (rw (pow-split w (n - from) (omega arith), ← mul-assoc high) (add-mul-mod-self-right (low / 2 ^ from) _ (2 ^ w)))
+
+-- so a field of the low n bits is that field of the number
+pub field-mod : (n x from w : ℕ) → from + w ≤ n → x % 2 ^ n / 2 ^ from % 2 ^ w ≡ x / 2 ^ from % 2 ^ w
+field-mod n x from w h =
+    sym (field-low n (x % 2 ^ n) (x / 2 ^ n) from w h) ∙ rw (mod-add-div' x (2 ^ n))
+
+-- a field further up
+pub field-up : (x k from w : ℕ) → x / 2 ^ (k + from) % 2 ^ w ≡ x / 2 ^ k / 2 ^ from % 2 ^ w
+field-up x k from w = rw (pow-add 2 k from, ← div-div-eq-div-mul x)
+
 module _ (low high : ℕ) where
   -- a field that lies in the low half
   pub bits-low : (from to : ℕ) → from ≤ to → to < 64 → bits (quadword low high) from to ≡ low / 2 ^ from % 2 ^ (to + 1 - from)
   unfolding bits quadword
-  bits-low from to h t =
-      rw (pow-split from 64 (omega arith), ← mul-assoc high, add-mul-div-right low (high * 2 ^ (64 - from)) (pow-pos from))
-      (rw (pow-split (to + 1 - from) (64 - from) (omega arith), ← mul-assoc high)
-      (add-mul-mod-self-right (low / 2 ^ from) _ (2 ^ (to + 1 - from))))
+  bits-low from to h t = field-low 64 low high from (to + 1 - from) (omega arith)
 
   -- a field that lies in the high half
   pub bits-high : low < 2 ^ 64 → (from to : ℕ) → 64 ≤ from → bits (quadword low high) from to ≡ high / 2 ^ (from - 64) % 2 ^ (to + 1 - from)

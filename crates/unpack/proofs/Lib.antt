@@ -1,0 +1,5 @@
+-- Laws of the definitions, by subject; the crates above cite them.
+pub mod PayloadLaws
+pub mod VectorLaws
+pub mod WriteLaws
+pub mod StepLaws

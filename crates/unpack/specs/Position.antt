@@ -1,0 +1,5 @@
+-- Where a vector goes: document 01's "Vector i goes to quadword (A + (i div WL) x CL + i mod WL) modulo 1,024", once over the memory's size.
+use Prim.Native.Nat.{ℕ, _+_, _*_, _/_, _%_}
+
+unfoldable pub positionOf : ℕ → ℕ → ℕ → ℕ → ℕ → ℕ
+positionOf size a cl wl i = (a + i / wl * cl + i % wl) % size

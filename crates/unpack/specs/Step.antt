@@ -1,0 +1,91 @@
+-- One payload word of an UNPACK.
+use Prim.Native.Nat.{ℕ, _+_, _*_, _-_, _%_}
+use mathlib.Core.Bool.{Bool, true, false, _&&_}
+use mathlib.Core.List.{List, [], _∷_}
+use lib.ListN.{length}
+use lib.Dec.{eqb, leb}
+use Rattle.fields.specs.Fields.{if}
+use Rattle.unpack.specs.declared.Format.{Format}
+use Rattle.unpack.specs.declared.Unpacking.{Unpacking}
+use Rattle.unpack.specs.declared.Registers.{Registers}
+use Rattle.unpack.specs.declared.Rows.{Rows}
+use Rattle.unpack.specs.Payload.{isFive, vectorBits, payloadWords, value, wholeVectors}
+use Rattle.unpack.specs.Vector.{vectorAt}
+use Rattle.unpack.specs.Mask.{maskOf}
+use Rattle.unpack.specs.Write.{Written, written, writeVectors}
+use Rattle.unpack.specs.Range.{cycleInRange, unpackingInRange}
+
+-- "NUM 0 means 256 vectors"; NUM has eight bits
+unfoldable pub countOf : ℕ → ℕ
+countOf num = if (eqb (num % 256) 0) 256 (num % 256)
+
+-- an UNPACK code whose whole payload is due, nothing of it taken
+unfoldable pub unpackingOf : Format → ℕ → ℕ → Bool → Bool → Bool → Unpacking
+unpackingOf f a num usn masked interrupt =
+    record {
+      address = a % 1024;
+      count = countOf num;
+      due = payloadWords f (countOf num);
+      usn = usn;
+      masked = masked;
+      interrupt = interrupt;
+      first = 0;
+      second = 0;
+      third = 0;
+    }
+
+-- the payload words already taken
+unfoldable pub takenWords : Format → Unpacking → ℕ
+takenWords f u = payloadWords f (u .count) - u .due
+
+-- The registers as this UNPACK reads them: "With M clear all codes are 0"; "MODE doesn't act on vl 3."
+unfoldable pub acting : Format → Unpacking → Registers → Registers
+acting f u r =
+    record {
+      cl = r .cl;
+      wl = r .wl;
+      mode = if (isFive f) 0 (r .mode);
+      mask = maskOf (u .masked) (r .mask);
+      col = r .col;
+    }
+
+-- The vector i, from the last four payload words: the three held and the one that comes, which is word k. What the program holds is its own
+-- choice; `PayloadLaws` ties this to the bits of the whole payload.
+unfoldable pub heldVector : Format → Unpacking → ℕ → ℕ → ℕ → List ℕ
+heldVector f u word k i =
+    vectorAt f (u .usn) (value (u .first ∷ u .second ∷ u .third ∷ word ∷ [])) (i * vectorBits f + 96 - 32 * k)
+
+-- "After k payload words, exactly the vectors lying wholly in them have been written": word k writes those that it completes
+unfoldable pub wordOf : ℕ → Format → Unpacking → Registers → ℕ → ℕ → Written → Written
+wordOf size f u r word k w =
+    writeVectors size (u .address) (acting f u r) (heldVector f u word k)
+    (wholeVectors f (u .count) (k + 1) - wholeVectors f (u .count) k)
+    (wholeVectors f (u .count) k)
+    w
+
+-- the pure step: the next payload word is taken
+unfoldable pub unpackWord : ℕ → Format → Unpacking → Registers → ℕ → Written → Written
+unpackWord size f u r word w = wordOf size f u r word (takenWords f u) w
+
+-- what a call leaves
+pub record Left : Type 0 where
+  pub accepted : Bool
+  pub row : List ℕ
+  pub mem : List ℕ
+
+abbrev pub left : Rows → List ℕ → Left
+left r mem = record { accepted = r .accepted; row = r .row; mem = mem }
+
+-- The public step tests its own input: a memory of 4 x size words, size 1 to 1,024, and an UNPACK and CL, WL in range; else nothing changes.
+unfoldable pub acceptable : ℕ → Format → Unpacking → Registers → List ℕ → Bool
+acceptable size f u r mem =
+    leb 1 size
+    && (leb size 1024 && (eqb (length mem) (4 * size) && (cycleInRange (r .cl) (r .wl) && unpackingInRange f u)))
+
+abbrev pub leftOf : Written → Left
+leftOf w = record { accepted = true; row = w .row; mem = w .mem }
+
+unfoldable pub takeOf : ℕ → Format → Unpacking → Registers → ℕ → List ℕ → List ℕ → Left
+takeOf size f u r word row mem =
+    if (acceptable size f u r mem) (leftOf (unpackWord size f u r word (written row mem)))
+    (record { accepted = false; row = row; mem = mem })

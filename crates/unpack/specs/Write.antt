@@ -1,0 +1,68 @@
+-- A vector's write: document 01's "Code 0 data, 1 ROW of the field, 2 COL of the row, 3 field unchanged" and the modes.
+use Prim.Native.Nat.{ℕ, zero, suc, _+_, _*_, _%_, _^_}
+use mathlib.Core.Bool.{Bool}
+use mathlib.Core.List.{List, [], _∷_}
+use lib.ListN.{getD, set}
+use lib.Dec.{eqb}
+use Rattle.fields.specs.Fields.{if}
+use Rattle.unpack.specs.declared.Registers.{Registers}
+use Rattle.unpack.specs.Position.{positionOf}
+use Rattle.unpack.specs.Mask.{rowOfCycle, codeRow}
+
+-- "Sums are modulo 2^32."
+unfoldable pub added : ℕ → ℕ → ℕ
+added x y = (x + y) % 2 ^ 32
+
+-- "MODE 2 replaces ROW of each of the four fields by data + ROW"
+unfoldable pub rowOf : ℕ → ℕ → ℕ → ℕ
+rowOf mode x row = if (eqb mode 2) (added x row) row
+
+-- "MODE 1: code 0 gives data + ROW of the field. MODE 2 ...: a field of code 0 gets the new ROW"
+unfoldable pub dataOf : ℕ → ℕ → ℕ → ℕ
+dataOf mode x row = if (eqb mode 1) (added x row) (if (eqb mode 2) (rowOf mode x row) x)
+
+-- "Code 0 data, 1 ROW of the field, 2 COL of the row, 3 field unchanged"; "codes 1 and 2 use ROW and COL as before this vector"
+unfoldable pub fieldOf : ℕ → ℕ → ℕ → ℕ → ℕ → ℕ → ℕ
+fieldOf code mode x row col old =
+    if (eqb code 0) (dataOf mode x row) (if (eqb code 1) row (if (eqb code 2) col old))
+
+unfoldable pub rowsAfter : ℕ → List ℕ → List ℕ → List ℕ
+rowsAfter mode fields row =
+    rowOf mode (getD fields 0 0) (getD row 0 0)
+    ∷ rowOf mode (getD fields 1 0) (getD row 1 0)
+    ∷ rowOf mode (getD fields 2 0) (getD row 2 0)
+    ∷ rowOf mode (getD fields 3 0) (getD row 3 0)
+    ∷ []
+
+-- the memory with a field written
+unfoldable pub putField : List ℕ → ℕ → ℕ → ℕ → ℕ → ℕ → ℕ → List ℕ
+putField mem at code mode x row col = set mem at (fieldOf code mode x row col (getD mem at 0))
+
+-- the memory with a quadword written, field by field
+unfoldable pub writtenAt : List ℕ → ℕ → List ℕ → List ℕ → ℕ → List ℕ → ℕ → List ℕ
+writtenAt mem quad fields row col codes mode =
+    put 3 (4 * quad + 3) (put 2 (4 * quad + 2) (put 1 (4 * quad + 1) (put 0 (4 * quad) mem)))
+  where
+    put : ℕ → ℕ → List ℕ → List ℕ
+    put f at m = putField m at (getD codes f 0) mode (getD fields f 0) (getD row f 0) col
+
+-- ROW and the data memory, which writes change
+pub record Written : Type 0 where
+  pub row : List ℕ
+  pub mem : List ℕ
+
+abbrev pub written : List ℕ → List ℕ → Written
+written row mem = record { row = row; mem = mem }
+
+-- write i of an UNPACK: its quadword, its mask row and "COL of the row" by i, in a memory of `size` quadwords
+unfoldable pub writeVector : ℕ → ℕ → Registers → ℕ → List ℕ → Written → Written
+writeVector size a r i fields w =
+    written (rowsAfter (r .mode) fields (w .row))
+    (writtenAt (w .mem) (positionOf size a (r .cl) (r .wl) i) fields (w .row) (getD (r .col) (rowOfCycle (r .wl) i) 0)
+    (codeRow (r .mask) (rowOfCycle (r .wl) i))
+    (r .mode))
+
+-- n vectors from number i on, in order
+unfoldable pub writeVectors : ℕ → ℕ → Registers → (ℕ → List ℕ) → ℕ → ℕ → Written → Written
+writeVectors size a r vec zero i w = w
+writeVectors size a r vec (suc n) i w = writeVectors size a r vec n (suc i) (writeVector size a r i (vec i) w)

@@ -1,0 +1,148 @@
+// One payload word of an UNPACK.
+use super::Format;
+use super::Registers;
+use super::Rows;
+use super::Unpacking;
+use super::mask::mask_of;
+use super::mask::unfold_mask;
+use super::payload::is_five;
+use super::payload::payload_words;
+use super::payload::vector_bits;
+use super::payload::whole_vectors;
+use super::range::cycle_in_range;
+use super::range::unpacking_in_range;
+use super::vector::vector;
+use super::write::write_vector;
+ghost use mathlib.Core.Path.{_≡_};
+ghost use mathlib.Core.List.{[], _∷_};
+ghost use Prim.Native.Nat.{_-_, _≤_, _+_};
+ghost use lib.ListN.{length};
+ghost use Rattle.fields.specs.Fields.{if};
+ghost use Rattle.unpack.specs.Payload.{isFive};
+ghost use Rattle.unpack.specs.Mask.{unfolded};
+ghost use Rattle.unpack.specs.Write.{written, writeVector, writeVectors};
+ghost use Rattle.unpack.specs.Range.{CycleFits, UnpackingFits};
+ghost use Rattle.unpack.specs.Inner.{MemoryFits, VectorIn, WordFits};
+ghost use Rattle.unpack.specs.Step.{acting, heldVector, wordOf, unpackWord, left, acceptable, takeOf};
+
+// The registers as an UNPACK reads them.
+fn acting_registers(f: Format, u: Unpacking, r: Registers) -> Registers
+    ensures { λ s. ⌜ s ≡ acting f u r ⌝ }
+{
+    let col = r.col;
+    Registers {
+        cl: r.cl,
+        wl: r.wl,
+        mode: mode_of(f, r.mode),
+        mask: mask_of(u.masked, r.mask),
+        col,
+    }
+}
+
+fn mode_of(f: Format, mode: u32) -> u32
+    ensures { λ r. ⌜ r ≡ if (isFive f) 0 mode ⌝ }
+{
+    if is_five(f) { 0 } else { mode }
+}
+
+// Vector i, from the three words held and word k.
+fn held_vector(f: Format, u: Unpacking, word: u32, k: u32, i: u32) -> [u32; 4]
+    requires { ⌜ VectorIn f k i × (k ≤ 1024) × (i ≤ 255) ⌝ }
+    ensures { λ r. ⌜ r ≡ heldVector f u word k i ⌝ }
+{
+    let at = i * vector_bits(f) + 96 - 32 * k;
+    vector(f, u.usn, u.first, u.second, u.third, word, at)
+}
+
+// The vectors from number `from` to below `to`, which word k completes.
+fn write_vectors(
+    size: u32,
+    f: Format,
+    u: Unpacking,
+    r: Registers,
+    word: u32,
+    k: u32,
+    from: u32,
+    to: u32,
+    row: [u32; 4],
+    data: &mut [u32],
+) -> [u32; 4]
+    requires { ⌜ WordFits size f u r k from to (now «data») ⌝ }
+    ensures { λ rows. ⌜ written rows (now («data» .exit)) ≡ writeVectors size (u .address) r (heldVector f u word k) (to - from) from (written row (now («data» .entry))) ⌝ }
+{
+    let codes = unfold_mask(r.mask);
+    let mut rows = row;
+    let mut i = from;
+    while i < to {
+        let fields = held_vector(f, u, word, k, i);
+        let next = write_vector(size, u.address, r, codes, i, fields, rows, data);
+        rows = next;
+        i += 1;
+    }
+    rows
+}
+
+// The next payload word, where all was tested.
+fn take(
+    size: u32,
+    f: Format,
+    u: Unpacking,
+    r: Registers,
+    word: u32,
+    row: [u32; 4],
+    data: &mut [u32],
+) -> [u32; 4]
+    requires { ⌜ CycleFits (r .cl) (r .wl) × UnpackingFits f u × MemoryFits size (now «data») ⌝ }
+    ensures { λ rows. ⌜ written rows (now («data» .exit)) ≡ unpackWord size f u r word (written row (now («data» .entry))) ⌝ }
+{
+    let k = payload_words(f, u.count) - u.due;
+    let from = whole_vectors(f, u.count, k);
+    let to = whole_vectors(f, u.count, k + 1);
+    let s = acting_registers(f, u, r);
+    write_vectors(size, f, u, s, word, k, from, to, row, data)
+}
+
+// The next payload word of an UNPACK, in a memory of `size` quadwords, on any input at all.
+pub fn take_word(
+    size: u32,
+    f: Format,
+    u: Unpacking,
+    r: Registers,
+    word: u32,
+    row: [u32; 4],
+    data: &mut [u32],
+) -> Rows
+    ensures { λ s. ⌜ left s (now («data» .exit)) ≡ takeOf size f u r word row (now («data» .entry)) ⌝ }
+{
+    if acceptable_input(size, f, u, r, data) {
+        let rows = take(size, f, u, r, word, row, data);
+        Rows {
+            accepted: true,
+            row: rows,
+        }
+    } else {
+        Rows {
+            accepted: false,
+            row,
+        }
+    }
+}
+
+fn acceptable_input(size: u32, f: Format, u: Unpacking, r: Registers, data: &[u32]) -> bool
+    ensures { λ b. ⌜ b ≡ acceptable size f u r (now («data» .entry)) ⌝ }
+{
+    if size < 1 {
+        return false;
+    }
+    if 1024 < size {
+        return false;
+    }
+    if data.len() != 4 * size as usize {
+        return false;
+    }
+    if cycle_in_range(r.cl, r.wl) {
+        unpacking_in_range(f, u)
+    } else {
+        false
+    }
+}

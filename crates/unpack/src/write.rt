@@ -1,0 +1,111 @@
+// Vectors written to data memory.
+use super::Registers;
+use super::mask::row_of_cycle;
+ghost use mathlib.Core.Path.{_≡_};
+ghost use Prim.Native.Nat.{_<_, _≤_, _+_, _*_};
+ghost use lib.ListN.{length, getD};
+ghost use Rattle.unpack.specs.Position.{positionOf};
+ghost use Rattle.unpack.specs.Mask.{unfolded};
+ghost use Rattle.unpack.specs.Write.{added, rowOf, dataOf, fieldOf, rowsAfter, putField, writtenAt, written, writeVector};
+ghost use Rattle.unpack.specs.Range.{CycleFits};
+ghost use Rattle.unpack.specs.Inner.{MemoryFits};
+
+fn add(x: u32, y: u32) -> u32
+    ensures { λ r. ⌜ r ≡ added x y ⌝ }
+{
+    std::num::wrapping_add_u32(x, y)
+}
+
+fn next_row(mode: u32, x: u32, row: u32) -> u32
+    ensures { λ r. ⌜ r ≡ rowOf mode x row ⌝ }
+{
+    if mode == 2 { add(x, row) } else { row }
+}
+
+fn data_of(mode: u32, x: u32, row: u32) -> u32
+    ensures { λ r. ⌜ r ≡ dataOf mode x row ⌝ }
+{
+    match mode {
+        1 => add(x, row),
+        2 => next_row(2, x, row),
+        _ => x,
+    }
+}
+
+fn field(code: u32, mode: u32, x: u32, row: u32, col: u32, old: u32) -> u32
+    ensures { λ r. ⌜ r ≡ fieldOf code mode x row col old ⌝ }
+{
+    match code {
+        0 => data_of(mode, x, row),
+        1 => row,
+        2 => col,
+        _ => old,
+    }
+}
+
+fn put_field(data: &mut [u32], at: usize, code: u32, mode: u32, x: u32, row: u32, col: u32)
+    requires { ⌜ at < length (now «data») ⌝ }
+    ensures { λ r. ⌜ now («data» .exit) ≡ putField (now («data» .entry)) at code mode x row col ⌝ }
+{
+    data[at] = field(code, mode, x, row, col, data[at]);
+}
+
+fn next_rows(mode: u32, fields: [u32; 4], row: [u32; 4]) -> [u32; 4]
+    ensures { λ r. ⌜ r ≡ rowsAfter mode fields row ⌝ }
+{
+    [
+        next_row(mode, fields[0], row[0]),
+        next_row(mode, fields[1], row[1]),
+        next_row(mode, fields[2], row[2]),
+        next_row(mode, fields[3], row[3]),
+    ]
+}
+
+fn write_quadword(
+    data: &mut [u32],
+    quad: usize,
+    fields: [u32; 4],
+    row: [u32; 4],
+    col: u32,
+    codes: [u32; 4],
+    mode: u32,
+) -> [u32; 4]
+    requires { ⌜ 4 * quad + 4 ≤ length (now «data») ⌝ }
+    ensures { λ r. ⌜ (r ≡ rowsAfter mode fields row) × (now («data» .exit) ≡ writtenAt (now («data» .entry)) quad fields row col codes mode) ⌝ }
+{
+    let at = 4 * quad;
+    put_field(data, at, codes[0], mode, fields[0], row[0], col);
+    put_field(data, at + 1, codes[1], mode, fields[1], row[1], col);
+    put_field(data, at + 2, codes[2], mode, fields[2], row[2], col);
+    put_field(data, at + 3, codes[3], mode, fields[3], row[3], col);
+    next_rows(mode, fields, row)
+}
+
+// The quadword that a write goes to.
+fn position(size: u32, address: u32, cl: u32, wl: u32, i: u32) -> u32
+    requires { ⌜ CycleFits cl wl × (0 < size) × (address ≤ 1023) × (i ≤ 255) ⌝ }
+    ensures { λ r. ⌜ r ≡ positionOf size address cl wl i ⌝ }
+{
+    (address + i / wl * cl + i % wl) % size
+}
+
+// Write i of an UNPACK.
+pub(crate) fn write_vector(
+    size: u32,
+    address: u32,
+    r: Registers,
+    codes: [[u32; 4]; 4],
+    i: u32,
+    fields: [u32; 4],
+    row: [u32; 4],
+    data: &mut [u32],
+) -> [u32; 4]
+    requires { ⌜ CycleFits (r .cl) (r .wl) × MemoryFits size (now «data») × (address ≤ 1023) × (i ≤ 255) × (codes ≡ unfolded (r .mask)) ⌝ }
+    ensures { λ rows. ⌜ written rows (now («data» .exit)) ≡ writeVector size address r i fields (written row (now («data» .entry))) ⌝ }
+{
+    let quad = position(size, address, r.cl, r.wl, i);
+    let c = row_of_cycle(r.wl, i) as usize;
+    let col = r.col;
+    let chosen = codes[c];
+    write_quadword(data, quad as usize, fields, row, col[c], chosen, r.mode)
+}
