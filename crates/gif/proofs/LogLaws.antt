@@ -16,7 +16,7 @@ use Rattle.gif.specs.declared.GifAnswer.the-variants.{Taken}
 use Rattle.gif.specs.declared.Writes.{Writes}
 use Rattle.gif.specs.declared.Writes.the-variants.{Nothing, One, Two}
 use Rattle.fields.specs.Fields.{if}
-use Rattle.gif.specs.Log.{numbers, listed, logged, lacksRoom}
+use Rattle.gif.specs.Log.{numbers, listed, logged, lacksRoom, Entered, entered, entryOf}
 use Rattle.gif.specs.Step.{Left, refused, commit}
 
 -- one entry is two stores
@@ -109,3 +109,22 @@ module _ (log : List ℕ) (used : ℕ) (es : List Entry) (h : 2 * (used + length
   pub logged-below : take (2 * used) (logged log used es) ≡ take (2 * used) log
   logged-below =
       rw (logged-parts, append-assoc) (take-at (take (2 * used) log) _ (2 * used) front-length)
+
+-- one entry, with room for it and without
+module _ (log : List ℕ) (used : ℕ) (e : Entry) where
+  pub entry-fits : 2 * (used + 1) ≤ length log → {m : List ℕ} → m ≡ logged log used (e ∷ []) → entered true m ≡ entryOf log used e
+  unfolding entryOf lacksRoom if
+  entry-fits h q = rw (le-ltb (length log) (2 * (used + 1)) h, q)
+
+  pub entry-full : length log < 2 * (used + 1) → entered false log ≡ entryOf log used e
+  unfolding entryOf lacksRoom if
+  entry-full h = rw (lt-ltb (length log) (2 * (used + 1)) h)
+
+  -- what was stored says of the room
+  pub entry-stored : {b : Bool} {m : List ℕ} → entered b m ≡ entryOf log used e → b ≡ true → 2 * (used + 1) ≤ length log
+  unfolding entryOf lacksRoom if
+  entry-stored {b} q t = go (ltb (length log) (2 * (used + 1))) refl (ap (λ (x : Entered). x .stored) q)
+    where
+      go : (c : Bool) → ltb (length log) (2 * (used + 1)) ≡ c → b ≡ if c (entered false log) (entered true (logged log used (e ∷ []))) .stored → 2 * (used + 1) ≤ length log
+      go true w s = absurd (let z : _≡_ {A = ℕ} 0 1 = cc in omega arith)
+      go false w s = ltb-false (length log) (2 * (used + 1)) w

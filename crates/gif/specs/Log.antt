@@ -1,10 +1,11 @@
 -- The log: document 01's "Each write is a log entry: register, value, two 64-bit numbers."
 use Prim.Native.Nat.{ℕ, _+_, _*_, _%_, _≤_}
-use mathlib.Core.Bool.{Bool, _||_}
+use mathlib.Core.Bool.{Bool, true, false, _||_}
 use mathlib.Core.List.{List, [], _∷_, _++_}
 use lib.ListN.{length}
 use lib.Seq.{sets}
 use lib.Dec.{eqb, ltb}
+use Rattle.fields.specs.Fields.{if}
 use Rattle.gif.specs.declared.Entry.{Entry}
 use Rattle.gif.specs.declared.Writes.{Writes}
 use Rattle.gif.specs.declared.Writes.the-variants.{Nothing, One, Two}
@@ -33,6 +34,17 @@ lacksRoom log used es = ltb (length log) (entrySize * (used + length es))
 unfoldable pub logRefused : List ℕ → ℕ → Bool
 logRefused log used =
     eqb (length log % 2) 1 || (ltb 131072 (length log) || ltb (length log) (entrySize * used))
+
+-- one entry stored where there is room for it, and whether it was
+pub record Entered : Type 0 where
+  pub stored : Bool
+  pub log : List ℕ
+
+abbrev pub entered : Bool → List ℕ → Entered
+entered b log = record { stored = b; log = log }
+
+unfoldable pub entryOf : List ℕ → ℕ → Entry → Entered
+entryOf log used e = if (lacksRoom log used (e ∷ [])) (entered false log) (entered true (logged log used (e ∷ [])))
 
 -- what the program holds of a step's writes, of which there are at most two, as a list
 abbrev pub listed : Writes → List Entry

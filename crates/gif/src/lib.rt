@@ -9,6 +9,8 @@ mod tag;
 
 pub use block::path_block;
 pub use block::path_in_block;
+pub use log::log_refused;
+pub use log::write_entry;
 pub use range::path_in_range;
 pub use step::take_quadword;
 

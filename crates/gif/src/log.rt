@@ -8,7 +8,7 @@ ghost use mathlib.Core.Path.{_≡_};
 ghost use mathlib.Core.List.{[], _∷_};
 ghost use Prim.Native.Nat.{_+_, _*_, _≤_};
 ghost use lib.ListN.{length};
-ghost use Rattle.gif.specs.Log.{listed, logged, logRefused, LogFits};
+ghost use Rattle.gif.specs.Log.{entry, listed, logged, logRefused, LogFits, entered, entryOf};
 ghost use Rattle.gif.specs.Step.{left, commit};
 
 fn count(writes: Writes) -> u64
@@ -72,7 +72,7 @@ pub(crate) fn finish(
 }
 
 // Whether refusal 4 names this length.
-pub(crate) fn log_refused(log: &[u64], used: u64) -> bool
+pub fn log_refused(log: &[u64], used: u64) -> bool
     ensures { λ r. ⌜ r ≡ logRefused (now (log .entry)) used ⌝ }
 {
     let n = log.len() as u64;
@@ -83,4 +83,16 @@ pub(crate) fn log_refused(log: &[u64], used: u64) -> bool
         return true;
     }
     n / 2 < used
+}
+
+// Stores one entry after the first `used` ones, where there is room for it.
+pub fn write_entry(log: &mut [u64], used: u64, register: u64, value: u64) -> bool
+    ensures { λ r. ⌜ entered r (now (log .exit)) ≡ entryOf (now (log .entry)) used (entry register value) ⌝ }
+{
+    if used < (log.len() / 2) as u64 {
+        put(log, used, Entry { register, value });
+        true
+    } else {
+        false
+    }
 }

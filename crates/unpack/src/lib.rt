@@ -6,6 +6,7 @@ mod step;
 mod vector;
 mod write;
 
+pub use payload::count_of;
 pub use payload::waiting_for;
 pub use range::cycle_in_range;
 pub use range::unpacking_in_range;

@@ -89,7 +89,7 @@ pub(crate) fn whole_vectors(f: Format, count: u32, words: u32) -> u32
 }
 
 // "NUM 0 means 256".
-pub(crate) fn count_of(num: u32) -> u32
+pub fn count_of(num: u32) -> u32
     ensures { λ r. ⌜ r ≡ countOf num ⌝ }
 {
     if num % 256 == 0 { 256 } else { num % 256 }

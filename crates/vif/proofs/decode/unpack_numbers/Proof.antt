@@ -1,0 +1,11 @@
+use Rattle.vif.proofs.decode.unpack_numbers.Statement.{statement}
+use Rattle.vif.proofs.decode.unpack_numbers.Tie as tie
+use Rattle.vif.proofs.decode.unpack_numbers.Reads as reads
+use Rattle.vif.proofs.decode.unpack_numbers.Lts as lts
+
+-- src/decode.rt:76:1
+returns : tie.Need-returns
+returns c = ?
+
+pub unpack-numbers-spec : {M : Type 1} → statement M
+unpack-numbers-spec = tie.close (tie.spec returns)

@@ -1,0 +1,32 @@
+use borrow.Author.Needs.{needs}
+use Rattle.vif.proofs.execute.set_mode.Statement.{statement}
+use Rattle.vif.proofs.execute.set_mode.Tie as tie
+use Rattle.vif.proofs.execute.set_mode.Reads as reads
+use Rattle.vif.proofs.execute.set_mode.Lts as lts
+use Rattle.vif.proofs.execute.answered.Reads as answered-reads
+use Rattle.vif.proofs.execute.done.Reads as done-reads
+use Rattle.vif.proofs.registers.with_mode.Reads as with-mode-reads
+
+-- src/execute.rt:85:9
+answered-requires : tie.Need-answered-requires
+answered-requires c κs = search needs
+
+-- src/execute.rt:87:14
+with-mode-requires : tie.Need-with-mode-requires
+with-mode-requires c κs = search needs
+
+-- src/execute.rt:87:9
+done-requires : tie.Need-done-requires
+done-requires c κs = search needs
+
+-- src/execute.rt:81:1
+returns : tie.Need-returns
+returns c = ?
+
+-- src/execute.rt:81:1
+returns-2 : tie.Need-returns-2
+returns-2 c = ?
+
+pub set-mode-spec : {M : Type 1} → statement M
+set-mode-spec =
+    tie.close (tie.spec answered-requires with-mode-requires done-requires returns returns-2)

@@ -1,0 +1,15 @@
+use Rattle.vif.proofs.range.up_to.Statement.{statement}
+use Rattle.vif.proofs.range.up_to.Tie as tie
+use Rattle.vif.proofs.range.up_to.Reads as reads
+use Rattle.vif.proofs.range.up_to.Lts as lts
+
+-- src/range.rt:16:9
+returns : tie.Need-returns
+returns c = ?
+
+-- src/range.rt:12:1
+returns-2 : tie.Need-returns-2
+returns-2 c = ?
+
+pub up-to-spec : {M : Type 1} → statement M
+up-to-spec = tie.close (tie.spec returns returns-2)

@@ -1,0 +1,90 @@
+-- VIF codes: document 01's "Bits 0-15 IMM, 16-23 NUM, 24-30 CMD, 31 interrupt. Each word is decoded into one case of a closed list of codes, each case
+-- with its own numbers."
+use Prim.Native.Nat.{ℕ, _+_, _*_, _/_, _%_, _^_}
+use mathlib.Core.Bool.{Bool}
+use lib.Dec.{eqb, leb}
+use Rattle.fields.specs.Fields.{if, bits}
+use Rattle.unpack.specs.declared.Format.{Format}
+use Rattle.unpack.specs.declared.Format.the-variants.{S32, S16, S8, V2x32, V2x16, V2x8, V3x32, V3x16, V3x8, V4x32, V4x16, V4x8, V4x5}
+use Rattle.vif.specs.declared.Code.{Code}
+use Rattle.vif.specs.declared.Code.the-variants.{Nop, Stcycl, Offset, Base, Itop, Stmod, Mskpath3, Mark, Flushe, Flush, Flusha, Mscal, Mscalf, Mscnt, Stmask, Strow, Stcol, Mpg, Direct, Directhl, Unpack}
+use Rattle.vif.specs.declared.UnpackCode.{UnpackCode}
+use Rattle.vif.specs.declared.Decoded.{Decoded}
+use Rattle.vif.specs.declared.Decoded.the-variants.{Known, Unknown}
+
+abbrev pub immOf : ℕ → ℕ
+immOf word = bits word 0 15
+
+abbrev pub numOf : ℕ → ℕ
+numOf word = bits word 16 23
+
+abbrev pub cmdOf : ℕ → ℕ
+cmdOf word = bits word 24 30
+
+abbrev pub interruptOf : ℕ → Bool
+interruptOf word = eqb (bits word 31 31) 1
+
+-- "50 DIRECT, 51 DIRECTHL: IMM quadwords to path 2 (0 means 65,536)."
+unfoldable pub quadwordsOf : ℕ → ℕ
+quadwordsOf imm = if (eqb imm 0) 65536 imm
+
+-- the codes below 60h, with the numbers of the document; all numbers are hexadecimal there
+unfoldable pub plainCode : ℕ → ℕ → ℕ → Decoded
+plainCode cmd num imm =
+    if (eqb cmd 0) (Known Nop)
+    (if (eqb cmd 1) (Known (Stcycl (bits imm 0 7) (bits imm 8 15)))
+    (if (eqb cmd 2) (Known (Offset (bits imm 0 9)))
+    (if (eqb cmd 3) (Known (Base (bits imm 0 9)))
+    (if (eqb cmd 4) (Known (Itop (bits imm 0 9)))
+    (if (eqb cmd 5) (Known (Stmod (bits imm 0 1)))
+    (if (eqb cmd 6) (Known (Mskpath3 (eqb (bits imm 15 15) 1)))
+    (if (eqb cmd 7) (Known (Mark imm))
+    (if (eqb cmd 16) (Known Flushe)
+    (if (eqb cmd 17) (Known Flush)
+    (if (eqb cmd 19) (Known Flusha)
+    (if (eqb cmd 20) (Known (Mscal imm))
+    (if (eqb cmd 21) (Known (Mscalf imm))
+    (if (eqb cmd 23) (Known Mscnt)
+    (if (eqb cmd 32) (Known Stmask)
+    (if (eqb cmd 48) (Known Strow)
+    (if (eqb cmd 49) (Known Stcol)
+    (if (eqb cmd 74) (Known (Mpg (imm % 2048) num))
+    (if (eqb cmd 80) (Known (Direct (quadwordsOf imm)))
+    (if (eqb cmd 81) (Known (Directhl (quadwordsOf imm)))
+    (Unknown 20))))))))))))))))))))
+
+-- "CMD bits 0-1 vl, bits 2-3 vn": the formats by the number of bits 0-3; "21 vl 3 with vn below 3"
+unfoldable pub unpackCode : ℕ → UnpackCode → Decoded
+unpackCode format u =
+    if (eqb format 0) (Known (Unpack S32 u))
+    (if (eqb format 1) (Known (Unpack S16 u))
+    (if (eqb format 2) (Known (Unpack S8 u))
+    (if (eqb format 4) (Known (Unpack V2x32 u))
+    (if (eqb format 5) (Known (Unpack V2x16 u))
+    (if (eqb format 6) (Known (Unpack V2x8 u))
+    (if (eqb format 8) (Known (Unpack V3x32 u))
+    (if (eqb format 9) (Known (Unpack V3x16 u))
+    (if (eqb format 10) (Known (Unpack V3x8 u))
+    (if (eqb format 12) (Known (Unpack V4x32 u))
+    (if (eqb format 13) (Known (Unpack V4x16 u))
+    (if (eqb format 14) (Known (Unpack V4x8 u))
+    (if (eqb format 15) (Known (Unpack V4x5 u))
+    (Unknown 21)))))))))))))
+
+-- "bit 4 M; IMM bits 0-9 address A, bit 14 USN, bit 15 adds TOPS, as held at the code, to A"
+unfoldable pub unpackNumbers : ℕ → ℕ → ℕ → UnpackCode
+unpackNumbers cmd num imm =
+    record {
+      address = bits imm 0 9;
+      num = num;
+      usn = eqb (bits imm 14 14) 1;
+      masked = eqb (bits cmd 4 4) 1;
+      tops = eqb (bits imm 15 15) 1;
+    }
+
+-- "60-7F UNPACK."
+unfoldable pub codeOf : ℕ → ℕ → ℕ → Decoded
+codeOf cmd num imm = if (leb 96 cmd) (unpackCode (bits cmd 0 3) (unpackNumbers cmd num imm)) (plainCode cmd num imm)
+
+unfoldable pub decodeOf : ℕ → Decoded
+decodeOf word = codeOf (cmdOf word) (numOf word) (immOf word)

@@ -1,0 +1,106 @@
+-- What a code does in its own step.
+use Prim.Native.Nat.{ℕ, _+_, _%_}
+use mathlib.Core.Bool.{Bool, false, not, _||_}
+use mathlib.Core.List.{List, [], _∷_}
+use lib.Dec.{eqb, ltb}
+use Rattle.fields.specs.Fields.{if}
+use Rattle.gif.specs.Log.{entry, logged, lacksRoom}
+use Rattle.unpack.specs.declared.Format.{Format}
+use Rattle.unpack.specs.Step.{countOf, unpackingOf}
+use Rattle.vif.specs.declared.Code.{Code}
+use Rattle.vif.specs.declared.Code.the-variants.{Nop, Stcycl, Offset, Base, Itop, Stmod, Mskpath3, Mark, Flushe, Flush, Flusha, Mscal, Mscalf, Mscnt, Stmask, Strow, Stcol, Mpg, Direct, Directhl, Unpack}
+use Rattle.vif.specs.declared.UnpackCode.{UnpackCode}
+use Rattle.vif.specs.declared.CodeResult.{CodeResult}
+use Rattle.vif.specs.declared.Decoded.{Decoded}
+use Rattle.vif.specs.declared.Decoded.the-variants.{Known, Unknown}
+use Rattle.vif.specs.declared.VifAnswer.{VifAnswer}
+use Rattle.vif.specs.declared.VifAnswer.the-variants.{Word, Quadword, Refused}
+use Rattle.vif.specs.declared.Waiting.{Waiting}
+use Rattle.vif.specs.declared.Waiting.the-variants.{MaskDue, RowDue, ColDue, MpgDue, DirectDue, DirecthlDue, UnpackDue}
+use Rattle.vif.specs.declared.Vif.{Vif}
+use Rattle.vif.specs.Setters.{withCycle, withOffset, withBase, withItops, withMode, withMskpath3, withMark, withStart, withWaiting}
+
+-- what a code's step leaves: the answer, the unit, the entries used and the log
+pub record Executed : Type 0 where
+  pub answer : VifAnswer
+  pub unit : Vif
+  pub used : ℕ
+  pub log : List ℕ
+
+abbrev pub executed : VifAnswer → Vif → ℕ → List ℕ → Executed
+executed a v used log = record { answer = a; unit = v; used = used; log = log }
+
+-- the same without the log, for codes that leave it alone
+abbrev pub codeResult : VifAnswer → Vif → ℕ → CodeResult
+codeResult a v used = record { answer = a; unit = v; used = used }
+
+abbrev pub resultWith : CodeResult → List ℕ → Executed
+resultWith r log = executed (r .answer) (r .unit) (r .used) log
+
+-- "TOPS = BASE+OFST modulo 1,024 if DBF is now 1, else BASE"
+unfoldable pub nextTops : Bool → Vif → ℕ
+nextTops dbf v = if dbf ((v .base + v .ofst) % 1024) (v .base)
+
+-- "Then ITOP = ITOPS, TOP = TOPS, DBF flips, and TOPS = ...": in this order, so TOP takes the old TOPS
+abbrev pub started : Vif → Vif
+started v = withStart v (v .itops) (v .tops) (not (v .dbf)) (nextTops (not (v .dbf)) v)
+
+-- "14 MSCAL, 15 MSCALF, 17 MSCNT: log entry 256, 257, 258 with value IMM, IMM, 0"; "31 log lacks room"
+unfoldable pub startProgram : ℕ → ℕ → Vif → Bool → ℕ → List ℕ → Executed
+startProgram r x v i used log =
+    if (lacksRoom log used (entry r x ∷ [])) (executed (Refused 31) v used log)
+    (executed (Word i) (started v) (used + 1) (logged log used (entry r x ∷ [])))
+
+-- a code that waits for payload completes no interrupt in its own step
+abbrev pub waitsFor : Vif → Waiting → ℕ → CodeResult
+waitsFor v w used = codeResult (Word false) (withWaiting v w) used
+
+-- "05 STMOD: bits 0-1"; "23 STMOD 3"
+unfoldable pub setMode : ℕ → Vif → Bool → ℕ → CodeResult
+setMode m v i used = if (eqb m 3) (codeResult (Refused 23) v used) (codeResult (Word i) (withMode v m) used)
+
+-- "MPG: NUM instructions of two words (0 means 256)"
+unfoldable pub beginMpg : ℕ → ℕ → Vif → Bool → ℕ → CodeResult
+beginMpg a num v i used = waitsFor v (MpgDue a (countOf num) (countOf num + countOf num) i) used
+
+-- "bit 15 adds TOPS, as held at the code, to A"
+unfoldable pub addressOf : UnpackCode → ℕ → ℕ
+addressOf u tops = if (u .tops) (u .address + tops) (u .address)
+
+-- "22 UNPACK with WL 0 or WL > CL"
+unfoldable pub cycleRefused : ℕ → ℕ → Bool
+cycleRefused cl wl = eqb wl 0 || ltb cl wl
+
+unfoldable pub beginUnpack : Format → UnpackCode → Vif → Bool → ℕ → CodeResult
+beginUnpack f u v i used =
+    if (cycleRefused (v .cl) (v .wl)) (codeResult (Refused 22) v used)
+    (waitsFor v (UnpackDue f (unpackingOf f (addressOf u (v .tops)) (u .num) (u .usn) (u .masked) i)) used)
+
+-- a code's own step, with its interrupt bit
+abbrev pub executeOf : Code → Vif → Bool → ℕ → List ℕ → Executed
+executeOf Nop v i used log = executed (Word i) v used log
+executeOf (Stcycl cl wl) v i used log = executed (Word i) (withCycle v cl wl) used log
+executeOf (Offset x) v i used log = executed (Word i) (withOffset v x (v .base)) used log
+executeOf (Base x) v i used log = executed (Word i) (withBase v x) used log
+executeOf (Itop x) v i used log = executed (Word i) (withItops v x) used log
+executeOf (Stmod m) v i used log = resultWith (setMode m v i used) log
+executeOf (Mskpath3 b) v i used log = executed (Word i) (withMskpath3 v b) used log
+executeOf (Mark x) v i used log = executed (Word i) (withMark v x) used log
+executeOf Flushe v i used log = executed (Word i) v used log
+executeOf Flush v i used log = executed (Word i) v used log
+executeOf Flusha v i used log = executed (Word i) v used log
+executeOf (Mscal x) v i used log = startProgram 256 x v i used log
+executeOf (Mscalf x) v i used log = startProgram 257 x v i used log
+executeOf Mscnt v i used log = startProgram 258 0 v i used log
+executeOf Stmask v i used log = resultWith (waitsFor v (MaskDue i) used) log
+executeOf Strow v i used log = resultWith (waitsFor v (RowDue 4 i) used) log
+executeOf Stcol v i used log = resultWith (waitsFor v (ColDue 4 i) used) log
+executeOf (Mpg a num) v i used log = resultWith (beginMpg a num v i used) log
+executeOf (Direct n) v i used log = resultWith (waitsFor v (DirectDue n i) used) log
+executeOf (Directhl n) v i used log = resultWith (waitsFor v (DirecthlDue n i) used) log
+executeOf (Unpack f u) v i used log = resultWith (beginUnpack f u v i used) log
+
+-- "20 CMD not listed; 21 vl 3 with vn below 3"
+abbrev pub decodedStep : Decoded → Vif → Bool → ℕ → List ℕ → Executed
+decodedStep (Known code) v i used log = executeOf code v i used log
+decodedStep (Unknown n) v i used log = executed (Refused n) v used log

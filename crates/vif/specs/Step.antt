@@ -1,0 +1,138 @@
+-- One word taken by VIF1, or one quadword inside DIRECT: a step of document 01.
+use Prim.Native.Nat.{ℕ, _+_, _*_, _-_, _^_}
+use mathlib.Core.Bool.{Bool, false, _&&_}
+use mathlib.Core.List.{List}
+use lib.ListN.{length}
+use lib.Dec.{eqb}
+use Rattle.fields.specs.Fields.{if, quadword}
+use Rattle.gif.specs.declared.Path.{Path}
+use Rattle.gif.specs.declared.GifAnswer.{GifAnswer}
+use Rattle.gif.specs.declared.GifAnswer.the-variants.{Taken, Refused as GifRefused}
+use Rattle.gif.specs.Log.{logRefused}
+use Rattle.gif.specs.Range.{pathInRange}
+use Rattle.gif.specs.Step.{Left as GifLeft, gifStep}
+use Rattle.unpack.specs.declared.Format.{Format}
+use Rattle.unpack.specs.declared.Unpacking.{Unpacking}
+use Rattle.unpack.specs.Write.{Written}
+use Rattle.vif.specs.declared.Incoming.{Incoming}
+use Rattle.vif.specs.declared.Incoming.the-variants.{Word0, Word1, Word2, Word3}
+use Rattle.vif.specs.declared.VifAnswer.{VifAnswer}
+use Rattle.vif.specs.declared.VifAnswer.the-variants.{Word, Quadword, Refused}
+use Rattle.vif.specs.declared.VifResult.{VifResult}
+use Rattle.vif.specs.declared.Waiting.{Waiting}
+use Rattle.vif.specs.declared.Waiting.the-variants.{Nothing, MaskDue, RowDue, ColDue, MpgDue, DirectDue, DirecthlDue, UnpackDue}
+use Rattle.vif.specs.declared.Vif.{Vif}
+use Rattle.vif.specs.Setters.{withWaiting}
+use Rattle.vif.specs.Codes.{interruptOf, decodeOf}
+use Rattle.vif.specs.Execute.{Executed, decodedStep}
+use Rattle.vif.specs.Payload.{instructions, completes, orNothing, rowWord, colWord, maskWord, mpgStored, mpgWord, unpackWritten, unpackUnit}
+use Rattle.vif.specs.Range.{unitInRange}
+
+-- the memories that a step is lent: data memory by words, code memory by bytes, the log by numbers
+pub record Lent : Type 0 where
+  pub mem : List ℕ
+  pub code : List ℕ
+  pub log : List ℕ
+
+abbrev pub lent : List ℕ → List ℕ → List ℕ → Lent
+lent mem code log = record { mem = mem; code = code; log = log }
+
+-- what a step leaves
+pub record Left : Type 0 where
+  pub answer : VifAnswer
+  pub unit : Vif
+  pub path2 : Path
+  pub used : ℕ
+  pub memories : Lent
+
+abbrev pub left : VifResult → Lent → Left
+left r m = record { answer = r .answer; unit = r .unit; path2 = r .path2; used = r .used; memories = m }
+
+abbrev pub answers : VifAnswer → Vif → Path → ℕ → VifResult
+answers a v p used = record { answer = a; unit = v; path2 = p; used = used }
+
+abbrev pub leaves : VifAnswer → Vif → Path → ℕ → Lent → Left
+leaves a v p used m = record { answer = a; unit = v; path2 = p; used = used; memories = m }
+
+-- the number of an answer: 0 taken, else document 01's refusal number
+abbrev pub numberOf : VifAnswer → ℕ
+numberOf (Word i) = 0
+numberOf (Quadword i) = 0
+numberOf (Refused n) = n
+
+-- the words that an answer took
+abbrev pub wordsTaken : VifAnswer → ℕ
+wordsTaken (Word i) = 1
+wordsTaken (Quadword i) = 4
+wordsTaken (Refused n) = 0
+
+-- the next word
+abbrev pub wordIn : Incoming → ℕ
+wordIn (Word0 a b c d) = a
+wordIn (Word1 a) = a
+wordIn (Word2 a) = a
+wordIn (Word3 a) = a
+
+-- a refused step changes nothing
+abbrev pub refused : ℕ → Vif → Path → ℕ → Lent → Left
+refused n v p used m = leaves (Refused n) v p used m
+
+-- a code's own step
+abbrev pub afterCode : Executed → Path → Lent → Left
+afterCode e p m = leaves (e .answer) (e .unit) p (e .used) (lent (m .mem) (m .code) (e .log))
+
+unfoldable pub codeStep : Vif → Path → ℕ → ℕ → Lent → Left
+codeStep v p word used m = afterCode (decodedStep (decodeOf word) v (interruptOf word) used (m .log)) p m
+
+-- a quadword of DIRECT, by what the GIF made of it
+abbrev pub afterGif : GifAnswer → GifLeft → Vif → Path → ℕ → Bool → Waiting → ℕ → Lent → Left
+afterGif Taken o v p due i w used m =
+    leaves (Quadword (completes due i)) (withWaiting v (orNothing due w)) (o .path) (o .used) (lent (m .mem) (m .code) (o .log))
+afterGif (GifRefused n) o v p due i w used m = refused n v p used m
+
+unfoldable pub giveQuadword : ℕ → Vif → Path → ℕ → Bool → Waiting → ℕ → Lent → Left
+giveQuadword quad v p due i w used m = afterGif (o .answer) o v p due i w used m
+  where
+    o : GifLeft
+    o = gifStep p quad used (m .log)
+
+-- "24 DIRECT payload due and the next word isn't word 0"; w is what waits if more is due
+abbrev pub directStep : Incoming → Vif → Path → ℕ → Bool → Waiting → ℕ → Lent → Left
+directStep (Word0 a b c d) v p due i w used m = giveQuadword (quadword (a + b * 2 ^ 32) (c + d * 2 ^ 32)) v p due i w used m
+directStep (Word1 a) v p due i w used m = refused 24 v p used m
+directStep (Word2 a) v p due i w used m = refused 24 v p used m
+directStep (Word3 a) v p due i w used m = refused 24 v p used m
+
+-- a payload word of UNPACK
+abbrev pub afterUnpack : Written → Vif → Path → Format → Unpacking → ℕ → ℕ → Lent → Left
+afterUnpack x v p f u word used m =
+    leaves (Word (completes (u .due) (u .interrupt))) (unpackUnit v f u word (x .row)) p used (lent (x .mem) (m .code) (m .log))
+
+unfoldable pub unpackStep : Vif → Path → Format → Unpacking → ℕ → ℕ → Lent → Left
+unpackStep v p f u word used m = afterUnpack (unpackWritten v f u word (m .mem)) v p f u word used m
+
+-- by the code that waits
+abbrev pub stepBy : Waiting → Vif → Path → Incoming → ℕ → Lent → Left
+stepBy Nothing v p n used m = codeStep v p (wordIn n) used m
+stepBy (MaskDue i) v p n used m = leaves (Word i) (maskWord v (wordIn n)) p used m
+stepBy (RowDue due i) v p n used m = leaves (Word (completes due i)) (rowWord v due i (wordIn n)) p used m
+stepBy (ColDue due i) v p n used m = leaves (Word (completes due i)) (colWord v due i (wordIn n)) p used m
+stepBy (MpgDue a k due i) v p n used m =
+    leaves (Word (completes due i)) (mpgWord v a k due i) p used (lent (m .mem) (mpgStored instructions a k due (wordIn n) (m .code)) (m .log))
+stepBy (DirectDue due i) v p n used m = directStep n v p due i (DirectDue (due - 1) i) used m
+stepBy (DirecthlDue due i) v p n used m = directStep n v p due i (DirecthlDue (due - 1) i) used m
+stepBy (UnpackDue f u) v p n used m = unpackStep v p f u (wordIn n) used m
+
+-- document 01's step: the next word is given to VIF1
+unfoldable pub vifStep : Vif → Path → Incoming → ℕ → Lent → Left
+vifStep v p n used m = stepBy (v .waiting) v p n used m
+
+-- the public step, which tests its own input: 2, 3, 4, 5, else the step
+unfoldable pub takeOf : Vif → Path → Incoming → ℕ → Lent → Left
+takeOf v p n used m =
+    if (eqb (length (m .mem)) 4096)
+    (if (eqb (length (m .code)) 16384)
+    (if (logRefused (m .log) used) (refused 4 v p used m)
+    (if (unitInRange v && pathInRange p) (vifStep v p n used m) (refused 5 v p used m)))
+    (refused 3 v p used m))
+    (refused 2 v p used m)

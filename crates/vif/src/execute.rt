@@ -1,0 +1,172 @@
+// What a code does in its own step.
+use super::Code;
+use super::CodeResult;
+use super::Decoded;
+use super::UnpackCode;
+use super::Vif;
+use super::VifAnswer;
+use super::Waiting;
+use super::decode::decode;
+use super::registers::with_base;
+use super::registers::with_cycle;
+use super::registers::with_itops;
+use super::registers::with_mark;
+use super::registers::with_mode;
+use super::registers::with_mskpath3;
+use super::registers::with_offset;
+use super::registers::with_start;
+use super::registers::with_waiting;
+use unpack::Format;
+ghost use mathlib.Core.Path.{_≡_};
+ghost use mathlib.Core.Bool.{false};
+ghost use Prim.Native.Nat.{_%_};
+ghost use Rattle.vif.specs.Codes.{interruptOf, decodeOf};
+ghost use Rattle.vif.specs.Setters.{withWaiting};
+ghost use Rattle.vif.specs.Execute.{codeResult, resultWith, nextTops, started, startProgram, setMode, addressOf, cycleRefused, beginMpg, beginUnpack, executeOf, decodedStep};
+
+fn answered(answer: VifAnswer, unit: Vif, used: u64) -> CodeResult
+    ensures { λ r. ⌜ r ≡ codeResult answer unit used ⌝ }
+{
+    CodeResult { answer, unit, used }
+}
+
+fn done(unit: Vif, interrupt: bool, used: u64) -> CodeResult
+    ensures { λ r. ⌜ r ≡ codeResult (VifAnswer.Word interrupt) unit used ⌝ }
+{
+    answered(VifAnswer::Word(interrupt), unit, used)
+}
+
+fn waits(unit: Vif, waiting: Waiting, used: u64) -> CodeResult
+    ensures { λ r. ⌜ r ≡ codeResult (VifAnswer.Word false) (withWaiting unit waiting) used ⌝ }
+{
+    answered(VifAnswer::Word(false), with_waiting(unit, waiting), used)
+}
+
+fn next_tops(dbf: bool, unit: Vif) -> u32
+    ensures { λ r. ⌜ r ≡ nextTops dbf unit ⌝ }
+{
+    if dbf {
+        (unit.base % 1024 + unit.ofst % 1024) % 1024
+    } else {
+        unit.base
+    }
+}
+
+// The registers that a program start moves.
+fn start(unit: Vif) -> Vif
+    ensures { λ r. ⌜ r ≡ started unit ⌝ }
+{
+    let dbf = !unit.dbf;
+    let tops = next_tops(dbf, unit);
+    with_start(unit, unit.itops, unit.tops, dbf, tops)
+}
+
+fn start_program(
+    register: u64,
+    value: u32,
+    unit: Vif,
+    interrupt: bool,
+    log: &mut [u64],
+    used: u64,
+) -> CodeResult
+    ensures { λ r. ⌜ resultWith r (now (log .exit)) ≡ startProgram register value unit interrupt used (now (log .entry)) ⌝ }
+{
+    if gif::write_entry(log, used, register, value as u64) {
+        done(start(unit), interrupt, used + 1)
+    } else {
+        answered(VifAnswer::Refused(31), unit, used)
+    }
+}
+
+fn set_mode(mode: u32, unit: Vif, interrupt: bool, used: u64) -> CodeResult
+    ensures { λ r. ⌜ r ≡ setMode mode unit interrupt used ⌝ }
+{
+    if mode == 3 {
+        answered(VifAnswer::Refused(23), unit, used)
+    } else {
+        done(with_mode(unit, mode), interrupt, used)
+    }
+}
+
+fn cycle_refused(cl: u32, wl: u32) -> bool
+    ensures { λ r. ⌜ r ≡ cycleRefused cl wl ⌝ }
+{
+    if wl == 0 {
+        return true;
+    }
+    cl < wl
+}
+
+// The address of an UNPACK, to be read modulo 1,024.
+fn address_of(u: UnpackCode, tops: u32) -> u32
+    ensures { λ r. ⌜ r % 1024 ≡ addressOf u tops % 1024 ⌝ }
+{
+    if u.tops {
+        u.address % 1024 + tops % 1024
+    } else {
+        u.address
+    }
+}
+
+fn begin_unpack(f: Format, u: UnpackCode, unit: Vif, interrupt: bool, used: u64) -> CodeResult
+    ensures { λ r. ⌜ r ≡ beginUnpack f u unit interrupt used ⌝ }
+{
+    if cycle_refused(unit.cl, unit.wl) {
+        return answered(VifAnswer::Refused(22), unit, used);
+    }
+    let address = address_of(u, unit.tops);
+    let waiting = unpack::waiting_for(f, address, u.num, u.usn, u.masked, interrupt);
+    waits(unit, Waiting::UnpackDue(f, waiting), used)
+}
+
+fn begin_mpg(address: u32, num: u32, unit: Vif, interrupt: bool, used: u64) -> CodeResult
+    ensures { λ r. ⌜ r ≡ beginMpg address num unit interrupt used ⌝ }
+{
+    let count = unpack::count_of(num);
+    let waiting = Waiting::MpgDue {
+        address,
+        count,
+        due: count + count,
+        interrupt,
+    };
+    waits(unit, waiting, used)
+}
+
+// A code's own step.
+fn execute(code: Code, unit: Vif, interrupt: bool, log: &mut [u64], used: u64) -> CodeResult
+    ensures { λ r. ⌜ resultWith r (now (log .exit)) ≡ executeOf code unit interrupt used (now (log .entry)) ⌝ }
+{
+    match code {
+        Code::Nop => done(unit, interrupt, used),
+        Code::Stcycl { cl, wl } => done(with_cycle(unit, cl, wl), interrupt, used),
+        Code::Offset(x) => done(with_offset(unit, x, unit.base), interrupt, used),
+        Code::Base(x) => done(with_base(unit, x), interrupt, used),
+        Code::Itop(x) => done(with_itops(unit, x), interrupt, used),
+        Code::Stmod(m) => set_mode(m, unit, interrupt, used),
+        Code::Mskpath3(b) => done(with_mskpath3(unit, b), interrupt, used),
+        Code::Mark(x) => done(with_mark(unit, x), interrupt, used),
+        Code::Flushe => done(unit, interrupt, used),
+        Code::Flush => done(unit, interrupt, used),
+        Code::Flusha => done(unit, interrupt, used),
+        Code::Mscal(x) => start_program(256, x, unit, interrupt, log, used),
+        Code::Mscalf(x) => start_program(257, x, unit, interrupt, log, used),
+        Code::Mscnt => start_program(258, 0, unit, interrupt, log, used),
+        Code::Stmask => waits(unit, Waiting::MaskDue(interrupt), used),
+        Code::Strow => waits(unit, Waiting::RowDue { due: 4, interrupt }, used),
+        Code::Stcol => waits(unit, Waiting::ColDue { due: 4, interrupt }, used),
+        Code::Mpg { address, num } => begin_mpg(address, num, unit, interrupt, used),
+        Code::Direct(n) => waits(unit, Waiting::DirectDue { due: n, interrupt }, used),
+        Code::Directhl(n) => waits(unit, Waiting::DirecthlDue { due: n, interrupt }, used),
+        Code::Unpack(f, u) => begin_unpack(f, u, unit, interrupt, used),
+    }
+}
+
+// A word that comes while nothing waits.
+pub(crate) fn take_code(word: u32, unit: Vif, log: &mut [u64], used: u64) -> CodeResult
+    ensures { λ r. ⌜ resultWith r (now (log .exit)) ≡ decodedStep (decodeOf word) unit (interruptOf word) used (now (log .entry)) ⌝ }
+{
+    match decode(word) {
+        Decoded::Known(code) => execute(code, unit, word / 2147483648 == 1, log, used),
+        Decoded::Unknown(n) => answered(VifAnswer::Refused(n), unit, used),
+    }
+}

@@ -1,0 +1,128 @@
+// The VIF1 unit: codes, registers, payload, and DIRECT into the GIF's path 2. What each function means is said by the definitions of specs/.
+mod decode;
+mod direct;
+mod execute;
+mod mpg;
+mod payload;
+mod range;
+mod registers;
+mod step;
+
+pub use range::unit_in_range;
+pub use step::take;
+
+// The numbers of an UNPACK code.
+pub struct UnpackCode {
+    pub address: u32,
+    pub num: u32,
+    pub usn: bool,
+    pub masked: bool,
+    pub tops: bool,
+}
+
+// The codes that a word can be, each with its numbers.
+pub enum Code {
+    Nop,
+    Stcycl { cl: u32, wl: u32 },
+    Offset(u32),
+    Base(u32),
+    Itop(u32),
+    Stmod(u32),
+    Mskpath3(bool),
+    Mark(u32),
+    Flushe,
+    Flush,
+    Flusha,
+    Mscal(u32),
+    Mscalf(u32),
+    Mscnt,
+    Stmask,
+    Strow,
+    Stcol,
+    Mpg { address: u32, num: u32 },
+    Direct(u32),
+    Directhl(u32),
+    Unpack(unpack::Format, UnpackCode),
+}
+
+pub enum Decoded {
+    Known(Code),
+    Unknown(u32),
+}
+
+// The code that waits for payload, with its numbers, what is still due (words; quadwords for DIRECT) and its interrupt bit.
+pub enum Waiting {
+    Nothing,
+    MaskDue(bool),
+    RowDue {
+        due: u32,
+        interrupt: bool,
+    },
+    ColDue {
+        due: u32,
+        interrupt: bool,
+    },
+    MpgDue {
+        address: u32,
+        count: u32,
+        due: u32,
+        interrupt: bool,
+    },
+    DirectDue {
+        due: u32,
+        interrupt: bool,
+    },
+    DirecthlDue {
+        due: u32,
+        interrupt: bool,
+    },
+    UnpackDue(unpack::Format, unpack::Unpacking),
+}
+
+pub struct Vif {
+    pub cl: u32,
+    pub wl: u32,
+    pub ofst: u32,
+    pub base: u32,
+    pub tops: u32,
+    pub top: u32,
+    pub itops: u32,
+    pub itop: u32,
+    pub dbf: bool,
+    pub mode: u32,
+    pub mskpath3: bool,
+    pub mark: u32,
+    pub mask: u32,
+    pub row: [u32; 4],
+    pub col: [u32; 4],
+    pub waiting: Waiting,
+}
+
+// The next word, by its number in its quadword; at word 0 the whole quadword lies ready.
+pub enum Incoming {
+    Word0(u32, u32, u32, u32),
+    Word1(u32),
+    Word2(u32),
+    Word3(u32),
+}
+
+// What was taken, and whether that completed a code with its interrupt bit; or the refusal.
+pub enum VifAnswer {
+    Word(bool),
+    Quadword(bool),
+    Refused(u32),
+}
+
+// What a code's own step leaves, but for the log.
+pub struct CodeResult {
+    pub answer: VifAnswer,
+    pub unit: Vif,
+    pub used: u64,
+}
+
+pub struct VifResult {
+    pub answer: VifAnswer,
+    pub unit: Vif,
+    pub path2: gif::Path,
+    pub used: u64,
+}

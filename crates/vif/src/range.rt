@@ -1,0 +1,104 @@
+// The range of the unit.
+use super::Vif;
+use super::Waiting;
+ghost use mathlib.Core.Path.{_≡_};
+ghost use mathlib.Core.Bool.{_&&_};
+ghost use Prim.Native.Nat.{_+_};
+ghost use lib.Dec.{leb};
+ghost use Rattle.unpack.specs.Range.{cycleInRange, unpackingInRange};
+ghost use Rattle.vif.specs.Range.{upTo, registersInRange, waitingInRange, unitInRange};
+
+// A number from 1 to n.
+fn up_to(n: u32, x: u32) -> bool
+    ensures { λ r. ⌜ r ≡ upTo n x ⌝ }
+{
+    if x < 1 {
+        return false;
+    }
+    x <= n
+}
+
+fn registers_in_range(unit: Vif) -> bool
+    ensures { λ r. ⌜ r ≡ registersInRange unit ⌝ }
+{
+    if 255 < unit.cl {
+        return false;
+    }
+    if 255 < unit.wl {
+        return false;
+    }
+    if 1023 < unit.ofst {
+        return false;
+    }
+    if 1023 < unit.base {
+        return false;
+    }
+    if 1023 < unit.tops {
+        return false;
+    }
+    if 1023 < unit.top {
+        return false;
+    }
+    if 1023 < unit.itops {
+        return false;
+    }
+    if 1023 < unit.itop {
+        return false;
+    }
+    if 2 < unit.mode {
+        return false;
+    }
+    unit.mark <= 65535
+}
+
+fn mpg_in_range(address: u32, count: u32, due: u32) -> bool
+    ensures { λ r. ⌜ r ≡ (leb address 2047 && (upTo 256 count && upTo (count + count) due)) ⌝ }
+{
+    if 2047 < address {
+        return false;
+    }
+    if up_to(256, count) {
+        return up_to(count + count, due);
+    }
+    false
+}
+
+fn waiting_in_range(waiting: Waiting, cl: u32, wl: u32) -> bool
+    ensures { λ r. ⌜ r ≡ waitingInRange waiting cl wl ⌝ }
+{
+    match waiting {
+        Waiting::Nothing => true,
+        Waiting::MaskDue(_) => true,
+        Waiting::RowDue { due, interrupt: _ } => up_to(4, due),
+        Waiting::ColDue { due, interrupt: _ } => up_to(4, due),
+        Waiting::MpgDue {
+            address,
+            count,
+            due,
+            interrupt: _,
+        } => mpg_in_range(address, count, due),
+        Waiting::DirectDue { due, interrupt: _ } => up_to(65536, due),
+        Waiting::DirecthlDue { due, interrupt: _ } => up_to(65536, due),
+        Waiting::UnpackDue(f, u) => unpack_in_range(cl, wl, f, u),
+    }
+}
+
+fn unpack_in_range(cl: u32, wl: u32, f: unpack::Format, u: unpack::Unpacking) -> bool
+    ensures { λ r. ⌜ r ≡ (cycleInRange cl wl && unpackingInRange f u) ⌝ }
+{
+    if unpack::cycle_in_range(cl, wl) {
+        return unpack::unpacking_in_range(f, u);
+    }
+    false
+}
+
+// Whether a unit is in its range.
+pub fn unit_in_range(unit: Vif) -> bool
+    ensures { λ r. ⌜ r ≡ unitInRange unit ⌝ }
+{
+    if registers_in_range(unit) {
+        let waiting = unit.waiting;
+        return waiting_in_range(waiting, unit.cl, unit.wl);
+    }
+    false
+}

@@ -1,0 +1,228 @@
+// One word taken by the unit, or one quadword inside DIRECT.
+use super::Incoming;
+use super::Vif;
+use super::VifAnswer;
+use super::VifResult;
+use super::Waiting;
+use super::direct::direct;
+use super::execute::take_code;
+use super::mpg::store_mpg;
+use super::payload::answered;
+use super::payload::col_word;
+use super::payload::completed;
+use super::payload::mask_word;
+use super::payload::or_nothing;
+use super::payload::row_word;
+use super::range::unit_in_range;
+use super::registers::with_row;
+use super::registers::with_waiting;
+use gif::Path;
+use unpack::Format;
+use unpack::Registers;
+use unpack::Unpacking;
+ghost use mathlib.Core.Path.{_≡_};
+ghost use mathlib.Core.List.{List};
+ghost use mathlib.Core.Bool.{_&&_};
+ghost use Prim.Native.Nat.{ℕ, _≤_};
+ghost use Rattle.gif.specs.Range.{pathInRange};
+ghost use Rattle.vif.specs.Range.{unitInRange};
+ghost use Rattle.vif.specs.Payload.{writeRegisters, unpackHolds, unpackUnit, mpgWord};
+ghost use Rattle.vif.specs.Step.{left, lent, wordIn, codeStep, unpackStep, vifStep, takeOf};
+ghost use Rattle.vif.specs.Inner.{UnpackReady, StepReady};
+
+fn word_in(next: Incoming) -> u32
+    ensures { λ r. ⌜ r ≡ wordIn next ⌝ }
+{
+    match next {
+        Incoming::Word0(a, _, _, _) => a,
+        Incoming::Word1(a) => a,
+        Incoming::Word2(a) => a,
+        Incoming::Word3(a) => a,
+    }
+}
+
+// A word that comes while nothing waits.
+fn code_word(word: u32, unit: Vif, path2: Path, log: &mut [u64], used: u64) -> VifResult
+    ensures { λ r. ⌜ ((mem code : List ℕ) → left r (lent mem code (now (log .exit))) ≡ codeStep unit path2 word used (lent mem code (now (log .entry)))) ⌝ }
+{
+    let r = take_code(word, unit, log, used);
+    let answer = r.answer;
+    let after = r.unit;
+    answered(answer, after, path2, r.used)
+}
+
+fn write_registers(unit: Vif) -> Registers
+    ensures { λ r. ⌜ r ≡ writeRegisters unit ⌝ }
+{
+    let col = unit.col;
+    Registers {
+        cl: unit.cl,
+        wl: unit.wl,
+        mode: unit.mode,
+        mask: unit.mask,
+        col,
+    }
+}
+
+fn held(u: Unpacking, word: u32) -> Unpacking
+    requires { ⌜ 1 ≤ u .due ⌝ }
+    ensures { λ r. ⌜ r ≡ unpackHolds u word ⌝ }
+{
+    Unpacking {
+        address: u.address,
+        count: u.count,
+        due: u.due - 1,
+        usn: u.usn,
+        masked: u.masked,
+        interrupt: u.interrupt,
+        first: u.second,
+        second: u.third,
+        third: word,
+    }
+}
+
+fn unpack_unit(unit: Vif, f: Format, u: Unpacking, word: u32, row: [u32; 4]) -> Vif
+    requires { ⌜ 1 ≤ u .due ⌝ }
+    ensures { λ r. ⌜ r ≡ unpackUnit unit f u word row ⌝ }
+{
+    let rest = Waiting::UnpackDue(f, held(u, word));
+    with_waiting(with_row(unit, row), or_nothing(u.due, rest))
+}
+
+// A payload word of UNPACK.
+fn unpack_word(
+    f: Format,
+    u: Unpacking,
+    word: u32,
+    unit: Vif,
+    path2: Path,
+    data: &mut [u32],
+    used: u64,
+) -> VifResult
+    requires { ⌜ UnpackReady unit f u (now «data») ⌝ }
+    ensures { λ r. ⌜ ((code log : List ℕ) → left r (lent (now («data» .exit)) code log) ≡ unpackStep unit path2 f u word used (lent (now («data» .entry)) code log)) ⌝ }
+{
+    let registers = write_registers(unit);
+    let row = unit.row;
+    let r = unpack::take_word(1024, f, u, registers, word, row, data);
+    let rows = r.row;
+    let after = unpack_unit(unit, f, u, word, rows);
+    answered(
+        VifAnswer::Word(completed(u.due, u.interrupt)),
+        after,
+        path2,
+        used,
+    )
+}
+
+fn mpg_unit(unit: Vif, address: u32, count: u32, due: u32, interrupt: bool) -> Vif
+    requires { ⌜ 1 ≤ due ⌝ }
+    ensures { λ r. ⌜ r ≡ mpgWord unit address count due interrupt ⌝ }
+{
+    let rest = Waiting::MpgDue {
+        address,
+        count,
+        due: due - 1,
+        interrupt,
+    };
+    with_waiting(unit, or_nothing(due, rest))
+}
+
+// Document 01's step, where all was tested.
+fn step(
+    unit: Vif,
+    path2: Path,
+    next: Incoming,
+    data: &mut [u32],
+    code: &mut [u8],
+    log: &mut [u64],
+    used: u64,
+) -> VifResult
+    requires { ⌜ StepReady unit path2 used (now «data») (now code) (now log) ⌝ }
+    ensures { λ r. ⌜ left r (lent (now («data» .exit)) (now (code .exit)) (now (log .exit))) ≡ vifStep unit path2 next used (lent (now («data» .entry)) (now (code .entry)) (now (log .entry))) ⌝ }
+{
+    let word = word_in(next);
+    let waiting = unit.waiting;
+    match waiting {
+        Waiting::Nothing => code_word(word, unit, path2, log, used),
+        Waiting::MaskDue(i) => answered(VifAnswer::Word(i), mask_word(unit, word), path2, used),
+        Waiting::RowDue { due, interrupt } => answered(
+            VifAnswer::Word(completed(due, interrupt)),
+            row_word(unit, due, interrupt, word),
+            path2,
+            used,
+        ),
+        Waiting::ColDue { due, interrupt } => answered(
+            VifAnswer::Word(completed(due, interrupt)),
+            col_word(unit, due, interrupt, word),
+            path2,
+            used,
+        ),
+        Waiting::MpgDue {
+            address,
+            count,
+            due,
+            interrupt,
+        } => {
+            store_mpg(address, count, due, word, code);
+            answered(
+                VifAnswer::Word(completed(due, interrupt)),
+                mpg_unit(unit, address, count, due, interrupt),
+                path2,
+                used,
+            )
+        }
+        Waiting::DirectDue { due, interrupt } => {
+            let rest = Waiting::DirectDue {
+                due: due - 1,
+                interrupt,
+            };
+            direct(next, unit, path2, due, interrupt, rest, log, used)
+        }
+        Waiting::DirecthlDue { due, interrupt } => {
+            let rest = Waiting::DirecthlDue {
+                due: due - 1,
+                interrupt,
+            };
+            direct(next, unit, path2, due, interrupt, rest, log, used)
+        }
+        Waiting::UnpackDue(f, u) => unpack_word(f, u, word, unit, path2, data, used),
+    }
+}
+
+fn in_range(unit: Vif, path2: Path) -> bool
+    ensures { λ r. ⌜ r ≡ (unitInRange unit && pathInRange path2) ⌝ }
+{
+    if unit_in_range(unit) {
+        return gif::path_in_range(path2);
+    }
+    false
+}
+
+// The next word given to the unit, on any input at all.
+pub fn take(
+    unit: Vif,
+    path2: Path,
+    next: Incoming,
+    data: &mut [u32],
+    code: &mut [u8],
+    log: &mut [u64],
+    used: u64,
+) -> VifResult
+    ensures { λ r. ⌜ left r (lent (now («data» .exit)) (now (code .exit)) (now (log .exit))) ≡ takeOf unit path2 next used (lent (now («data» .entry)) (now (code .entry)) (now (log .entry))) ⌝ }
+{
+    if data.len() != 4096 {
+        return answered(VifAnswer::Refused(2), unit, path2, used);
+    }
+    if code.len() != 16384 {
+        return answered(VifAnswer::Refused(3), unit, path2, used);
+    }
+    if gif::log_refused(log, used) {
+        return answered(VifAnswer::Refused(4), unit, path2, used);
+    }
+    if in_range(unit, path2) {
+        step(unit, path2, next, data, code, log, used)
+    } else {
+        answered(VifAnswer::Refused(5), unit, path2, used)
+    }
+}
