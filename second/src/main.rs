@@ -1,6 +1,11 @@
 //! The second program: made from the documents alone, to be compared with the proved one.
 
 mod bench;
+mod capture_cases;
+mod capture_compare;
+mod capture_counts;
+mod capture_generate;
+mod chain;
 mod compare;
 mod gif;
 mod gif_cases;
@@ -9,6 +14,9 @@ mod gif_counts;
 mod gif_generate;
 mod gif_time;
 mod random;
+// Sheets have no commands yet.
+#[cfg_attr(not(test), allow(dead_code))]
+mod sheet;
 mod vif;
 mod vif_cases;
 mod vif_compare;
@@ -30,6 +38,9 @@ usage:
   second vif [--counts] < CASES > RESULTS
   second generate-vif SEED WORDS > CASES
   second compare-vif PROGRAM SEED[,SEED..] WORDS
+  second capture [--counts] < CASES > RESULTS
+  second generate-capture SEED RUNS > CASES
+  second compare-capture PROGRAM SEED[,SEED..] RUNS
 PROGRAM is the path of an executable; one argument may hold a path and its arguments.
 ";
 
@@ -74,6 +85,16 @@ fn command(arguments: &[&str]) -> Option<Result<(), String>> {
             let program = compare::Program::parse(program);
             vif_compare::compare(&program, &compare::seeds(seeds)?, words.parse().ok()?)
         }
+        ["capture"] => capture_results(false),
+        ["capture", "--counts"] => capture_results(true),
+        ["generate-capture", seed, runs] => write(&capture_generate::generate(
+            seed.parse().ok()?,
+            runs.parse().ok()?,
+        )),
+        ["compare-capture", program, seeds, runs] => {
+            let program = compare::Program::parse(program);
+            capture_compare::compare(&program, &compare::seeds(seeds)?, runs.parse().ok()?)
+        }
         _ => return None,
     };
     Some(done)
@@ -92,6 +113,16 @@ fn gif_results(with_counts: bool) -> Result<(), String> {
 fn vif_results(with_counts: bool) -> Result<(), String> {
     let mut counts = vif_counts::Counts::default();
     let results = vif_cases::results(&read()?, &mut counts);
+    write(&results.bytes)?;
+    if with_counts {
+        eprint!("{}", compare::table(&counts.rows()));
+    }
+    Ok(())
+}
+
+fn capture_results(with_counts: bool) -> Result<(), String> {
+    let mut counts = capture_counts::Counts::default();
+    let results = capture_cases::results(&read()?, &mut counts);
     write(&results.bytes)?;
     if with_counts {
         eprint!("{}", compare::table(&counts.rows()));

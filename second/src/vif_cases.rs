@@ -74,7 +74,7 @@ impl Case {
     }
 }
 
-fn bit(word: u32) -> Option<bool> {
+pub fn bit(word: u32) -> Option<bool> {
     match word {
         0 => Some(false),
         1 => Some(true),
@@ -257,18 +257,17 @@ impl Standing {
         let (unit, path) = self.blocks();
         self.both = read_block(&unit).zip(gif_cases::read_block(&path));
     }
+}
 
-    /// The code memory by words, the last one filled up with zero bytes.
-    fn code_words(&self) -> Vec<u32> {
-        self.code
-            .chunks(WORD)
-            .map(|chunk| {
-                let mut bytes = [0; 4];
-                bytes[..chunk.len()].copy_from_slice(chunk);
-                u32::from_le_bytes(bytes)
-            })
-            .collect()
-    }
+/// A code memory by words, the last one filled up with zero bytes.
+pub fn code_words(code: &[u8]) -> Vec<u32> {
+    code.chunks(WORD)
+        .map(|chunk| {
+            let mut bytes = [0; 4];
+            bytes[..chunk.len()].copy_from_slice(chunk);
+            u32::from_le_bytes(bytes)
+        })
+        .collect()
 }
 
 /// Where the result of a group starts.
@@ -370,7 +369,7 @@ pub fn case_starts(file: &[u8]) -> Vec<usize> {
 fn run_case(case: &Case, index: usize, results: &mut Results, counts: &mut Counts) {
     let mut standing = Standing::new(case);
     let mut data_before = standing.data.clone();
-    let mut code_before = standing.code_words();
+    let mut code_before = code_words(&standing.code);
     let mut log_before = standing.log.clone();
     let mut at = 0;
     counts.note_case(case);
@@ -412,7 +411,7 @@ fn run_case(case: &Case, index: usize, results: &mut Results, counts: &mut Count
         for &w in unit.iter().chain(&path) {
             put_word(out, w);
         }
-        let code_words = standing.code_words();
+        let code_words = code_words(&standing.code);
         write_changes(out, &mut data_before, &standing.data, |out, w| {
             put_word(out, w)
         });
@@ -429,7 +428,7 @@ pub fn taken_quadword(answer: u32) -> bool {
 }
 
 /// Writes what differs and makes `before` the same as `now`.
-fn write_changes<T: Copy + PartialEq>(
+pub fn write_changes<T: Copy + PartialEq>(
     out: &mut Vec<u8>,
     before: &mut [T],
     now: &[T],
@@ -481,11 +480,19 @@ pub fn describe_group(bytes: &[u8], calls: usize) -> String {
         describe_block(&unit),
         gif_cases::describe_block(&path),
     ));
-    let mut at = calls + 44;
+    text.push_str(&describe_changes(bytes, calls + 44).0);
+    text
+}
+
+/// The changes of the three memories from word `at` on, and the word after them;
+/// none where the bytes end before.
+pub fn describe_changes(bytes: &[u8], mut at: usize) -> (String, Option<usize>) {
+    let have = bytes.len() / WORD;
+    let mut text = String::new();
     for (name, size) in [("data", 2), ("code", 2), ("log", 3)] {
         if have <= at {
             text.push_str("\n    cut here");
-            return text;
+            return (text, None);
         }
         let count = word(bytes, at) as usize;
         text.push_str(&format!("\n    {name}: {count} changed"));
@@ -493,7 +500,7 @@ pub fn describe_group(bytes: &[u8], calls: usize) -> String {
             let item = at + 1 + size * i;
             if have < item + size {
                 text.push_str(", cut here");
-                return text;
+                return (text, None);
             }
             let value = if size == 2 {
                 format!("{:08X}", word(bytes, item + 1))
@@ -507,7 +514,7 @@ pub fn describe_group(bytes: &[u8], calls: usize) -> String {
         }
         at = at.saturating_add(1 + size * count);
     }
-    text
+    (text, Some(at))
 }
 
 fn describe_answer(answer: u32) -> String {

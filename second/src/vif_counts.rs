@@ -31,7 +31,7 @@ const KINDS: [&str; 21] = [
 ];
 
 /// The codes that wait, by word 21 of the unit block less 1.
-const WAITING: [&str; 7] = [
+pub const WAITING: [&str; 7] = [
     "STMASK", "STROW", "STCOL", "MPG", "DIRECT", "DIRECTHL", "UNPACK",
 ];
 
@@ -556,7 +556,7 @@ impl Counts {
 }
 
 /// The fields of a unit block that are out of their range, by name.
-fn wrong_fields(block: &Block) -> Vec<String> {
+pub fn wrong_fields(block: &Block) -> Vec<String> {
     let limits = [
         255, 255, 1_023, 1_023, 1_023, 1_023, 1_023, 1_023, 1, 2, 1, 65_535,
     ];
@@ -618,27 +618,36 @@ fn wrong_fields(block: &Block) -> Vec<String> {
     wrong
 }
 
+/// All names that `wrong_fields` gives.
+pub fn field_names() -> Vec<String> {
+    let mut names: Vec<String> = REGISTER_NAMES.iter().map(|name| name.to_string()).collect();
+    names.push("waiting code".to_string());
+    for name in WAITING {
+        for field in ["interrupt", "due 0", "due too many"] {
+            names.push(format!("{name} {field}"));
+        }
+    }
+    for field in ["address", "count"] {
+        names.push(format!("MPG {field}"));
+        names.push(format!("UNPACK {field}"));
+    }
+    for field in ["format", "USN", "M", "beside WL 0", "beside WL above CL"] {
+        names.push(format!("UNPACK {field}"));
+    }
+    names
+}
+
 /// The names of the counts that are kept by name.
 fn names() -> Vec<String> {
     let mut names: Vec<String> = NAMES.iter().map(|name| name.to_string()).collect();
     let mut add = |name: String| names.push(name);
-    for name in REGISTER_NAMES {
-        add(format!("refused 5, {name}"));
+    for field in field_names() {
+        add(format!("refused 5, {field}"));
     }
     for name in WAITING {
-        for field in ["interrupt", "due 0", "due too many"] {
-            add(format!("refused 5, {name} {field}"));
-        }
         add(format!("waiting at a case's start, {name}"));
         add(format!("waiting at a later group's start, {name}"));
         add(format!("cases that end with {name} waiting"));
-    }
-    for field in ["address", "count"] {
-        add(format!("refused 5, MPG {field}"));
-        add(format!("refused 5, UNPACK {field}"));
-    }
-    for field in ["format", "USN", "M", "beside WL 0", "beside WL above CL"] {
-        add(format!("refused 5, UNPACK {field}"));
     }
     for name in ["MSCAL", "MSCALF", "MSCNT"] {
         add(format!("refused 31, {name}"));
@@ -692,7 +701,6 @@ const NAMES: &[&str] = &[
     "refused 4, too many entries used",
     "refused 4, 5 would be next",
     "refused 4, nothing else wrong",
-    "refused 5, waiting code",
     "refused 5, several at once",
     "refused 5, path block in no path",
     "refused 5, path out of range",

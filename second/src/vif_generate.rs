@@ -40,7 +40,7 @@ pub fn code_word(command: u32, num: u32, imm: u32) -> u32 {
     command << 24 | num << 16 | imm
 }
 
-fn stcycl(cl: u32, wl: u32) -> u32 {
+pub fn stcycl(cl: u32, wl: u32) -> u32 {
     code_word(0x01, 0, cl | wl << 8)
 }
 
@@ -810,12 +810,12 @@ fn fill_case(random: &mut Random, maker: &mut Maker, wanted: u64) {
 }
 
 /// What a case has more or less of.
-struct Taste {
-    interrupt_percent: u64,
-    illegal_percent: u64,
-    b_percent: u64,
-    unpack_percent: u64,
-    long_percent: u64,
+pub struct Taste {
+    pub interrupt_percent: u64,
+    pub illegal_percent: u64,
+    pub b_percent: u64,
+    pub unpack_percent: u64,
+    pub long_percent: u64,
 }
 
 impl Taste {
@@ -847,7 +847,7 @@ fn random_word(random: &mut Random, maker: &Maker, taste: &Taste) -> u32 {
 }
 
 /// A code with its bit 31 clear.
-fn random_code(random: &mut Random, registers: &Registers, number: u32, taste: &Taste) -> u32 {
+pub fn random_code(random: &mut Random, registers: &Registers, number: u32, taste: &Taste) -> u32 {
     let imm = random.word() & 0xFFFF;
     let num = random.word() & 0xFF;
     if random.percent(taste.illegal_percent) {
@@ -970,7 +970,7 @@ fn random_unpack(random: &mut Random, format: Format, count: u32) -> Unpack {
 }
 
 /// STCYCL with CL and WL that UNPACK accepts.
-fn legal_cycle(random: &mut Random) -> u32 {
+pub fn legal_cycle(random: &mut Random) -> u32 {
     let small = random.within(1..=9) as u32;
     let any = random.within(1..=255) as u32;
     let (cl, wl) = match random.below(12) {
@@ -1004,7 +1004,7 @@ fn make_cycle_legal(random: &mut Random, registers: &mut Registers) {
     registers.wl = cycle >> 8 & 0xFF;
 }
 
-fn random_mask(random: &mut Random) -> u32 {
+pub fn random_mask(random: &mut Random) -> u32 {
     let code = random.below(4) as u32;
     let any = random.word();
     match random.below(10) {
@@ -1021,7 +1021,7 @@ fn random_mask(random: &mut Random) -> u32 {
 }
 
 /// A word of payload, often at the edges of elements.
-fn payload_word(random: &mut Random) -> u32 {
+pub fn payload_word(random: &mut Random) -> u32 {
     let any = random.word();
     match random.below(16) {
         0 => 0,
@@ -1055,7 +1055,7 @@ fn random_quadword(random: &mut Random, maker: &Maker, b_percent: u64) -> u128 {
 }
 
 /// A unit in range with nothing waiting.
-fn random_unit(random: &mut Random) -> Unit {
+pub fn random_unit(random: &mut Random) -> Unit {
     let mut ten = || random.word() & 0x3FF;
     let (ofst, base, tops, top, itops, itop) = (ten(), ten(), ten(), ten(), ten(), ten());
     let mut registers = Registers {
@@ -1087,7 +1087,7 @@ fn random_unit(random: &mut Random) -> Unit {
 }
 
 /// A unit in range inside the payload of a code.
-fn random_waiting_unit(random: &mut Random) -> Unit {
+pub fn random_waiting_unit(random: &mut Random) -> Unit {
     let mut unit = random_unit(random);
     let num = random_num(random);
     let count = random.pick(&[num, num, num, 256, 255]);
@@ -1123,7 +1123,7 @@ fn random_waiting_unit(random: &mut Random) -> Unit {
     unit
 }
 
-fn random_unit_block(random: &mut Random) -> Block {
+pub fn random_unit_block(random: &mut Random) -> Block {
     match random.below(100) {
         0..=24 => [0; 32],
         25..=44 => write_block(&random_unit(random)),
@@ -1148,7 +1148,7 @@ fn random_unit_block(random: &mut Random) -> Block {
 }
 
 /// A block in range but for one or two of its words.
-fn random_spoiled_block(random: &mut Random) -> Block {
+pub fn random_spoiled_block(random: &mut Random) -> Block {
     let mut block = write_block(&random_waiting_unit(random));
     for _ in 0..random.within(1..=2) {
         let field = random.pick(&[
@@ -1172,7 +1172,7 @@ fn random_spoiled_block(random: &mut Random) -> Block {
     block
 }
 
-fn random_path_block(random: &mut Random) -> PathBlock {
+pub fn random_path_block(random: &mut Random) -> PathBlock {
     match random.below(100) {
         0..=59 => IDLE,
         60..=89 => random_held_block(random),

@@ -38,6 +38,21 @@ unpackingOf f a num usn masked interrupt =
 unfoldable pub takenWords : Format → Unpacking → ℕ
 takenWords f u = payloadWords f (u .count) - u .due
 
+-- an UNPACK that waits on, with one payload word more held
+abbrev pub holds : Unpacking → ℕ → Unpacking
+holds u word =
+    record {
+      address = u .address;
+      count = u .count;
+      due = u .due - 1;
+      usn = u .usn;
+      masked = u .masked;
+      interrupt = u .interrupt;
+      first = u .second;
+      second = u .third;
+      third = word;
+    }
+
 -- The registers as this UNPACK reads them: "With M clear all codes are 0"; "MODE doesn't act on vl 3."
 unfoldable pub acting : Format → Unpacking → Registers → Registers
 acting f u r =

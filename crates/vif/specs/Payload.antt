@@ -14,7 +14,7 @@ use Rattle.unpack.specs.declared.Format.{Format}
 use Rattle.unpack.specs.declared.Unpacking.{Unpacking}
 use Rattle.unpack.specs.declared.Registers.{Registers}
 use Rattle.unpack.specs.Write.{Written, written}
-use Rattle.unpack.specs.Step.{unpackWord}
+use Rattle.unpack.specs.Step.{holds, unpackWord}
 use Rattle.vif.specs.declared.VifAnswer.{VifAnswer}
 use Rattle.vif.specs.declared.VifAnswer.the-variants.{Word}
 use Rattle.vif.specs.declared.Waiting.{Waiting}
@@ -66,24 +66,9 @@ mpgWord v a n due i = withWaiting v (orNothing due (MpgDue a n (due - 1) i))
 abbrev pub writeRegisters : Vif → Registers
 writeRegisters v = record { cl = v .cl; wl = v .wl; mode = v .mode; mask = v .mask; col = v .col }
 
--- an UNPACK that waits on, with one payload word more held
-abbrev pub unpackHolds : Unpacking → ℕ → Unpacking
-unpackHolds u word =
-    record {
-      address = u .address;
-      count = u .count;
-      due = u .due - 1;
-      usn = u .usn;
-      masked = u .masked;
-      interrupt = u .interrupt;
-      first = u .second;
-      second = u .third;
-      third = word;
-    }
-
 -- ROW and data memory after a payload word
 abbrev pub unpackWritten : Vif → Format → Unpacking → ℕ → List ℕ → Written
 unpackWritten v f u word mem = unpackWord quadwords f u (writeRegisters v) word (written (v .row) mem)
 
 abbrev pub unpackUnit : Vif → Format → Unpacking → ℕ → List ℕ → Vif
-unpackUnit v f u word row = withWaiting (withRow v row) (orNothing (u .due) (UnpackDue f (unpackHolds u word)))
+unpackUnit v f u word row = withWaiting (withRow v row) (orNothing (u .due) (UnpackDue f (holds u word)))

@@ -90,11 +90,11 @@ afterGif Taken o v p due i w used m =
     leaves (Quadword (completes due i)) (withWaiting v (orNothing due w)) (o .path) (o .used) (lent (m .mem) (m .code) (o .log))
 afterGif (GifRefused n) o v p due i w used m = refused n v p used m
 
+abbrev pub afterQuadword : GifLeft → Vif → Path → ℕ → Bool → Waiting → ℕ → Lent → Left
+afterQuadword o v p due i w used m = afterGif (o .answer) o v p due i w used m
+
 unfoldable pub giveQuadword : ℕ → Vif → Path → ℕ → Bool → Waiting → ℕ → Lent → Left
-giveQuadword quad v p due i w used m = afterGif (o .answer) o v p due i w used m
-  where
-    o : GifLeft
-    o = gifStep p quad used (m .log)
+giveQuadword quad v p due i w used m = afterQuadword (gifStep p quad used (m .log)) v p due i w used m
 
 -- "24 DIRECT payload due and the next word isn't word 0"; w is what waits if more is due
 abbrev pub directStep : Incoming → Vif → Path → ℕ → Bool → Waiting → ℕ → Lent → Left

@@ -26,7 +26,8 @@ ghost use mathlib.Core.Bool.{_&&_};
 ghost use Prim.Native.Nat.{ℕ, _≤_};
 ghost use Rattle.gif.specs.Range.{pathInRange};
 ghost use Rattle.vif.specs.Range.{unitInRange};
-ghost use Rattle.vif.specs.Payload.{writeRegisters, unpackHolds, unpackUnit, mpgWord};
+ghost use Rattle.unpack.specs.Step.{holds};
+ghost use Rattle.vif.specs.Payload.{writeRegisters, unpackUnit, mpgWord};
 ghost use Rattle.vif.specs.Step.{left, lent, wordIn, codeStep, unpackStep, vifStep, takeOf};
 ghost use Rattle.vif.specs.Inner.{UnpackReady, StepReady};
 
@@ -66,7 +67,7 @@ fn write_registers(unit: Vif) -> Registers
 
 fn held(u: Unpacking, word: u32) -> Unpacking
     requires { ⌜ 1 ≤ u .due ⌝ }
-    ensures { λ r. ⌜ r ≡ unpackHolds u word ⌝ }
+    ensures { λ r. ⌜ r ≡ holds u word ⌝ }
 {
     Unpacking {
         address: u.address,

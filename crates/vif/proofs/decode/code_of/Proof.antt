@@ -1,3 +1,7 @@
+use Rattle.vif.specs.Codes.{codeOf}
+use Rattle.fields.specs.Fields.{if, bits}
+use borrow.Author.Tests.{le-leb, lt-leb}
+use native.Mathlib.Nat.{div-one}
 use borrow.Author.Needs.{needs}
 use Rattle.vif.proofs.decode.code_of.Statement.{statement}
 use Rattle.vif.proofs.decode.code_of.Tie as tie
@@ -21,11 +25,13 @@ plain-code-requires c κs = search needs
 
 -- src/decode.rt:88:1
 returns : tie.Need-returns
-returns c = ?
+unfolding codeOf bits if
+returns c = simp (le-leb _ _ (c .before .before .if1 .taken), div-one, ← c .before .unpack-numbers .ensures) (c .unpack-code .ensures)
 
 -- src/decode.rt:88:1
 returns-2 : tie.Need-returns-2
-returns-2 c = ?
+unfolding codeOf if
+returns-2 c = rw (lt-leb _ _ (c .before .if1 .left)) (c .plain-code .ensures)
 
 pub code-of-spec : {M : Type 1} → statement M
 code-of-spec =

@@ -1,3 +1,6 @@
+use Rattle.vif.specs.Codes.{quadwordsOf}
+use Rattle.fields.specs.Fields.{if}
+use borrow.Author.Tests.{eq-eqb, ne-eqb}
 use Rattle.vif.proofs.decode.quadwords_of.Statement.{statement}
 use Rattle.vif.proofs.decode.quadwords_of.Tie as tie
 use Rattle.vif.proofs.decode.quadwords_of.Reads as reads
@@ -5,11 +8,13 @@ use Rattle.vif.proofs.decode.quadwords_of.Lts as lts
 
 -- src/decode.rt:9:1
 returns : tie.Need-returns
-returns c = ?
+unfolding quadwordsOf if
+returns c = rw (eq-eqb _ _ (c .if1 .taken))
 
 -- src/decode.rt:9:1
 returns-2 : tie.Need-returns-2
-returns-2 c = ?
+unfolding quadwordsOf if
+returns-2 c = rw (ne-eqb _ _ (c .if1 .left))
 
 pub quadwords-of-spec : {M : Type 1} → statement M
 quadwords-of-spec = tie.close (tie.spec returns returns-2)

@@ -1,3 +1,6 @@
+use Rattle.vif.specs.Codes.{unpackCode}
+use Rattle.fields.specs.Fields.{if}
+use borrow.Author.Tests.{ne-eqb}
 use borrow.Author.Needs.{needs}
 use Rattle.vif.proofs.decode.unpack_code.Statement.{statement}
 use Rattle.vif.proofs.decode.unpack_code.Tie as tie
@@ -59,59 +62,74 @@ known-unpack-requires-13 c κs = search needs
 
 -- src/decode.rt:55:1
 returns : tie.Need-returns
-returns c = ?
+unfolding unpackCode if
+returns c = simp (c .before .match .keys1, c .known-unpack .ensures)
 
 -- src/decode.rt:55:1
 returns-2 : tie.Need-returns-2
-returns-2 c = ?
+unfolding unpackCode if
+returns-2 c = simp (c .before .match .keys2, c .known-unpack2 .ensures)
 
 -- src/decode.rt:55:1
 returns-3 : tie.Need-returns-3
-returns-3 c = ?
+unfolding unpackCode if
+returns-3 c = simp (c .before .match .keys3, c .known-unpack3 .ensures)
 
 -- src/decode.rt:55:1
 returns-4 : tie.Need-returns-4
-returns-4 c = ?
+unfolding unpackCode if
+returns-4 c = simp (c .before .match .keys4, c .known-unpack4 .ensures)
 
 -- src/decode.rt:55:1
 returns-5 : tie.Need-returns-5
-returns-5 c = ?
+unfolding unpackCode if
+returns-5 c = simp (c .before .match .keys5, c .known-unpack5 .ensures)
 
 -- src/decode.rt:55:1
 returns-6 : tie.Need-returns-6
-returns-6 c = ?
+unfolding unpackCode if
+returns-6 c = simp (c .before .match .keys6, c .known-unpack6 .ensures)
 
 -- src/decode.rt:55:1
 returns-7 : tie.Need-returns-7
-returns-7 c = ?
+unfolding unpackCode if
+returns-7 c = simp (c .before .match .keys7, c .known-unpack7 .ensures)
 
 -- src/decode.rt:55:1
 returns-8 : tie.Need-returns-8
-returns-8 c = ?
+unfolding unpackCode if
+returns-8 c = simp (c .before .match .keys8, c .known-unpack8 .ensures)
 
 -- src/decode.rt:55:1
 returns-9 : tie.Need-returns-9
-returns-9 c = ?
+unfolding unpackCode if
+returns-9 c = simp (c .before .match .keys9, c .known-unpack9 .ensures)
 
 -- src/decode.rt:55:1
 returns-10 : tie.Need-returns-10
-returns-10 c = ?
+unfolding unpackCode if
+returns-10 c = simp (c .before .match .keys10, c .known-unpack10 .ensures)
 
 -- src/decode.rt:55:1
 returns-11 : tie.Need-returns-11
-returns-11 c = ?
+unfolding unpackCode if
+returns-11 c = simp (c .before .match .keys11, c .known-unpack11 .ensures)
 
 -- src/decode.rt:55:1
 returns-12 : tie.Need-returns-12
-returns-12 c = ?
+unfolding unpackCode if
+returns-12 c = simp (c .before .match .keys12, c .known-unpack12 .ensures)
 
 -- src/decode.rt:55:1
 returns-13 : tie.Need-returns-13
-returns-13 c = ?
+unfolding unpackCode if
+returns-13 c = simp (c .before .match .keys13, c .known-unpack13 .ensures)
 
 -- src/decode.rt:55:1
 returns-14 : tie.Need-returns-14
-returns-14 c = ?
+unfolding unpackCode if
+returns-14 c = let n = c .match .rest in
+    simp (ne-eqb _ _ (n .0 .0 .0 .0 .0 .0 .0 .0 .0 .0 .0 .0 .1), ne-eqb _ _ (n .0 .0 .0 .0 .0 .0 .0 .0 .0 .0 .0 .1), ne-eqb _ _ (n .0 .0 .0 .0 .0 .0 .0 .0 .0 .0 .1), ne-eqb _ _ (n .0 .0 .0 .0 .0 .0 .0 .0 .0 .1), ne-eqb _ _ (n .0 .0 .0 .0 .0 .0 .0 .0 .1), ne-eqb _ _ (n .0 .0 .0 .0 .0 .0 .0 .1), ne-eqb _ _ (n .0 .0 .0 .0 .0 .0 .1), ne-eqb _ _ (n .0 .0 .0 .0 .0 .1), ne-eqb _ _ (n .0 .0 .0 .0 .1), ne-eqb _ _ (n .0 .0 .0 .1), ne-eqb _ _ (n .0 .0 .1), ne-eqb _ _ (n .0 .1), ne-eqb _ _ (n .1))
 
 pub unpack-code-spec : {M : Type 1} → statement M
 unpack-code-spec =

@@ -1,3 +1,6 @@
+use Rattle.vif.specs.Codes.{unpackNumbers}
+use Rattle.fields.specs.Fields.{bits}
+use native.Mathlib.Nat.{div-one}
 use Rattle.vif.proofs.decode.unpack_numbers.Statement.{statement}
 use Rattle.vif.proofs.decode.unpack_numbers.Tie as tie
 use Rattle.vif.proofs.decode.unpack_numbers.Reads as reads
@@ -5,7 +8,8 @@ use Rattle.vif.proofs.decode.unpack_numbers.Lts as lts
 
 -- src/decode.rt:76:1
 returns : tie.Need-returns
-returns c = ?
+unfolding unpackNumbers bits
+returns c = simp div-one
 
 pub unpack-numbers-spec : {M : Type 1} → statement M
 unpack-numbers-spec = tie.close (tie.spec returns)

@@ -1,3 +1,6 @@
+use Rattle.vif.specs.Execute.{beginMpg}
+use Rattle.unpack.proofs.StepLaws.{count-few}
+use native.Mathlib.Omega.{arith}
 use borrow.Author.Needs.{needs}
 use Rattle.vif.proofs.execute.begin_mpg.Statement.{statement}
 use Rattle.vif.proofs.execute.begin_mpg.Tie as tie
@@ -12,7 +15,7 @@ count-of-requires c κs = search needs
 
 -- src/execute.rt:129:14
 add-t8 : tie.Need-add-t8
-add-t8 c = ?
+add-t8 c = let n = count-few (c .before .args .num) in omega (arith, c .count-of .ensures)
 
 -- src/execute.rt:132:5
 waits-requires : tie.Need-waits-requires
@@ -20,7 +23,8 @@ waits-requires c κs = search needs
 
 -- src/execute.rt:122:1
 returns : tie.Need-returns
-returns c = ?
+unfolding beginMpg
+returns c = rw (← c .before .count-of .ensures) (c .waits .ensures)
 
 pub begin-mpg-spec : {M : Type 1} → statement M
 begin-mpg-spec = tie.close (tie.spec count-of-requires add-t8 waits-requires returns)

@@ -1,3 +1,6 @@
+use Rattle.vif.specs.Execute.{setMode}
+use Rattle.fields.specs.Fields.{if}
+use borrow.Author.Tests.{eq-eqb, ne-eqb}
 use borrow.Author.Needs.{needs}
 use Rattle.vif.proofs.execute.set_mode.Statement.{statement}
 use Rattle.vif.proofs.execute.set_mode.Tie as tie
@@ -21,11 +24,13 @@ done-requires c κs = search needs
 
 -- src/execute.rt:81:1
 returns : tie.Need-returns
-returns c = ?
+unfolding setMode if
+returns c = rw (eq-eqb _ _ (c .before .if1 .taken)) (c .answered .ensures)
 
 -- src/execute.rt:81:1
 returns-2 : tie.Need-returns-2
-returns-2 c = ?
+unfolding setMode if
+returns-2 c = rw (ne-eqb _ _ (c .before .before .if1 .left), ← c .before .with-mode .ensures) (c .done .ensures)
 
 pub set-mode-spec : {M : Type 1} → statement M
 set-mode-spec =

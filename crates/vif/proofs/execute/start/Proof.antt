@@ -1,3 +1,4 @@
+use mathlib.Core.Path.{_∙_}
 use borrow.Author.Needs.{needs}
 use Rattle.vif.proofs.execute.start.Statement.{statement}
 use Rattle.vif.proofs.execute.start.Tie as tie
@@ -16,7 +17,7 @@ with-start-requires c κs = search needs
 
 -- src/execute.rt:56:1
 returns : tie.Need-returns
-returns c = ?
+returns c = c .with-start .ensures ∙ rw (c .before .next-tops .ensures)
 
 pub start-spec : {M : Type 1} → statement M
 start-spec = tie.close (tie.spec next-tops-requires with-start-requires returns)

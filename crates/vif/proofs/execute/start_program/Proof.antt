@@ -1,3 +1,7 @@
+use Rattle.vif.proofs.CodeLaws.{program-started, program-refused}
+use Rattle.gif.proofs.LogLaws.{entry-stored}
+use native.Mathlib.Omega.{arith}
+use mathlib.Core.Path.{_∙_}
 use borrow.Author.Needs.{needs}
 use Rattle.vif.proofs.execute.start_program.Statement.{statement}
 use Rattle.vif.proofs.execute.start_program.Tie as tie
@@ -18,7 +22,7 @@ start-requires c κs = search needs
 
 -- src/execute.rt:75:38
 add-done : tie.Need-add-done
-add-done c = ?
+add-done c = let s = entry-stored _ _ _ (c .before .before .before .before .write-entry .ensures) (c .before .if1 .taken) in omega arith
 
 -- src/execute.rt:75:9
 done-requires : tie.Need-done-requires
@@ -34,7 +38,7 @@ same-length c = search needs
 
 -- src/execute.rt:64:1
 returns : tie.Need-returns
-returns c = ?
+returns c = rw (c .done .ensures, c .before .start .ensures) (program-started _ _ _ _ _ _ (c .before .before .before .before .before .write-entry .ensures) (c .before .before .if1 .taken))
 
 -- src/execute.rt:64:1
 same-length-2 : tie.Need-same-length-2
@@ -42,7 +46,7 @@ same-length-2 c = search needs
 
 -- src/execute.rt:64:1
 returns-2 : tie.Need-returns-2
-returns-2 c = ?
+returns-2 c = rw (c .answered .ensures) (program-refused _ _ _ _ _ _ (c .before .before .before .before .write-entry .ensures) (c .before .if1 .left))
 
 pub start-program-spec : {M : Type 1} → statement M
 start-program-spec =

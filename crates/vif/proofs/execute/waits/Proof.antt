@@ -16,7 +16,7 @@ answered-requires c κs = search needs
 
 -- src/execute.rt:39:1
 returns : tie.Need-returns
-returns c = ?
+returns c = rw (← c .before .with-waiting .ensures) (c .answered .ensures)
 
 pub waits-spec : {M : Type 1} → statement M
 waits-spec = tie.close (tie.spec with-waiting-requires answered-requires returns)

@@ -1,3 +1,5 @@
+use Rattle.vif.specs.Payload.{mpgStored}
+use mathlib.Core.Path.{_∙_}
 use borrow.Author.Needs.{needs}
 use Rattle.vif.proofs.mpg.store_mpg.Statement.{statement}
 use Rattle.vif.proofs.mpg.store_mpg.Tie as tie
@@ -32,7 +34,8 @@ same-length c = search needs
 
 -- src/mpg.rt:27:1
 returns : tie.Need-returns
-returns c = ?
+unfolding mpgStored
+returns c = rw (← c .before .before .before .before .word-place .ensures .0) (c .before .before .store-word .ensures)
 
 pub store-mpg-spec : {M : Type 1} → statement M
 store-mpg-spec =

@@ -1,3 +1,6 @@
+use Rattle.vif.proofs.MpgLaws.{four-stores}
+use native.Mathlib.Omega.{arith}
+use lib.ListN.{length-set}
 use borrow.Author.Needs.{needs}
 use Rattle.vif.proofs.mpg.store_word.Statement.{statement}
 use Rattle.vif.proofs.mpg.store_word.Tie as tie
@@ -22,7 +25,7 @@ add-code c = search needs
 
 -- src/mpg.rt:13:5
 slice-write-code-2 : tie.Need-slice-write-code-2
-slice-write-code-2 c = ?
+slice-write-code-2 c = simp length-set (omega arith)
 
 -- src/mpg.rt:14:20
 cast-code-3 : tie.Need-cast-code-3
@@ -34,7 +37,7 @@ add-code-2 c = search needs
 
 -- src/mpg.rt:14:5
 slice-write-code-3 : tie.Need-slice-write-code-3
-slice-write-code-3 c = ?
+slice-write-code-3 c = simp length-set (omega arith)
 
 -- src/mpg.rt:15:20
 cast-code-4 : tie.Need-cast-code-4
@@ -46,7 +49,7 @@ add-code-3 c = search needs
 
 -- src/mpg.rt:15:5
 slice-write-code-4 : tie.Need-slice-write-code-4
-slice-write-code-4 c = ?
+slice-write-code-4 c = simp length-set (omega arith)
 
 -- src/mpg.rt:8:1
 same-length : tie.Need-same-length
@@ -54,7 +57,7 @@ same-length c = search needs
 
 -- src/mpg.rt:8:1
 returns : tie.Need-returns
-returns c = ?
+returns c = four-stores (c .args .code .now) (c .args .at) (c .args .word)
 
 pub store-word-spec : {M : Type 1} → statement M
 store-word-spec =

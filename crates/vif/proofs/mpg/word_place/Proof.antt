@@ -1,3 +1,5 @@
+use Rattle.vif.specs.Payload.{wordPlace}
+use native.Mathlib.Omega.{arith}
 use borrow.Author.Needs.{needs}
 use Rattle.vif.proofs.mpg.word_place.Statement.{statement}
 use Rattle.vif.proofs.mpg.word_place.Tie as tie
@@ -22,7 +24,8 @@ add-result-2 c = search needs
 
 -- src/mpg.rt:19:1
 returns : tie.Need-returns
-returns c = ?
+unfolding wordPlace
+returns c = (search needs, omega arith)
 
 pub word-place-spec : {M : Type 1} → statement M
 word-place-spec = tie.close (tie.spec add-result mul-result mul-result-2 add-result-2 returns)

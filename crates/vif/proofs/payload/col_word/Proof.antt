@@ -1,3 +1,4 @@
+use mathlib.Core.Path.{_∙_}
 use borrow.Author.Needs.{needs}
 use Rattle.vif.proofs.payload.col_word.Statement.{statement}
 use Rattle.vif.proofs.payload.col_word.Tie as tie
@@ -33,7 +34,7 @@ with-waiting-requires c κs = search needs
 
 -- src/payload.rt:59:1
 returns : tie.Need-returns
-returns c = ?
+returns c = c .with-waiting .ensures ∙ rw (c .before .before .with-col-at .ensures, c .before .or-nothing .ensures)
 
 pub col-word-spec : {M : Type 1} → statement M
 col-word-spec =

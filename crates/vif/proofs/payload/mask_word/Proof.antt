@@ -1,3 +1,4 @@
+use mathlib.Core.Path.{_∙_}
 use borrow.Author.Needs.{needs}
 use Rattle.vif.proofs.payload.mask_word.Statement.{statement}
 use Rattle.vif.proofs.payload.mask_word.Tie as tie
@@ -16,7 +17,7 @@ with-waiting-requires c κs = search needs
 
 -- src/payload.rt:39:1
 returns : tie.Need-returns
-returns c = ?
+returns c = c .with-waiting .ensures ∙ rw (c .before .with-mask .ensures)
 
 pub mask-word-spec : {M : Type 1} → statement M
 mask-word-spec = tie.close (tie.spec with-mask-requires with-waiting-requires returns)

@@ -1,3 +1,6 @@
+use Rattle.vif.specs.Payload.{orNothing}
+use Rattle.fields.specs.Fields.{if}
+use borrow.Author.Tests.{eq-eqb, ne-eqb}
 use Rattle.vif.proofs.payload.or_nothing.Statement.{statement}
 use Rattle.vif.proofs.payload.or_nothing.Tie as tie
 use Rattle.vif.proofs.payload.or_nothing.Reads as reads
@@ -5,11 +8,13 @@ use Rattle.vif.proofs.payload.or_nothing.Lts as lts
 
 -- src/payload.rt:22:1
 returns : tie.Need-returns
-returns c = ?
+unfolding orNothing if
+returns c = rw (eq-eqb _ _ (c .if1 .taken))
 
 -- src/payload.rt:22:1
 returns-2 : tie.Need-returns-2
-returns-2 c = ?
+unfolding orNothing if
+returns-2 c = rw (ne-eqb _ _ (c .if1 .left))
 
 pub or-nothing-spec : {M : Type 1} → statement M
 or-nothing-spec = tie.close (tie.spec returns returns-2)

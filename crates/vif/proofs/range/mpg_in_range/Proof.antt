@@ -1,3 +1,7 @@
+use Rattle.vif.proofs.RangeLaws.{up-to-fits}
+use borrow.Author.Tests.{le-leb, lt-leb}
+use native.Mathlib.Omega.{arith}
+use mathlib.Core.Path.{sym, _∙_}
 use borrow.Author.Needs.{needs}
 use Rattle.vif.proofs.range.mpg_in_range.Statement.{statement}
 use Rattle.vif.proofs.range.mpg_in_range.Tie as tie
@@ -7,7 +11,7 @@ use Rattle.vif.proofs.range.up_to.Reads as up-to-reads
 
 -- src/range.rt:58:9
 returns : tie.Need-returns
-returns c = ?
+returns c = rw (lt-leb _ _ (c .if1 .taken))
 
 -- src/range.rt:60:8
 up-to-requires : tie.Need-up-to-requires
@@ -15,7 +19,7 @@ up-to-requires c κs = search needs
 
 -- src/range.rt:61:22
 add-up-to : tie.Need-add-up-to
-add-up-to c = ?
+add-up-to c = let f = up-to-fits 256 (c .before .before .before .args .count) (sym (c .before .up-to .ensures) ∙ c .if2 .taken) in omega arith
 
 -- src/range.rt:61:9
 up-to-requires-2 : tie.Need-up-to-requires-2
@@ -23,11 +27,11 @@ up-to-requires-2 c κs = search needs
 
 -- src/range.rt:61:9
 returns-2 : tie.Need-returns-2
-returns-2 c = ?
+returns-2 c = rw (le-leb _ _ (c .before .before .before .if1 .left), sym (c .before .before .up-to .ensures) ∙ c .before .if2 .taken) (c .up-to2 .ensures)
 
 -- src/range.rt:54:1
 returns-3 : tie.Need-returns-3
-returns-3 c = ?
+returns-3 c = rw (le-leb _ _ (c .before .before .if1 .left), sym (c .before .up-to .ensures) ∙ c .if2 .left)
 
 pub mpg-in-range-spec : {M : Type 1} → statement M
 mpg-in-range-spec =

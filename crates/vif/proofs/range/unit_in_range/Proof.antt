@@ -1,3 +1,5 @@
+use Rattle.vif.specs.Range.{unitInRange}
+use mathlib.Core.Path.{sym, _∙_}
 use borrow.Author.Needs.{needs}
 use Rattle.vif.proofs.range.unit_in_range.Statement.{statement}
 use Rattle.vif.proofs.range.unit_in_range.Tie as tie
@@ -16,11 +18,13 @@ waiting-in-range-requires c κs = search needs
 
 -- src/range.rt:101:9
 returns : tie.Need-returns
-returns c = ?
+unfolding unitInRange
+returns c = rw (sym (c .before .before .registers-in-range .ensures) ∙ c .before .if1 .taken) (c .waiting-in-range .ensures)
 
 -- src/range.rt:96:1
 returns-2 : tie.Need-returns-2
-returns-2 c = ?
+unfolding unitInRange
+returns-2 c = rw (sym (c .before .registers-in-range .ensures) ∙ c .if1 .left)
 
 pub unit-in-range-spec : {M : Type 1} → statement M
 unit-in-range-spec =

@@ -1,3 +1,4 @@
+use mathlib.Core.Path.{sym, _∙_}
 use borrow.Author.Needs.{needs}
 use Rattle.vif.proofs.range.unpack_in_range.Statement.{statement}
 use Rattle.vif.proofs.range.unpack_in_range.Tie as tie
@@ -16,11 +17,11 @@ unpacking-in-range-requires c κs = search needs
 
 -- src/range.rt:90:9
 returns : tie.Need-returns
-returns c = ?
+returns c = rw (sym (c .before .before .cycle-in-range .ensures) ∙ c .before .if1 .taken) (c .unpacking-in-range .ensures)
 
 -- src/range.rt:86:1
 returns-2 : tie.Need-returns-2
-returns-2 c = ?
+returns-2 c = rw (sym (c .before .cycle-in-range .ensures) ∙ c .if1 .left)
 
 pub unpack-in-range-spec : {M : Type 1} → statement M
 unpack-in-range-spec =

@@ -1,3 +1,5 @@
+use Rattle.vif.specs.Range.{upTo}
+use borrow.Author.Tests.{le-leb, lt-leb}
 use Rattle.vif.proofs.range.up_to.Statement.{statement}
 use Rattle.vif.proofs.range.up_to.Tie as tie
 use Rattle.vif.proofs.range.up_to.Reads as reads
@@ -5,11 +7,13 @@ use Rattle.vif.proofs.range.up_to.Lts as lts
 
 -- src/range.rt:16:9
 returns : tie.Need-returns
-returns c = ?
+unfolding upTo
+returns c = rw (lt-leb _ _ (c .if1 .taken))
 
 -- src/range.rt:12:1
 returns-2 : tie.Need-returns-2
-returns-2 c = ?
+unfolding upTo
+returns-2 c = rw (le-leb _ _ (c .if1 .left))
 
 pub up-to-spec : {M : Type 1} → statement M
 up-to-spec = tie.close (tie.spec returns returns-2)

@@ -1,3 +1,6 @@
+use Rattle.vif.proofs.RangeLaws.{by-waiting}
+use Rattle.vif.specs.Range.{waitingInRange}
+use mathlib.Core.Path.{refl}
 use borrow.Author.Needs.{needs}
 use Rattle.vif.proofs.range.waiting_in_range.Statement.{statement}
 use Rattle.vif.proofs.range.waiting_in_range.Tie as tie
@@ -65,35 +68,43 @@ unpack-in-range-requires c κs = search needs
 
 -- src/range.rt:66:1
 returns : tie.Need-returns
-returns c = ?
+unfolding waitingInRange
+returns c = by-waiting (c .enum-told .given .1) _ _ refl
 
 -- src/range.rt:66:1
 returns-2 : tie.Need-returns-2
-returns-2 c = ?
+unfolding waitingInRange
+returns-2 c = by-waiting (c .enum-told2 .given .1) _ _ refl
 
 -- src/range.rt:66:1
 returns-3 : tie.Need-returns-3
-returns-3 c = ?
+unfolding waitingInRange
+returns-3 c = by-waiting (c .before .before .waiting .given .1) _ _ (c .up-to .ensures)
 
 -- src/range.rt:66:1
 returns-4 : tie.Need-returns-4
-returns-4 c = ?
+unfolding waitingInRange
+returns-4 c = by-waiting (c .before .before .waiting2 .given .1) _ _ (c .up-to2 .ensures)
 
 -- src/range.rt:66:1
 returns-5 : tie.Need-returns-5
-returns-5 c = ?
+unfolding waitingInRange
+returns-5 c = by-waiting (c .before .before .waiting3 .given .1) _ _ (c .mpg-in-range .ensures)
 
 -- src/range.rt:66:1
 returns-6 : tie.Need-returns-6
-returns-6 c = ?
+unfolding waitingInRange
+returns-6 c = by-waiting (c .before .before .waiting4 .given .1) _ _ (c .up-to3 .ensures)
 
 -- src/range.rt:66:1
 returns-7 : tie.Need-returns-7
-returns-7 c = ?
+unfolding waitingInRange
+returns-7 c = by-waiting (c .before .before .waiting5 .given .1) _ _ (c .up-to4 .ensures)
 
 -- src/range.rt:66:1
 returns-8 : tie.Need-returns-8
-returns-8 c = ?
+unfolding waitingInRange
+returns-8 c = by-waiting (c .before .before .waiting6 .given .1) _ _ (c .unpack-in-range .ensures)
 
 pub waiting-in-range-spec : {M : Type 1} → statement M
 waiting-in-range-spec =

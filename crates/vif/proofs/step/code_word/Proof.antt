@@ -1,3 +1,4 @@
+use Rattle.vif.specs.Step.{codeStep}
 use borrow.Author.Needs.{needs}
 use Rattle.vif.proofs.step.code_word.Statement.{statement}
 use Rattle.vif.proofs.step.code_word.Tie as tie
@@ -20,7 +21,8 @@ same-length c = search needs
 
 -- src/step.rt:45:1
 returns : tie.Need-returns
-returns c = ?
+unfolding codeStep
+returns c = λ mem code. rw (c .answered .ensures, ← c .before .before .before .before .take-code .ensures)
 
 pub code-word-spec : {M : Type 1} → statement M
 code-word-spec = tie.close (tie.spec take-code-requires answered-requires same-length returns)

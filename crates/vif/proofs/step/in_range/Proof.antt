@@ -1,3 +1,4 @@
+use mathlib.Core.Path.{sym, _∙_}
 use borrow.Author.Needs.{needs}
 use Rattle.vif.proofs.step.in_range.Statement.{statement}
 use Rattle.vif.proofs.step.in_range.Tie as tie
@@ -16,11 +17,11 @@ path-in-range-requires c κs = search needs
 
 -- src/step.rt:197:9
 returns : tie.Need-returns
-returns c = ?
+returns c = rw (sym (c .before .before .unit-in-range .ensures) ∙ c .before .if1 .taken) (c .path-in-range .ensures)
 
 -- src/step.rt:193:1
 returns-2 : tie.Need-returns-2
-returns-2 c = ?
+returns-2 c = rw (sym (c .before .unit-in-range .ensures) ∙ c .if1 .left)
 
 pub in-range-spec : {M : Type 1} → statement M
 in-range-spec =

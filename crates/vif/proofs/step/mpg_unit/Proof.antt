@@ -20,7 +20,7 @@ with-waiting-requires c κs = search needs
 
 -- src/step.rt:118:1
 returns : tie.Need-returns
-returns c = ?
+returns c = rw (← c .before .or-nothing .ensures) (c .with-waiting .ensures)
 
 pub mpg-unit-spec : {M : Type 1} → statement M
 mpg-unit-spec = tie.close (tie.spec sub-t7 or-nothing-requires with-waiting-requires returns)

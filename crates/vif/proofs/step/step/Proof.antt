@@ -1,3 +1,7 @@
+use Rattle.vif.proofs.StepLaws.{by-waiting}
+use Rattle.vif.proofs.RangeLaws.{row-due, col-due, mpg-due, direct-due, directhl-due, unpack-due}
+use Rattle.vif.specs.Step.{vifStep}
+use mathlib.Core.Path.{sym, _∙_, ap}
 use borrow.Author.Needs.{needs}
 use Rattle.vif.proofs.step.step.Statement.{statement}
 use Rattle.vif.proofs.step.step.Tie as tie
@@ -49,7 +53,7 @@ completed-requires c κs = search needs
 
 -- src/step.rt:151:13
 row-word-requires : tie.Need-row-word-requires
-row-word-requires c κs = ?
+row-word-requires c κs = row-due (c .before .before .before .before .before .before .before .before .args .unit) (c .before .before .before .before .before .before .before .before .pre .ranged) (c .before .before .waiting2 .given .1)
 
 -- src/step.rt:149:47
 answered-requires-2 : tie.Need-answered-requires-2
@@ -65,7 +69,7 @@ completed-requires-2 c κs = search needs
 
 -- src/step.rt:157:13
 col-word-requires : tie.Need-col-word-requires
-col-word-requires c κs = ?
+col-word-requires c κs = col-due (c .before .before .before .before .before .before .before .before .args .unit) (c .before .before .before .before .before .before .before .before .pre .ranged) (c .before .before .waiting3 .given .1)
 
 -- src/step.rt:155:47
 answered-requires-3 : tie.Need-answered-requires-3
@@ -77,7 +81,7 @@ enum-known-waiting-4 c = search needs
 
 -- src/step.rt:167:13
 store-mpg-requires : tie.Need-store-mpg-requires
-store-mpg-requires c κs = ?
+store-mpg-requires c κs = let m = mpg-due (c .before .before .before .before .before .before .before .before .args .unit) (c .before .before .before .before .before .before .before .before .pre .ranged) (c .before .before .waiting4 .given .1) in (m .0, m .1, m .2, c .before .before .before .before .before .before .before .before .pre .wide)
 
 -- src/step.rt:169:33
 completed-requires-3 : tie.Need-completed-requires-3
@@ -85,7 +89,7 @@ completed-requires-3 c κs = search needs
 
 -- src/step.rt:170:17
 mpg-unit-requires : tie.Need-mpg-unit-requires
-mpg-unit-requires c κs = ?
+mpg-unit-requires c κs = mpg-due (c .before .before .before .before .before .before .before .before .before .before .before .before .args .unit) (c .before .before .before .before .before .before .before .before .before .before .before .before .pre .ranged) (c .before .before .before .before .before .before .waiting4 .given .1) .3
 
 -- src/step.rt:168:13
 answered-requires-4 : tie.Need-answered-requires-4
@@ -97,7 +101,7 @@ enum-known-waiting-5 c = search needs
 
 -- src/step.rt:177:22
 sub-t44 : tie.Need-sub-t44
-sub-t44 c = ?
+sub-t44 c = direct-due (c .before .before .before .before .before .before .before .args .unit) (c .before .before .before .before .before .before .before .pre .ranged) (c .before .waiting5 .given .1) .0
 
 -- src/step.rt:180:13
 direct-requires : tie.Need-direct-requires
@@ -109,7 +113,7 @@ enum-known-waiting-6 c = search needs
 
 -- src/step.rt:184:22
 sub-t47 : tie.Need-sub-t47
-sub-t47 c = ?
+sub-t47 c = directhl-due (c .before .before .before .before .before .before .before .args .unit) (c .before .before .before .before .before .before .before .pre .ranged) (c .before .waiting6 .given .1) .0
 
 -- src/step.rt:187:13
 direct-requires-2 : tie.Need-direct-requires-2
@@ -121,7 +125,7 @@ enum-known-waiting-7 c = search needs
 
 -- src/step.rt:189:37
 unpack-word-requires : tie.Need-unpack-word-requires
-unpack-word-requires c κs = ?
+unpack-word-requires c κs = unpack-due (c .before .before .before .before .before .before .before .before .args .unit) (c .before .before .before .before .before .before .before .before .pre .ranged) (c .before .before .waiting7 .given .1) _ (c .before .before .before .before .before .before .before .before .pre .long)
 
 -- src/step.rt:132:1
 same-length : tie.Need-same-length
@@ -129,19 +133,23 @@ same-length c = search needs
 
 -- src/step.rt:132:1
 returns : tie.Need-returns
-returns c = ?
+unfolding vifStep
+returns c = by-waiting (c .before .before .before .before .enum-told .given .1) _ _ _ _ _ (rw (← c .before .before .before .before .before .before .word-in .ensures) (c .before .before .code-word .ensures _ _))
 
 -- src/step.rt:132:1
 returns-2 : tie.Need-returns-2
-returns-2 c = ?
+unfolding vifStep
+returns-2 c = by-waiting (c .before .before .before .waiting .given .1) _ _ _ _ _ (rw (c .answered .ensures, c .before .mask-word .ensures, c .before .before .before .before .before .word-in .ensures))
 
 -- src/step.rt:132:1
 returns-3 : tie.Need-returns-3
-returns-3 c = ?
+unfolding vifStep
+returns-3 c = by-waiting (c .before .before .before .before .waiting2 .given .1) _ _ _ _ _ (rw (c .answered2 .ensures, c .before .row-word .ensures, c .before .before .completed .ensures, c .before .before .before .before .before .before .word-in .ensures))
 
 -- src/step.rt:132:1
 returns-4 : tie.Need-returns-4
-returns-4 c = ?
+unfolding vifStep
+returns-4 c = by-waiting (c .before .before .before .before .waiting3 .given .1) _ _ _ _ _ (rw (c .answered3 .ensures, c .before .col-word .ensures, c .before .before .completed2 .ensures, c .before .before .before .before .before .before .word-in .ensures))
 
 -- src/step.rt:132:1
 same-length-2 : tie.Need-same-length-2
@@ -149,7 +157,8 @@ same-length-2 c = search needs
 
 -- src/step.rt:132:1
 returns-5 : tie.Need-returns-5
-returns-5 c = ?
+unfolding vifStep
+returns-5 c = by-waiting (c .before .before .before .before .before .before .before .before .waiting4 .given .1) _ _ _ _ _ (rw (c .answered4 .ensures, c .before .mpg-unit .ensures, c .before .before .completed3 .ensures, c .before .before .before .before .before .store-mpg .ensures, c .before .before .before .before .before .before .before .before .before .before .word-in .ensures))
 
 -- src/step.rt:132:1
 same-length-3 : tie.Need-same-length-3
@@ -157,7 +166,8 @@ same-length-3 c = search needs
 
 -- src/step.rt:132:1
 returns-6 : tie.Need-returns-6
-returns-6 c = ?
+unfolding vifStep
+returns-6 c = by-waiting (c .before .before .before .before .before .waiting5 .given .1) _ _ _ _ _ (c .before .before .direct .ensures _ _)
 
 -- src/step.rt:132:1
 same-length-4 : tie.Need-same-length-4
@@ -165,7 +175,8 @@ same-length-4 c = search needs
 
 -- src/step.rt:132:1
 returns-7 : tie.Need-returns-7
-returns-7 c = ?
+unfolding vifStep
+returns-7 c = by-waiting (c .before .before .before .before .before .waiting6 .given .1) _ _ _ _ _ (c .before .before .direct2 .ensures _ _)
 
 -- src/step.rt:132:1
 same-length-5 : tie.Need-same-length-5
@@ -173,7 +184,8 @@ same-length-5 c = search needs
 
 -- src/step.rt:132:1
 returns-8 : tie.Need-returns-8
-returns-8 c = ?
+unfolding vifStep
+returns-8 c = by-waiting (c .before .before .before .before .before .waiting7 .given .1) _ _ _ _ _ (rw (← c .before .before .before .before .before .before .before .word-in .ensures) (c .before .before .unpack-word .ensures _ _))
 
 pub step-spec : {M : Type 1} → statement M
 step-spec =

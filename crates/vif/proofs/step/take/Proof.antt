@@ -1,3 +1,9 @@
+use Rattle.vif.specs.Range.{unitInRange}
+use Rattle.vif.specs.Step.{takeOf}
+use Rattle.fields.proofs.ChoiceLaws.{and-left, and-right}
+use Rattle.fields.specs.Fields.{if}
+use borrow.Author.Tests.{eq-eqb, ne-eqb}
+use mathlib.Core.Path.{sym, _∙_}
 use borrow.Author.Needs.{needs}
 use Rattle.vif.proofs.step.take.Statement.{statement}
 use Rattle.vif.proofs.step.take.Tie as tie
@@ -14,7 +20,8 @@ answered-requires c κs = search needs
 
 -- src/step.rt:215:9
 returns : tie.Need-returns
-returns c = ?
+unfolding takeOf if
+returns c = rw (ne-eqb _ _ (c .before .if1 .taken), c .answered .ensures)
 
 -- src/step.rt:218:9
 answered-requires-2 : tie.Need-answered-requires-2
@@ -22,7 +29,8 @@ answered-requires-2 c κs = search needs
 
 -- src/step.rt:218:9
 returns-2 : tie.Need-returns-2
-returns-2 c = ?
+unfolding takeOf if
+returns-2 c = rw (eq-eqb _ _ (c .before .before .if1 .left), ne-eqb _ _ (c .before .if2 .taken), c .answered2 .ensures)
 
 -- src/step.rt:220:8
 log-refused-requires : tie.Need-log-refused-requires
@@ -38,7 +46,8 @@ same-length c = search needs
 
 -- src/step.rt:221:9
 returns-3 : tie.Need-returns-3
-returns-3 c = ?
+unfolding takeOf if
+returns-3 c = rw (eq-eqb _ _ (c .before .before .before .before .before .if1 .left), eq-eqb _ _ (c .before .before .before .before .if2 .left), sym (c .before .before .log-refused .ensures) ∙ c .before .if3 .taken, c .answered3 .ensures)
 
 -- src/step.rt:223:8
 in-range-requires : tie.Need-in-range-requires
@@ -46,7 +55,7 @@ in-range-requires c κs = search needs
 
 -- src/step.rt:224:9
 step-requires : tie.Need-step-requires
-step-requires c κs = ?
+step-requires c κs = let r = sym (c .before .before .before .before .in-range .ensures) ∙ c .before .before .before .if4 .taken in record { long = c .before .before .before .before .before .before .before .before .before .if1 .left; wide = c .before .before .before .before .before .before .before .before .if2 .left; gif = record { logged = sym (c .before .before .before .before .before .before .log-refused .ensures) ∙ c .before .before .before .before .before .if3 .left; ranged = and-right (unitInRange (c .before .before .before .before .before .before .before .before .before .before .before .before .before .args .unit)) _ r }; ranged = and-left _ _ r }
 
 -- src/step.rt:226:9
 answered-requires-4 : tie.Need-answered-requires-4
@@ -66,7 +75,8 @@ same-length-4 c = search needs
 
 -- src/step.rt:203:1
 returns-4 : tie.Need-returns-4
-returns-4 c = ?
+unfolding takeOf if
+returns-4 c = rw (eq-eqb _ _ (c .before .before .before .before .before .before .before .before .before .before .before .before .before .before .before .before .if1 .left), eq-eqb _ _ (c .before .before .before .before .before .before .before .before .before .before .before .before .before .before .before .if2 .left), sym (c .before .before .before .before .before .before .before .before .before .before .before .before .before .log-refused .ensures) ∙ c .before .before .before .before .before .before .before .before .before .before .before .before .if3 .left, sym (c .before .before .before .before .before .before .before .before .before .before .before .in-range .ensures) ∙ c .before .before .before .before .before .before .before .before .before .before .if4 .taken) (c .before .before .before .before .before .before .step .ensures)
 
 -- src/step.rt:203:1
 same-length-5 : tie.Need-same-length-5
@@ -74,7 +84,8 @@ same-length-5 c = search needs
 
 -- src/step.rt:203:1
 returns-5 : tie.Need-returns-5
-returns-5 c = ?
+unfolding takeOf if
+returns-5 c = rw (eq-eqb _ _ (c .before .before .before .before .before .before .before .if1 .left), eq-eqb _ _ (c .before .before .before .before .before .before .if2 .left), sym (c .before .before .before .before .log-refused .ensures) ∙ c .before .before .before .if3 .left, sym (c .before .before .in-range .ensures) ∙ c .before .if4 .left, c .answered4 .ensures)
 
 pub take-spec : {M : Type 1} → statement M
 take-spec =

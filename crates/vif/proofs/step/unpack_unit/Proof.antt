@@ -1,3 +1,4 @@
+use mathlib.Core.Path.{_∙_}
 use borrow.Author.Needs.{needs}
 use Rattle.vif.proofs.step.unpack_unit.Statement.{statement}
 use Rattle.vif.proofs.step.unpack_unit.Tie as tie
@@ -26,7 +27,7 @@ with-waiting-requires c κs = search needs
 
 -- src/step.rt:84:1
 returns : tie.Need-returns
-returns c = ?
+returns c = c .with-waiting .ensures ∙ rw (c .before .before .with-row .ensures, c .before .or-nothing .ensures, c .before .before .before .held .ensures)
 
 pub unpack-unit-spec : {M : Type 1} → statement M
 unpack-unit-spec =

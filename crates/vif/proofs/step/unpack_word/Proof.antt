@@ -1,3 +1,5 @@
+use Rattle.vif.proofs.StepLaws.{unpacked}
+use mathlib.Core.Path.{_∙_}
 use borrow.Author.Needs.{needs}
 use Rattle.vif.proofs.step.unpack_word.Statement.{statement}
 use Rattle.vif.proofs.step.unpack_word.Tie as tie
@@ -35,7 +37,7 @@ same-length c = search needs
 
 -- src/step.rt:93:1
 returns : tie.Need-returns
-returns c = ?
+returns c = λ code log. rw (c .answered .ensures) (unpacked _ _ _ _ _ _ _ _ _ (c .before .before .before .before .before .before .before .before .before .before .before .pre) (c .before .before .before .before .before .before .before .before .before .write-registers .ensures) (c .before .before .before .before .before .before .take-word .ensures) (c .before .before .unpack-unit .ensures) (c .before .completed .ensures))
 
 pub unpack-word-spec : {M : Type 1} → statement M
 unpack-word-spec =

@@ -1,0 +1,64 @@
+-- The step from what its parts give.
+use mathlib.Core.Path.{_≡_, refl, sym, ap, _∙_}
+use mathlib.Core.Bool.{Bool, true, false}
+use mathlib.Core.List.{List}
+use Prim.Native.Nat.{ℕ, _+_, _*_, _^_}
+use Rattle.fields.specs.Fields.{if, quadword}
+use Rattle.gif.specs.declared.Path.{Path}
+use Rattle.gif.specs.declared.GifAnswer.{GifAnswer}
+use Rattle.gif.specs.declared.GifResult.{GifResult}
+use Rattle.gif.specs.Step.{Left as GifLeft, left as gifLeft, gifStep, takeOf as gifTakeOf}
+use Rattle.gif.specs.declared.GifAnswer.the-variants.{Refused as GifRefused}
+use Rattle.gif.proofs.StepLaws.{tested, Wrote, step-wrote}
+use Rattle.gif.proofs.RangeLaws.{log-fits}
+use Rattle.unpack.specs.declared.Format.{Format}
+use Rattle.unpack.specs.declared.Unpacking.{Unpacking}
+use Rattle.unpack.specs.declared.Registers.{Registers}
+use Rattle.unpack.specs.declared.Rows.{Rows}
+use Rattle.unpack.specs.Step.{Left as UnpackLeft, left as unpackLeft, takeOf as unpackTakeOf}
+use Rattle.vif.specs.declared.Incoming.{Incoming}
+use Rattle.vif.specs.declared.VifAnswer.the-variants.{Word}
+use Rattle.vif.specs.declared.Waiting.{Waiting}
+use Rattle.vif.specs.declared.Vif.{Vif}
+use Rattle.vif.specs.Payload.{completes, writeRegisters, unpackUnit}
+use Rattle.vif.specs.Inner.{GifReady, UnpackReady}
+use Rattle.vif.specs.Step.{Lent, lent, Left, left, answers, afterGif, afterQuadword, giveQuadword, directStep, unpackStep, stepBy}
+
+-- what holds at the case that an arm knows holds at the value itself
+pub by-answer : {a b : GifAnswer} → a ≡ b → (o : GifLeft) (v : Vif) (p : Path) (due : ℕ) (i : Bool) (w : Waiting) (used : ℕ) (m : Lent) {x : Left}
+    → x ≡ afterGif b o v p due i w used m → x ≡ afterGif a o v p due i w used m
+by-answer q o v p due i w used m h = rw q h
+
+pub by-incoming : {n k : Incoming} → n ≡ k → (v : Vif) (p : Path) (due : ℕ) (i : Bool) (w : Waiting) (used : ℕ) (m : Lent) {x : Left}
+    → x ≡ directStep k v p due i w used m → x ≡ directStep n v p due i w used m
+by-incoming q v p due i w used m h = rw q h
+
+pub by-waiting : {w k : Waiting} → w ≡ k → (v : Vif) (p : Path) (n : Incoming) (used : ℕ) (m : Lent) {x : Left}
+    → x ≡ stepBy k v p n used m → x ≡ stepBy w v p n used m
+by-waiting q v p n used m h = rw q h
+
+-- a quadword that the GIF tested
+pub gave : (quad : ℕ) (v : Vif) (p : Path) (due : ℕ) (i : Bool) (w : Waiting) (used : ℕ) (mem code log : List ℕ) → GifReady p used log
+    → {r : GifResult} {l : List ℕ} → gifLeft r l ≡ gifTakeOf p quad used log
+    → {x : Left} → x ≡ afterQuadword (gifLeft r l) v p due i w used (lent mem code log) → x ≡ giveQuadword quad v p due i w used (lent mem code log)
+unfolding giveQuadword
+gave quad v p due i w used mem code log g e h =
+    h ∙ ap (λ (o : GifLeft). afterQuadword o v p due i w used (lent mem code log)) (e ∙ tested p quad used log (g .logged) (g .ranged))
+
+-- a refused quadword left the log as it was
+pub gif-kept : (p : Path) (quad used : ℕ) (log : List ℕ) → GifReady p used log → {r : GifResult} {l : List ℕ} → gifLeft r l ≡ gifTakeOf p quad used log
+    → {n : ℕ} → r .answer ≡ GifRefused n → l ≡ log
+gif-kept p quad used log g {r} {l} e {n} q =
+    let e′ : gifLeft r l ≡ gifStep p quad used log = e ∙ tested p quad used log (g .logged) (g .ranged) in
+    let w = step-wrote p used log (log-fits log used (g .logged) .holds) quad in
+    ap (λ (o : GifLeft). o .log) (e′ ∙ w .same n (ap (λ (o : GifLeft). o .answer) (sym e′) ∙ q))
+
+-- an accepted payload word of UNPACK
+pub unpacked : (v : Vif) (p : Path) (f : Format) (u : Unpacking) (word used : ℕ) (mem code log : List ℕ) → UnpackReady v f u mem
+    → {r : Registers} {s : Rows} {m : List ℕ} {v′ : Vif} {b : Bool} → r ≡ writeRegisters v → unpackLeft s m ≡ unpackTakeOf 1024 f u r word (v .row) mem
+    → v′ ≡ unpackUnit v f u word (s .row) → b ≡ completes (u .due) (u .interrupt)
+    → left (answers (Word b) v′ p used) (lent m code log) ≡ unpackStep v p f u word used (lent mem code log)
+unfolding unpackStep unpackTakeOf if
+unpacked v p f u word used mem code log g er es ev eb =
+    let e = rw (er, g .accepted) at es in
+    rw (eb, ev, ap (λ (o : UnpackLeft). o .row) e, ap (λ (o : UnpackLeft). o .mem) e)

@@ -1,0 +1,171 @@
+//! Another program's capture results against our own.
+
+use crate::capture_cases::{
+    self, case_starts, describe_case, describe_result, first_case, Results, HEADER,
+};
+use crate::capture_counts::Counts;
+use crate::capture_generate::generate;
+use crate::compare::{first_difference, table, zeros, Program};
+use crate::random::Random;
+use crate::words::{word, WORD};
+
+/// Damaged files with longer runs are left out.
+const MOST_STEPS: u64 = 1_000_000;
+
+/// Compares on the cases of each seed and on damaged files made from them.
+pub fn compare(program: &Program, seeds: &[u64], runs: u64) -> Result<(), String> {
+    let mut counts = Counts::default();
+    let mut damaged_files = 0;
+    for &seed in seeds {
+        let file = generate(seed, runs);
+        compare_file(program, &file, &mut counts).map_err(|e| format!("seed {seed}: {e}"))?;
+        for (name, damaged) in damaged(&file, seed) {
+            compare_file(program, &damaged, &mut Counts::default())
+                .map_err(|e| format!("seed {seed}, damaged file ({name}): {e}"))?;
+            damaged_files += 1;
+        }
+    }
+    let mut rows = counts.rows();
+    rows.push(("damaged files".to_string(), damaged_files));
+    print!("{}", table(&rows));
+    let missing = zeros(&rows);
+    if !missing.is_empty() {
+        return Err(format!("never reached: {}", missing.join("; ")));
+    }
+    println!("no difference");
+    Ok(())
+}
+
+fn compare_file(program: &Program, file: &[u8], counts: &mut Counts) -> Result<(), String> {
+    let own = capture_cases::results(file, counts);
+    let theirs = program.run(file)?;
+    match first_difference(&own.bytes, &theirs) {
+        None => Ok(()),
+        Some(at) => Err(explain(file, &own, &theirs, at)),
+    }
+}
+
+fn explain(file: &[u8], own: &Results, theirs: &[u8], at: usize) -> String {
+    let lengths = format!("{} bytes, ours {}", theirs.len(), own.bytes.len());
+    if own.damage.is_some_and(|line| at >= line) || at >= own.bytes.len() {
+        let line = own.damage.unwrap_or(own.bytes.len());
+        let text = |bytes: &[u8]| {
+            let end = bytes.len().min(line + 80);
+            String::from_utf8_lossy(&bytes[line.min(end)..end])
+                .escape_debug()
+                .to_string()
+        };
+        let case = own.starts.last().map_or(0, |start| start.case);
+        return format!(
+            "differs after the last result, that of case {case}: {lengths}\n  program: {}\n  ours: {}",
+            text(theirs),
+            text(&own.bytes)
+        );
+    }
+    let index = own.starts.partition_point(|start| start.offset <= at) - 1;
+    let start = &own.starts[index];
+    let from = case_starts(file)[start.case];
+    let (case, _) = first_case(&file[from..]).expect("a case with results is whole");
+    let call = &case.calls[start.call];
+    format!(
+        "case {}, call {}: results differ at byte {at}, word {} of the result ({lengths})\n  \
+         program: {}\n  ours: {}\n  the case and our last steps:\n{}",
+        start.case,
+        start.call,
+        (at - start.offset) / WORD,
+        describe_result(&theirs[start.offset..], call, &case),
+        describe_result(&own.bytes[start.offset..], call, &case),
+        describe_case(&case, start.call)
+    )
+}
+
+/// The first three cases and up to nine in a row from anywhere.
+fn some_cases(file: &[u8], random: &mut Random) -> Vec<u8> {
+    let mut bounds = case_starts(file);
+    bounds.push(file.len());
+    let count = bounds.len() - 1;
+    let first = random.within(3..=count as u64 - 1) as usize;
+    let end = (first + 9).min(count);
+    [&file[..bounds[3]], &file[bounds[first]..bounds[end]]].concat()
+}
+
+/// Damaged files made from a whole one, each with a name.
+fn damaged(file: &[u8], seed: u64) -> Vec<(String, Vec<u8>)> {
+    let mut random = Random::new(seed ^ 0x5EED);
+    let file = &some_cases(file, &mut random);
+    let starts = case_starts(file);
+    let mut made = vec![("empty".to_string(), Vec::new())];
+    let cut = |made: &mut Vec<(String, Vec<u8>)>, at: usize| {
+        let at = at.min(file.len());
+        made.push((format!("cut after {at} bytes"), file[..at].to_vec()));
+    };
+    let header = HEADER * WORD;
+    for at in [1, 3, 4, 8, header - 1, header, header + 3, file.len() - 1] {
+        cut(&mut made, at);
+    }
+    let last = starts.len() - 1;
+    for index in [1, last / 2, last] {
+        let start = starts[index];
+        for after in [
+            1,
+            4,
+            header - 4,
+            header - 1,
+            header,
+            header + 4,
+            header + 16,
+        ] {
+            cut(&mut made, start + after);
+        }
+        cut(&mut made, random.below(file.len() as u64) as usize);
+    }
+    for index in [0, 1, last / 2, last] {
+        spoil_case(&mut made, file, starts[index], index);
+    }
+    // A changed case may loop under an allowance that was meant for another.
+    made.retain(|(_, bytes)| capture_cases::ends_within(bytes, MOST_STEPS));
+    made
+}
+
+/// Files in which one word of a case is changed.
+fn spoil_case(made: &mut Vec<(String, Vec<u8>)>, file: &[u8], start: usize, index: usize) {
+    let mut spoil = |name: &str, at: usize, value: u32| {
+        let mut bytes = file.to_vec();
+        let at = start + WORD * at;
+        if at + WORD <= bytes.len() {
+            bytes[at..at + WORD].copy_from_slice(&value.to_le_bytes());
+            made.push((format!("case {index}, {name}"), bytes));
+        }
+    };
+    let held = |at: usize| word(&file[start..], at);
+    let mark = capture_cases::MARK;
+    spoil("mark with its first bit flipped", 0, mark ^ 1);
+    spoil("mark with its last bit flipped", 0, mark ^ 1 << 31);
+    let limits = [
+        ("M", 1, capture_cases::MOST_MAIN),
+        ("P", 2, held(1) / 4),
+        ("D", 3, capture_cases::MOST_DATA),
+        ("C", 4, capture_cases::MOST_CODE),
+        ("L", 5, capture_cases::MOST_LOG),
+        ("mode", 8, 1),
+        ("n", 9, capture_cases::MOST_CALLS),
+    ];
+    for (name, at, most) in limits {
+        spoil(&format!("{name} at its limit"), at, most);
+        spoil(&format!("{name} one above its limit"), at, most + 1);
+        spoil(&format!("{name} the greatest"), at, u32::MAX);
+    }
+    for (name, at) in [("M", 1), ("P", 2), ("n", 9)] {
+        spoil(&format!("{name} one more"), at, held(at) + 1);
+        spoil(&format!("{name} one less"), at, held(at).saturating_sub(1));
+    }
+    spoil("M just too short for P", 1, (4 * held(2)).saturating_sub(1));
+    let calls = held(9) as usize;
+    if calls > 0 {
+        for kind in [0, 3, 257, u32::MAX] {
+            spoil(&format!("first call of kind {kind}"), HEADER, kind);
+        }
+        spoil("last call of kind 0", HEADER + 4 * (calls - 1), 0);
+        spoil("last call of kind 3", HEADER + 4 * (calls - 1), 3);
+    }
+}

@@ -1,0 +1,815 @@
+//! What captures reached.
+
+use crate::capture_cases::{read_block, write_block, Block, Case, Standing};
+use crate::chain::{self, Next, State, Step, Tag};
+use crate::gif::{self, Path, Place};
+use crate::gif_cases;
+use crate::vif::{self, Payload};
+use crate::vif_cases::waiting_number;
+use crate::vif_counts::{field_names, wrong_fields, WAITING};
+use std::collections::HashMap;
+
+const IDS: [&str; 8] = ["refe", "cnt", "next", "ref", "refs", "call", "ret", "end"];
+/// The refusals at entry, in order.
+const ENTRY: [u32; 6] = [1, 2, 3, 4, 5, 14];
+/// The refusals of steps.
+const STEPS: [u32; 12] = [10, 11, 12, 13, 14, 20, 21, 22, 23, 24, 30, 31];
+/// The fields of a state block before the unit block that can be out of range.
+const FIELDS: [&str; 18] = [
+    "channel",
+    "TADR no multiple of 16",
+    "TADR from 2^31",
+    "TTE above 1",
+    "TTE on channel 2",
+    "ended above 1",
+    "depth above 2",
+    "stack 0 no multiple of 16",
+    "stack 0 too high",
+    "stack 1 no multiple of 16",
+    "stack 1 too high",
+    "tag words above 1",
+    "tag words without TTE",
+    "tag word's place",
+    "payload too long",
+    "payload no multiple of 4",
+    "payload on channel 2 no multiple of 16",
+    "payload's end",
+];
+/// Runs allowed fewer steps are left out of the median.
+const MEDIAN_FROM: u64 = 50;
+const DEEP: u64 = 100_000;
+
+#[derive(Default)]
+pub struct Counts {
+    by_name: HashMap<String, u64>,
+    cases: u64,
+    runs: u64,
+    starts: u64,
+    steps: u64,
+    /// Tags read by ID and TTE.
+    tags: [[u64; 2]; 8],
+    tags_without_payload: [[u64; 2]; 8],
+    words: [[u64; 4]; 2],
+    direct_quadwords: u64,
+    path3_quadwords: u64,
+    /// The step counts of runs that are allowed many.
+    lengths: Vec<u64>,
+    /// Main memory of the case, as far as it is given.
+    main: Vec<u32>,
+    main_length: usize,
+    /// The state at the start of the run.
+    begun: Option<State>,
+    stepped: bool,
+}
+
+impl Counts {
+    fn add(&mut self, name: &str) {
+        self.add_if(name, true);
+    }
+
+    fn add_if(&mut self, name: &str, happened: bool) {
+        if happened {
+            match self.by_name.get_mut(name) {
+                Some(count) => *count += 1,
+                None => {
+                    self.by_name.insert(name.to_string(), 1);
+                }
+            }
+        }
+    }
+
+    pub fn note_case(&mut self, case: &Case) {
+        self.cases += 1;
+        self.main.clone_from(&case.main);
+        self.main_length = case.main_length as usize;
+        self.add(if case.whole {
+            "cases that show whole memories"
+        } else {
+            "cases that show changes"
+        });
+        let small = case.main_length <= 4_096;
+        self.add_if("cases with main memory above 4 KiB", !small);
+        let given = 4 * case.main.len() as u32;
+        self.add_if(
+            "cases with main memory not all given",
+            given + 16 <= case.main_length,
+        );
+        if let Some(state) = read_block(&case.state) {
+            let junk = write_block(&state) != case.state;
+            self.add_if("state blocks with words that mean nothing", junk);
+        }
+    }
+
+    pub fn begin_run(&mut self, standing: &Standing) {
+        self.begun = standing.state;
+        self.stepped = false;
+    }
+
+    fn main_word(&self, address: u32) -> u32 {
+        self.main.get(address as usize / 4).copied().unwrap_or(0)
+    }
+
+    fn tag_at(&self, tadr: u32) -> Tag {
+        let (low, high) = (self.main_word(tadr), self.main_word(tadr + 4));
+        Tag::decode(low as u128 | (high as u128) << 32)
+    }
+
+    /// Notes a step that was tried.
+    pub fn note_step(&mut self, old: &State, new: &State, tried: Result<Step, u32>, log: u64) {
+        let Ok(step) = tried else {
+            return;
+        };
+        self.steps += 1;
+        if !self.stepped {
+            self.stepped = true;
+            self.note_first_step(old);
+        }
+        match step {
+            Step::Tag(tag) => self.note_tag(old, new, &tag),
+            Step::TagWord(_) => {
+                let Next::TagWord(address) = old.next() else {
+                    return;
+                };
+                let number = address / 4 % 4;
+                self.words[1][number as usize] += 1;
+                let alone = old.payload.is_none();
+                self.add_if("tag words taken, QWC 0", alone);
+                self.add_if("tag words taken as payload", old.unit.waiting.is_some());
+                self.add_if("tag words taken that are codes", old.unit.waiting.is_none());
+            }
+            Step::Payload(taken) if taken.quadword => self.direct_quadwords += 1,
+            Step::Payload(_) => {
+                let number = old.payload.map_or(0, |pending| pending.address / 4 % 4);
+                self.words[0][number as usize] += 1;
+            }
+            Step::Path3 => self.path3_quadwords += 1,
+        }
+        if new.used > old.used && 2 * new.used == log {
+            self.add("log exactly full after a write");
+        }
+        if step.interrupt() {
+            match (step, old.unit.waiting.is_some()) {
+                (Step::TagWord(_), false) => self.add("interrupt at a tag word that is a code"),
+                (Step::TagWord(_), true) => self.add("interrupt at a tag word that is payload"),
+                (Step::Payload(taken), _) if taken.quadword => {
+                    self.add("interrupt at a quadword of DIRECT");
+                }
+                (_, false) => self.add("interrupt at a code"),
+                (_, true) => self.add("interrupt at a payload word"),
+            }
+        }
+    }
+
+    /// Notes what a run that gets on goes on with.
+    fn note_first_step(&mut self, state: &State) {
+        match state.next() {
+            Next::Tag => self.add("runs that go on with a tag"),
+            Next::TagWord(address) => {
+                let number = address / 4 % 4;
+                self.add(&format!("runs that go on with tag word {number}"));
+                let tied = (state.tadr / 16 == address / 16) as u32;
+                self.add_if("tag words pending away from TADR", tied == 0);
+            }
+            Next::Payload(_) if state.channel == 2 => {
+                self.add("runs that go on with payload, channel 2");
+            }
+            Next::Payload(pending) => {
+                let number = pending.address / 4 % 4;
+                self.add(&format!(
+                    "runs that go on with payload, channel 1, word {number}"
+                ));
+            }
+        }
+        if state.channel == 1 {
+            if let Some(waiting) = &state.unit.waiting {
+                let name = WAITING[waiting_number(&waiting.payload) as usize - 1];
+                self.add(&format!("runs that go on with {name} waiting"));
+            }
+        }
+        let held = |path: &Path| path.place != Place::Idle;
+        let path3 = state.channel == 2 && held(&state.path3);
+        self.add_if("runs that go on inside a GIF tag, path 3", path3);
+        let direct = state.channel == 1 && waits_for_quadwords(state) && held(&state.path2);
+        self.add_if("runs that go on inside a GIF tag, path 2", direct);
+        self.add_if("runs on a chain that has ended", state.ended);
+    }
+
+    fn note_tag(&mut self, old: &State, new: &State, tag: &Tag) {
+        let id = tag.id as usize;
+        let tte = old.tte as usize;
+        self.tags[id][tte] += 1;
+        self.tags_without_payload[id][tte] += (tag.qwc == 0) as u64;
+        self.add_if("tags with bit 31", self.main_word(old.tadr) >> 31 == 1);
+        let rest = self.main_word(old.tadr) & 0x0FFF_0000 != 0;
+        self.add_if("tags with unused bits set", rest);
+        if tag.id == chain::CALL || tag.id == chain::RET {
+            self.add(&format!("{} with {} on the stack", IDS[id], old.depth));
+        }
+        let outside = !chain::inside(self.main_length, tag.payload_at(old.tadr), 16);
+        self.add_if(
+            "tags with QWC 0 and payload outside memory",
+            tag.qwc == 0 && outside,
+        );
+        let unused = !tag.uses_addr();
+        self.add_if(
+            "unused ADDR no multiple of 16",
+            unused && tag.addr % 16 != 0,
+        );
+        self.add_if("unused ADDR with SPR", unused && tag.spr);
+        let end = tag.payload_at(old.tadr) as u64 + 16 * tag.qwc as u64;
+        let at_end = tag.qwc > 0 && end == self.main_length as u64;
+        self.add_if("payload up to the end of memory", at_end);
+        self.add_if("tags with QWC 65,535", tag.qwc == 65_535);
+        let back = tag.id == chain::NEXT && new.tadr <= old.tadr;
+        self.add_if("next that goes back", back);
+        if let (1, Some(waiting)) = (old.channel, &old.unit.waiting) {
+            let name = WAITING[waiting_number(&waiting.payload) as usize - 1];
+            self.add(&format!("tags read with {name} waiting"));
+        }
+        let path3 = old.channel == 2 && old.path3.place != Place::Idle;
+        self.add_if("tags read inside a GIF tag, path 3", path3);
+    }
+
+    pub fn note_run(
+        &mut self,
+        before: &Block,
+        allowance: u64,
+        answer: u32,
+        steps: u64,
+        now: &Standing,
+    ) {
+        self.runs += 1;
+        let wrong = wrong_at_entry(before, now);
+        if let Some(&first) = wrong.first() {
+            self.note_entry(before, &wrong, first, allowance, now);
+            return;
+        }
+        if allowance >= MEDIAN_FROM {
+            self.lengths.push(steps);
+        }
+        self.add_if("runs of 100,000 steps or more", steps >= DEEP);
+        self.add_if(
+            "runs of 1,000 to 99,999 steps",
+            (1_000..DEEP).contains(&steps),
+        );
+        self.add_if("runs of 50 to 999 steps", (50..1_000).contains(&steps));
+        self.add_if("runs of 1 to 49 steps", (1..50).contains(&steps));
+        self.add_if("runs of no step", steps == 0);
+        self.add_if("allowance 2^64 - 1", allowance == u64::MAX);
+        self.add_if("allowance from 2^32", allowance >= 1 << 32);
+        let low = allowance & 0xFFFF_FFFF;
+        self.add_if(
+            "allowance above the steps, its low word not",
+            allowance > steps && low <= steps,
+        );
+        let state = now.state.as_ref().expect("only an existing state is run");
+        match answer {
+            chain::DONE => self.note_done(state, allowance, steps),
+            chain::ALLOWANCE_USED => self.note_allowance_used(state, allowance),
+            chain::INTERRUPT => {
+                self.add("interrupt");
+                let (end, used) = (state.is_done(), allowance == steps);
+                self.add_if("interrupt where the chain ends", end && !used);
+                self.add_if("interrupt where the allowance ends", used && !end);
+                self.add_if("interrupt where both end", end && used);
+            }
+            refusal => {
+                self.add(&format!("refused {refusal} in a step"));
+                self.add_if(&format!("refused {refusal} after other steps"), steps > 0);
+                self.note_refused_step(state, refusal);
+            }
+        }
+    }
+
+    fn note_done(&mut self, state: &State, allowance: u64, steps: u64) {
+        self.add("done");
+        self.add_if("done with allowance 0", allowance == 0);
+        self.add_if(
+            "done where the allowance ends",
+            allowance == steps && steps > 0,
+        );
+        self.add_if("done with a code waiting", state.unit.waiting.is_some());
+        self.add_if(
+            "done inside a GIF tag, path 2",
+            state.path2.place != Place::Idle,
+        );
+        self.add_if(
+            "done inside a GIF tag, path 3",
+            state.path3.place != Place::Idle,
+        );
+    }
+
+    fn note_allowance_used(&mut self, state: &State, allowance: u64) {
+        self.add("allowance used");
+        self.add_if("allowance used with allowance 0", allowance == 0);
+        self.add_if("allowance used on a chain that has ended", state.ended);
+        match state.next() {
+            Next::Tag => self.add("allowance used before a tag"),
+            Next::TagWord(address) => {
+                let number = address / 4 % 4;
+                self.add(&format!("allowance used before tag word {number}"));
+            }
+            Next::Payload(_) if state.channel == 2 => {
+                self.add("allowance used before payload, channel 2");
+            }
+            Next::Payload(pending) => {
+                let number = pending.address / 4 % 4;
+                self.add(&format!(
+                    "allowance used before payload, channel 1, word {number}"
+                ));
+            }
+        }
+    }
+
+    /// Notes a refused step; the state is that before it.
+    fn note_refused_step(&mut self, state: &State, refusal: u32) {
+        match state.next() {
+            Next::Tag if refusal == chain::REFUSED_TADR => {
+                let end = state.tadr as usize == self.main_length;
+                self.add_if("refused 10, TADR just after memory", end);
+                self.add_if("refused 10, TADR from 2^30", state.tadr >= 1 << 30);
+            }
+            Next::Tag => self.note_refused_tag(state, refusal),
+            Next::TagWord(address) => {
+                self.add_if(
+                    &format!("refused 24 at tag word {}", address / 4 % 4),
+                    refusal == vif::REFUSED_PLACE,
+                );
+                self.add_if("refused 20 at a tag word", refusal == vif::REFUSED_COMMAND);
+                self.add_if("refused 31 at a tag word", refusal == gif::REFUSED_ROOM);
+            }
+            Next::Payload(_) if state.channel == 2 => {
+                self.add(&format!("refused {refusal}, channel 2"));
+            }
+            Next::Payload(pending) => match (refusal, waits_for_quadwords(state)) {
+                (vif::REFUSED_PLACE, _) => {
+                    let number = pending.address / 4 % 4;
+                    self.add(&format!("refused 24 at payload word {number}"));
+                }
+                (gif::REFUSED_DESCRIPTOR | gif::REFUSED_ROOM, true) => {
+                    self.add(&format!("refused {refusal} inside DIRECT"));
+                }
+                (gif::REFUSED_ROOM, false) => self.add("refused 31 at a code"),
+                _ => {}
+            },
+        }
+    }
+
+    fn note_refused_tag(&mut self, state: &State, refusal: u32) {
+        let tag = self.tag_at(state.tadr);
+        let id = IDS[tag.id as usize];
+        let full = tag.id == chain::CALL && state.depth == chain::STACK;
+        let bytes = 16 * tag.qwc as u64;
+        let outside =
+            tag.qwc > 0 && !chain::inside(self.main_length, tag.payload_at(state.tadr), bytes);
+        match refusal {
+            chain::REFUSED_ADDR => {
+                self.add(&format!("refused 11, {id}"));
+                self.add_if("refused 11 with QWC 0", tag.qwc == 0);
+                self.add_if("refused 11, 12 would be next", tag.spr);
+                self.add_if("refused 11, 13 would be next", !tag.spr && full);
+                self.add_if("refused 11, 14 would be next", !tag.spr && !full && outside);
+            }
+            chain::REFUSED_SPR => {
+                self.add(&format!("refused 12, {id}"));
+                self.add_if("refused 12 with QWC 0", tag.qwc == 0);
+                self.add_if("refused 12, 13 would be next", full);
+                self.add_if("refused 12, 14 would be next", !full && outside);
+            }
+            chain::REFUSED_CALL => {
+                self.add_if("refused 13 with QWC 0", tag.qwc == 0);
+                self.add_if("refused 13, 14 would be next", outside);
+            }
+            _ => {
+                self.add(&format!("refused 14, {id}"));
+                let end = tag.payload_at(state.tadr) as u64 + bytes;
+                let one = end == self.main_length as u64 + 16;
+                self.add_if("refused 14, one quadword outside", one);
+                self.add_if("refused 14, end from 2^31", end >= 1 << 31);
+            }
+        }
+    }
+
+    fn note_entry(
+        &mut self,
+        before: &Block,
+        wrong: &[u32],
+        first: u32,
+        allowance: u64,
+        now: &Standing,
+    ) {
+        let next = wrong.get(1);
+        self.add(&entry_name(first, next.copied()));
+        self.add_if(
+            &format!("refused {first} at entry, allowance 0"),
+            allowance == 0,
+        );
+        let length = now.main.len();
+        match first {
+            chain::REFUSED_MAIN => self.add(if length == 0 {
+                "refused 1, no main memory"
+            } else if length > chain::MOST_MAIN {
+                "refused 1, main memory too long"
+            } else {
+                "refused 1, no multiple of 16"
+            }),
+            gif::REFUSED_RANGE => {
+                if let [field] = &state_fields(before)[..] {
+                    self.add(&format!("run refused 5, {field}"));
+                }
+            }
+            chain::REFUSED_OUTSIDE => {
+                let state = now.state.as_ref().expect("14 is about an existing state");
+                let tag_word = state
+                    .tag_word
+                    .is_some_and(|address| !chain::inside(length, address, 4));
+                self.add_if("refused 14 at entry, tag words", tag_word);
+                self.add_if("refused 14 at entry, payload", !tag_word);
+                self.add_if("refused 14 at entry, chain ended", state.ended);
+                if let Some(pending) = &state.payload {
+                    let end = pending.address as u64 + 4 * pending.words as u64;
+                    let begins = (pending.address as usize) < length;
+                    self.add_if("refused 14 at entry, payload partly inside", begins);
+                    self.add_if(
+                        "refused 14 at entry, payload's end from 2^32",
+                        end >= 1 << 32,
+                    );
+                }
+            }
+            _ => {}
+        }
+    }
+
+    pub fn note_start(
+        &mut self,
+        before: &Block,
+        values: (u32, u32, u32),
+        answer: u32,
+        now: &Standing,
+    ) {
+        self.starts += 1;
+        let (channel, tadr, tte) = values;
+        if answer != 0 {
+            let fields = state_fields(before);
+            let values = start_fields(channel, tadr, tte);
+            match (&fields[..], &values[..]) {
+                ([field], []) => self.add(&format!("start refused 5, {field}")),
+                ([], [value]) => self.add(&format!("start refused 5 by its {value}")),
+                ([], _) => self.add("start refused 5 by several values"),
+                (_, []) => self.add("start refused 5, several fields"),
+                _ => self.add("start refused 5 by state and values"),
+            }
+            return;
+        }
+        let old = read_block(before).expect("a start on no state is refused");
+        self.add(&format!("start on channel {channel}, TTE {tte}"));
+        self.add_if("start drops tag words", old.tag_word.is_some());
+        self.add_if("start drops payload", old.payload.is_some());
+        self.add_if(
+            &format!("start empties a stack of {}", old.depth),
+            old.depth > 0,
+        );
+        self.add_if("start after the chain's end", old.ended);
+        self.add_if("start keeps a waiting code", old.unit.waiting.is_some());
+        self.add_if(
+            "start keeps a GIF tag, path 2",
+            old.path2.place != Place::Idle,
+        );
+        self.add_if(
+            "start keeps a GIF tag, path 3",
+            old.path3.place != Place::Idle,
+        );
+        self.add_if(
+            "start changes the channel to 1",
+            (old.channel, channel) == (2, 1),
+        );
+        self.add_if(
+            "start changes the channel to 2",
+            (old.channel, channel) == (1, 2),
+        );
+        self.add_if(
+            "start with TADR outside memory",
+            tadr as usize >= now.main.len(),
+        );
+        if let Some(refusal) = wrong_at_entry(before, now).first() {
+            self.add(&format!("start where a run is refused {refusal}"));
+        }
+    }
+
+    /// Every count by name.
+    pub fn rows(&self) -> Vec<(String, u64)> {
+        let mut rows: Vec<(String, u64)> = Vec::new();
+        let mut row = |name: &str, count: u64| rows.push((name.to_string(), count));
+        row("cases", self.cases);
+        row("starts", self.starts);
+        row("runs", self.runs);
+        row("steps in all", self.steps);
+        let mut lengths = self.lengths.clone();
+        lengths.sort_unstable();
+        let median = lengths.get(lengths.len() / 2).copied().unwrap_or(0);
+        row(
+            "runs past entry, allowed 50 steps or more",
+            lengths.len() as u64,
+        );
+        row("median of their steps", median);
+        row("most of their steps", lengths.last().copied().unwrap_or(0));
+        for (id, name) in IDS.iter().enumerate() {
+            for tte in 0..2 {
+                row(&format!("tags, {name}, TTE {tte}"), self.tags[id][tte]);
+                row(
+                    &format!("tags with QWC 0, {name}, TTE {tte}"),
+                    self.tags_without_payload[id][tte],
+                );
+            }
+        }
+        for number in 0..4 {
+            row(
+                &format!("payload words taken by VIF1, word {number}"),
+                self.words[0][number],
+            );
+        }
+        for number in 2..4 {
+            row(
+                &format!("tag words taken, word {number}"),
+                self.words[1][number],
+            );
+        }
+        row("quadwords taken inside DIRECT", self.direct_quadwords);
+        row("quadwords taken by path 3", self.path3_quadwords);
+        let names = names();
+        let unknown: Vec<&String> = self.by_name.keys().filter(|n| !names.contains(n)).collect();
+        assert!(unknown.is_empty(), "counts without a row: {unknown:?}");
+        for name in names {
+            let count = self.by_name.get(&name).copied().unwrap_or(0);
+            rows.push((name, count));
+        }
+        rows
+    }
+}
+
+fn waits_for_quadwords(state: &State) -> bool {
+    state
+        .unit
+        .waiting
+        .is_some_and(|waiting| matches!(waiting.payload, Payload::Direct | Payload::Directhl))
+}
+
+fn entry_name(first: u32, next: Option<u32>) -> String {
+    match next {
+        Some(next) => format!("refused {first} at entry, {next} would be next"),
+        None => format!("refused {first} at entry, nothing else wrong"),
+    }
+}
+
+/// The numbers of all that is wrong at a run's entry, in order.
+fn wrong_at_entry(before: &Block, now: &Standing) -> Vec<u32> {
+    let state = read_block(before);
+    let used = before[11] as u64 | (before[12] as u64) << 32;
+    let main = now.main.len();
+    let wrong = |refusal: u32| match refusal {
+        chain::REFUSED_MAIN => main == 0 || main % 16 != 0 || main > chain::MOST_MAIN,
+        vif::REFUSED_DATA => now.data.len() != vif::DATA_WORDS,
+        vif::REFUSED_CODE => now.code.len() != vif::CODE_BYTES,
+        gif::REFUSED_LOG => !gif::log_in_range(now.log.len(), used),
+        gif::REFUSED_RANGE => !state.as_ref().is_some_and(chain::in_range),
+        _ => state
+            .as_ref()
+            .is_some_and(|state| !chain::pending_inside(state, main)),
+    };
+    ENTRY
+        .into_iter()
+        .filter(|&refusal| wrong(refusal))
+        .collect()
+}
+
+/// The fields of a state block that are out of their range, by name.
+fn state_fields(block: &Block) -> Vec<String> {
+    let mut wrong: Vec<&str> = Vec::new();
+    let mut add_if = |name: &'static str, is: bool| {
+        if is {
+            wrong.push(name);
+        }
+    };
+    let (channel, tadr, tte) = (block[0], block[1], block[2]);
+    let limit = chain::MOST_MAIN as u32;
+    add_if(FIELDS[0], channel != 1 && channel != 2);
+    add_if(FIELDS[1], tadr % 16 != 0);
+    add_if(FIELDS[2], tadr >= 1 << 31);
+    add_if(FIELDS[3], tte > 1);
+    add_if(FIELDS[4], tte == 1 && channel == 2);
+    add_if(FIELDS[5], block[3] > 1);
+    add_if(FIELDS[6], block[4] > 2);
+    for i in 0..block[4].min(2) as usize {
+        add_if(FIELDS[7 + 2 * i], block[5 + i] % 16 != 0);
+        add_if(FIELDS[8 + 2 * i], block[5 + i] > limit);
+    }
+    add_if(FIELDS[11], block[7] > 1);
+    if block[7] == 1 {
+        add_if(FIELDS[12], tte == 0);
+        add_if(FIELDS[13], !matches!(block[8] % 16, 8 | 12));
+    }
+    let (words, address) = (block[9], block[10]);
+    if words > 0 {
+        add_if(FIELDS[14], words > chain::MOST_PENDING);
+        add_if(FIELDS[15], address % 4 != 0);
+        let halfway = address % 4 == 0 && address % 16 != 0;
+        add_if(FIELDS[16], channel == 2 && halfway);
+        add_if(FIELDS[17], (address as u64 / 4 + words as u64) % 4 != 0);
+    }
+    let mut wrong: Vec<String> = wrong.into_iter().map(String::from).collect();
+    wrong.extend(wrong_fields(block[13..45].try_into().unwrap()));
+    for (number, at) in [(2, 45), (3, 54)] {
+        let path = block[at..at + 9].try_into().unwrap();
+        match gif_cases::read_block(path) {
+            None => wrong.push(format!("path {number} in no path")),
+            Some(path) if !gif::path_in_range(&path) => {
+                wrong.push(format!("path {number} out of range"));
+            }
+            Some(_) => {}
+        }
+    }
+    wrong
+}
+
+/// The values of a start that are out of their range.
+fn start_fields(channel: u32, tadr: u32, tte: u32) -> Vec<&'static str> {
+    let all = [
+        ("channel 0", channel == 0),
+        ("channel above 2", channel > 2),
+        ("TADR no multiple of 16", tadr % 16 != 0),
+        ("TADR from 2^31", tadr >= 1 << 31),
+        ("TTE on channel 2", channel == 2 && tte == 1),
+        ("TTE above 1", tte > 1),
+    ];
+    all.into_iter().filter(|f| f.1).map(|f| f.0).collect()
+}
+
+/// The names of the counts that are kept by name.
+fn names() -> Vec<String> {
+    let mut names: Vec<String> = NAMES.iter().map(|name| name.to_string()).collect();
+    let mut add = |name: String| names.push(name);
+    for (i, &first) in ENTRY.iter().enumerate() {
+        add(entry_name(first, None));
+        add(format!("refused {first} at entry, allowance 0"));
+        for &next in &ENTRY[i + 1..] {
+            add(entry_name(first, Some(next)));
+        }
+    }
+    for refusal in STEPS {
+        add(format!("refused {refusal} in a step"));
+        add(format!("refused {refusal} after other steps"));
+    }
+    for (id, name) in IDS.iter().enumerate() {
+        if matches!(id as u32, chain::REFE..=chain::CALL) && id as u32 != chain::CNT {
+            add(format!("refused 11, {name}"));
+            add(format!("refused 12, {name}"));
+        }
+        add(format!("refused 14, {name}"));
+    }
+    let paths = [
+        "path 2 in no path",
+        "path 2 out of range",
+        "path 3 in no path",
+        "path 3 out of range",
+    ];
+    let fields = FIELDS.iter().chain(&paths).map(|name| name.to_string());
+    for field in fields.chain(field_names()) {
+        add(format!("run refused 5, {field}"));
+        add(format!("start refused 5, {field}"));
+    }
+    for refusal in [1, 2, 3, 4, 14] {
+        add(format!("start where a run is refused {refusal}"));
+    }
+    for name in WAITING {
+        add(format!("runs that go on with {name} waiting"));
+        add(format!("tags read with {name} waiting"));
+    }
+    for number in 0..4 {
+        add(format!(
+            "runs that go on with payload, channel 1, word {number}"
+        ));
+        add(format!(
+            "allowance used before payload, channel 1, word {number}"
+        ));
+    }
+    for number in 1..4 {
+        add(format!("refused 24 at payload word {number}"));
+    }
+    for number in 2..4 {
+        add(format!("runs that go on with tag word {number}"));
+        add(format!("allowance used before tag word {number}"));
+        add(format!("refused 24 at tag word {number}"));
+    }
+    for refusal in [30, 31] {
+        add(format!("refused {refusal}, channel 2"));
+        add(format!("refused {refusal} inside DIRECT"));
+    }
+    names
+}
+
+const NAMES: &[&str] = &[
+    "cases that show changes",
+    "cases that show whole memories",
+    "cases with main memory above 4 KiB",
+    "cases with main memory not all given",
+    "state blocks with words that mean nothing",
+    "done",
+    "done with allowance 0",
+    "done where the allowance ends",
+    "done with a code waiting",
+    "done inside a GIF tag, path 2",
+    "done inside a GIF tag, path 3",
+    "allowance used",
+    "allowance used with allowance 0",
+    "allowance used on a chain that has ended",
+    "allowance used before a tag",
+    "allowance used before payload, channel 2",
+    "allowance 2^64 - 1",
+    "allowance from 2^32",
+    "allowance above the steps, its low word not",
+    "interrupt",
+    "interrupt where the chain ends",
+    "interrupt where the allowance ends",
+    "interrupt where both end",
+    "interrupt at a code",
+    "interrupt at a payload word",
+    "interrupt at a quadword of DIRECT",
+    "interrupt at a tag word that is a code",
+    "interrupt at a tag word that is payload",
+    "runs of no step",
+    "runs of 1 to 49 steps",
+    "runs of 50 to 999 steps",
+    "runs of 1,000 to 99,999 steps",
+    "runs of 100,000 steps or more",
+    "runs that go on with a tag",
+    "runs that go on with payload, channel 2",
+    "runs that go on inside a GIF tag, path 2",
+    "runs that go on inside a GIF tag, path 3",
+    "runs on a chain that has ended",
+    "tag words pending away from TADR",
+    "tag words taken, QWC 0",
+    "tag words taken as payload",
+    "tag words taken that are codes",
+    "tags with bit 31",
+    "tags with unused bits set",
+    "tags with QWC 0 and payload outside memory",
+    "tags with QWC 65,535",
+    "tags read inside a GIF tag, path 3",
+    "unused ADDR no multiple of 16",
+    "unused ADDR with SPR",
+    "payload up to the end of memory",
+    "next that goes back",
+    "call with 0 on the stack",
+    "call with 1 on the stack",
+    "ret with 0 on the stack",
+    "ret with 1 on the stack",
+    "ret with 2 on the stack",
+    "log exactly full after a write",
+    "refused 1, no main memory",
+    "refused 1, no multiple of 16",
+    "refused 1, main memory too long",
+    "refused 14 at entry, tag words",
+    "refused 14 at entry, payload",
+    "refused 14 at entry, chain ended",
+    "refused 14 at entry, payload partly inside",
+    "refused 14 at entry, payload's end from 2^32",
+    "refused 10, TADR just after memory",
+    "refused 10, TADR from 2^30",
+    "refused 11 with QWC 0",
+    "refused 11, 12 would be next",
+    "refused 11, 13 would be next",
+    "refused 11, 14 would be next",
+    "refused 12 with QWC 0",
+    "refused 12, 13 would be next",
+    "refused 12, 14 would be next",
+    "refused 13 with QWC 0",
+    "refused 13, 14 would be next",
+    "refused 14, one quadword outside",
+    "refused 14, end from 2^31",
+    "refused 20 at a tag word",
+    "refused 31 at a tag word",
+    "refused 31 at a code",
+    "start on channel 1, TTE 0",
+    "start on channel 1, TTE 1",
+    "start on channel 2, TTE 0",
+    "start changes the channel to 1",
+    "start changes the channel to 2",
+    "start drops tag words",
+    "start drops payload",
+    "start empties a stack of 1",
+    "start empties a stack of 2",
+    "start after the chain's end",
+    "start keeps a waiting code",
+    "start keeps a GIF tag, path 2",
+    "start keeps a GIF tag, path 3",
+    "start with TADR outside memory",
+    "start refused 5, several fields",
+    "start refused 5 by state and values",
+    "start refused 5 by several values",
+    "start refused 5 by its channel 0",
+    "start refused 5 by its channel above 2",
+    "start refused 5 by its TADR no multiple of 16",
+    "start refused 5 by its TADR from 2^31",
+    "start refused 5 by its TTE on channel 2",
+    "start refused 5 by its TTE above 1",
+];

@@ -1,0 +1,1658 @@
+//! Captures from a seed.
+
+use crate::capture_cases::{
+    read_block, write_block, Block, Call, Case, Standing, MOST_CODE, MOST_DATA, MOST_MAIN,
+};
+use crate::chain::{self, Memories, Next, Pending, State, Tag};
+use crate::gif::{self, Format, Path, Place};
+use crate::gif_cases;
+use crate::gif_generate::{
+    random_held_block, random_log, random_no_path_block, random_out_of_range_block, random_tag,
+    tag_quadword,
+};
+use crate::random::Random;
+use crate::vif::{self, Code, Payload, Unit, Waiting};
+use crate::vif_cases;
+use crate::vif_generate::{
+    code_word, legal_cycle, payload_word, random_code, random_mask, random_path_block,
+    random_unit_block, random_waiting_unit, stcycl, Taste as VifTaste,
+};
+
+const FILL: u64 = 0x0123_4567_89AB_CDEF;
+const NO_LIMIT: u64 = u64::MAX;
+
+/// A capture file of about `runs` runs, or more where the fixed part has more.
+pub fn generate(seed: u64, runs: u64) -> Vec<u8> {
+    let mut random = Random::new(seed);
+    let mut file = Vec::new();
+    let mut made = 0;
+    let mut cases = fixed_cases();
+    add_edge_cases(&mut random, &mut cases);
+    for case in cases {
+        made += runs_of(&case);
+        case.write(&mut file);
+    }
+    while made < runs {
+        let case = random_case(&mut random);
+        made += runs_of(&case).max(1);
+        case.write(&mut file);
+    }
+    file
+}
+
+fn runs_of(case: &Case) -> u64 {
+    let is_run = |call: &&Call| matches!(call, Call::Run { .. });
+    case.calls.iter().filter(is_run).count() as u64
+}
+
+/// Words 0 and 1 of a tag with its unused bits zero.
+fn tag_words(id: u32, qwc: u32, addr: u32) -> [u32; 2] {
+    [id << 28 | qwc, addr]
+}
+
+/// A tag whose words 2 and 3 are zero.
+fn tag(id: u32, qwc: u32, addr: u32) -> [u32; 4] {
+    let [low, high] = tag_words(id, qwc, addr);
+    [low, high, 0, 0]
+}
+
+fn run(allowance: u64) -> Call {
+    Call::Run { allowance }
+}
+
+fn start(channel: u32, tadr: u32, tte: u32) -> Call {
+    Call::Start { channel, tadr, tte }
+}
+
+/// A case over these words of main memory, from a state with no entries used.
+fn plain_case(state: &State, main: &[u32], log_length: u32, calls: &[Call]) -> Case {
+    Case {
+        main_length: 4 * main.len() as u32,
+        main: main.to_vec(),
+        data_length: vif::DATA_WORDS as u32,
+        code_length: vif::CODE_BYTES as u32,
+        log_length,
+        fill: FILL,
+        whole: false,
+        state: write_block(state),
+        calls: calls.to_vec(),
+    }
+}
+
+fn split(quadword: u128) -> [u32; 4] {
+    std::array::from_fn(|i| (quadword >> (32 * i)) as u32)
+}
+
+/// The bench points and other cases that are the same in every file.
+fn fixed_cases() -> Vec<Case> {
+    let reset = State::reset();
+    let channel2 = State {
+        channel: 2,
+        ..reset
+    };
+    let calls = [tag(5, 0, 16), tag(5, 0, 32), tag(5, 0, 0)].concat();
+    let end = tag(7, 0, 0);
+    let mut cases = vec![
+        // The second call is accepted, the third refused 13.
+        plain_case(&reset, &calls, 0, &[run(NO_LIMIT), run(NO_LIMIT)]),
+        // Allowance 0: 90, and 0 where the chain has ended with nothing pending.
+        plain_case(&reset, &end, 0, &[run(0), run(1), run(0), run(1)]),
+        // Allowance 0 on an ended chain with a word pending: 90.
+        {
+            let state = State {
+                ended: true,
+                payload: Some(Pending {
+                    address: 12,
+                    words: 1,
+                }),
+                ..reset
+            };
+            plain_case(&state, &end, 0, &[run(0), run(1), run(0)])
+        },
+    ];
+    // REGLIST, NREG 3, NLOOP 1: two quadwords, three writes.
+    let reglist = [
+        tag(7, 3, 0),
+        split(tag_quadword(1, 1, 3, 0x531)),
+        split(0x2222_0000_0000_0000_1111),
+        split(0x4444_0000_0000_0000_3333),
+    ];
+    let whole = Case {
+        whole: true,
+        ..plain_case(&channel2, &reglist.concat(), 8, &[run(NO_LIMIT)])
+    };
+    cases.push(whole);
+    // IMAGE with one entry free: 31, nothing written.
+    let image = [
+        tag(7, 2, 0),
+        split(tag_quadword(1, 2, 1, 0)),
+        split(0x6666_0000_0000_0000_5555),
+    ];
+    let mut state = channel2;
+    state.used = 3;
+    let calls = [run(NO_LIMIT), run(NO_LIMIT)];
+    cases.push(plain_case(&state, &image.concat(), 8, &calls));
+    // The same two inside DIRECT.
+    for (tags, used) in [(&reglist[1..], 0), (&image[1..], 3)] {
+        let direct = [0, 0, 0, code_word(0x50, 0, tags.len() as u32)];
+        let tags = tags.concat();
+        let head = [tag(7, tags.len() as u32 / 4 + 1, 0), direct];
+        let mut state = reset;
+        state.used = used;
+        let main = [&head.concat()[..], &tags].concat();
+        cases.push(plain_case(&state, &main, 8, &[run(NO_LIMIT)]));
+    }
+    // Bit 31 in the last word: 91 before 0 and 90.
+    let last = [tag(7, 1, 0), [0, 0, 0, 1 << 31]].concat();
+    for allowance in [4, 5, 6, NO_LIMIT] {
+        let calls = [run(allowance), run(1), run(0)];
+        cases.push(plain_case(&reset, &last, 0, &calls));
+    }
+    // No calls.
+    cases.push(plain_case(&reset, &end, 0, &[]));
+    cases
+}
+
+fn add_edge_cases(random: &mut Random, cases: &mut Vec<Case>) {
+    add_length_cases(random, cases);
+    add_wrong_together_cases(random, cases);
+    add_outside_cases(random, cases);
+    add_field_cases(random, cases);
+    add_unit_field_cases(random, cases);
+    add_start_cases(random, cases);
+    add_tag_cases(random, cases);
+    add_tag_word_cases(random, cases);
+    add_interrupt_cases(random, cases);
+    add_refusal_cases(random, cases);
+    add_zero_memory_cases(cases);
+    for _ in 0..4 {
+        cases.push(deep_case(random));
+    }
+}
+
+/// A few words of main memory: two tags with payload, then an end.
+fn short_main(random: &mut Random) -> Vec<u32> {
+    let mark = code_word(0x07, 0, random.word() & 0xFFFF);
+    [
+        tag(1, 1, 0),
+        [0, mark, 0, 0],
+        tag(3, 1, 16),
+        tag(7, 0, 0),
+        [0; 4],
+    ]
+    .concat()
+}
+
+/// Starts and runs by chance on whatever state.
+fn short_calls(random: &mut Random) -> Vec<Call> {
+    let mut calls = Vec::new();
+    for _ in 0..random.within(1..=3) {
+        let allowance = random.pick(&[0, 0, 1, 2, 3, 7, 20, NO_LIMIT]);
+        calls.push(run(allowance));
+        if random.percent(40) {
+            let channel = random.pick(&[1, 1, 2]);
+            let tte = if channel == 1 { random.below(2) } else { 0 };
+            calls.push(start(channel, 0, tte as u32));
+        }
+    }
+    calls
+}
+
+/// Each length from both sides.
+fn add_length_cases(random: &mut Random, cases: &mut Vec<Case>) {
+    let reset = State::reset();
+    let calls = [
+        run(0),
+        start(1, 0, 1),
+        run(3),
+        start(2, 0, 0),
+        run(NO_LIMIT),
+    ];
+    let mains = [
+        0, 1, 4, 8, 15, 16, 17, 24, 31, 32, 1_048_560, 1_048_575, 1_048_576, 1_048_577, 1_048_592,
+        MOST_MAIN,
+    ];
+    for main_length in mains {
+        let mut case = plain_case(&reset, &[], 8, &calls);
+        case.main_length = main_length;
+        if main_length >= 4 {
+            case.main = vec![0x7000_0000];
+        }
+        cases.push(case);
+    }
+    for data_length in [0, 1, 4_092, 4_095, 4_097, MOST_DATA] {
+        let mut case = plain_case(&reset, &short_main(random), 8, &calls);
+        case.data_length = data_length;
+        case.whole = random.percent(30);
+        cases.push(case);
+    }
+    for code_length in [0, 1, 16_380, 16_383, 16_385, 16_386, 16_388, MOST_CODE] {
+        let mut case = plain_case(&reset, &short_main(random), 8, &calls);
+        case.code_length = code_length;
+        case.whole = random.percent(30);
+        cases.push(case);
+    }
+    let logs = [
+        (0, 0),
+        (0, 1),
+        (1, 0),
+        (2, 1),
+        (2, 2),
+        (2, 1 << 63),
+        (2, (1 << 63) + 1),
+        (2, u64::MAX),
+        (64, 1 << 32),
+        (131_071, 0),
+        (131_072, 65_536),
+        (131_072, 65_537),
+        (131_073, 0),
+        (131_074, 0),
+        (131_080, 0),
+    ];
+    for (log_length, used) in logs {
+        let state = State { used, ..reset };
+        cases.push(plain_case(&state, &short_main(random), log_length, &calls));
+    }
+}
+
+/// Every choice of wrong lengths, state and pending words at once.
+fn add_wrong_together_cases(random: &mut Random, cases: &mut Vec<Case>) {
+    for wrong in 0..64 {
+        let bit = |i: u32| wrong >> i & 1 == 1;
+        let main = short_main(random);
+        let mut state = State::reset();
+        if bit(2) {
+            state.used = 5;
+        }
+        state.ended = random.percent(50);
+        if bit(5) {
+            state.tte = true;
+            let far = random.pick(&[80, 96, 1 << 20]);
+            match random.below(2) {
+                0 => state.tag_word = Some(far + random.pick(&[8, 12])),
+                _ => {
+                    state.payload = Some(Pending {
+                        address: far - 16,
+                        words: 8,
+                    });
+                }
+            }
+        }
+        let calls = [run(random.pick(&[0, 1, 30, NO_LIMIT])), run(0)];
+        let mut case = plain_case(&state, &main, 8, &calls);
+        if bit(0) {
+            case.main_length = random.pick(&[81, 88, 84, MOST_MAIN, 1_048_592]);
+            if bit(5) && case.main_length > 1_048_576 {
+                case.state[7] = 1;
+                case.state[8] = u32::MAX - 3;
+            }
+        }
+        if bit(1) {
+            case.data_length = random.pick(&[4_095, 4_097, 0]);
+        }
+        if bit(3) {
+            case.code_length = random.pick(&[16_383, 16_385, 0]);
+        }
+        if bit(4) {
+            match random.below(4) {
+                0 => case.state[1] = 8,
+                1 => case.state[0] = 3,
+                2 => case.state[22] = 3,
+                _ if bit(5) => case.state[1] = 1 << 31,
+                _ => case.state[3] = 2,
+            }
+        }
+        cases.push(case.clone());
+        case.calls = short_calls(random);
+        cases.push(case);
+    }
+}
+
+/// Pending words at the end of main memory and outside.
+fn add_outside_cases(random: &mut Random, cases: &mut Vec<Case>) {
+    let main = short_main(random);
+    let length = 4 * main.len() as u32;
+    let base = State {
+        tadr: 48,
+        ..State::reset()
+    };
+    let mut states = Vec::new();
+    for at in [
+        0,
+        length - 16,
+        length,
+        length + 16,
+        1 << 20,
+        1 << 31,
+        0xFFFF_FFF0,
+    ] {
+        for word in [8, 12] {
+            states.push(State {
+                tte: true,
+                tag_word: Some(at + word),
+                ..base
+            });
+        }
+    }
+    let pending = [
+        (length - 16, 4),
+        (length - 4, 1),
+        (length - 32, 8),
+        (length - 16, 8),
+        (length - 12, 7),
+        (length, 4),
+        (0, length / 4),
+        (0, length / 4 + 4),
+        (0, chain::MOST_PENDING),
+        (4, chain::MOST_PENDING - 1),
+        (1 << 31, 4),
+        (0xFFFF_FFF0, 4),
+        (0xFFFF_FFFC, 1),
+        (0xFFFF_FFF0, 8),
+        (0xFFFF_FFF0, length / 4),
+        (0xFFF0_0000, chain::MOST_PENDING),
+    ];
+    for (address, words) in pending {
+        for channel in [1, 2] {
+            if channel == 1 || address % 16 == 0 {
+                states.push(State {
+                    channel,
+                    payload: Some(Pending { address, words }),
+                    ..base
+                });
+            }
+        }
+    }
+    for state in states {
+        for ended in [false, true] {
+            let state = State { ended, ..state };
+            let first = random.pick(&[0, 1, 2, NO_LIMIT]);
+            let channel = random.pick(&[1, 2]);
+            let calls = [run(first), run(0), start(channel, 48, 0), run(NO_LIMIT)];
+            cases.push(plain_case(&state, &main, 8, &calls));
+        }
+    }
+}
+
+/// Adds a case for a state block: runs and starts on it in any order.
+fn add_block(random: &mut Random, cases: &mut Vec<Case>, block: Block) {
+    let mut case = plain_case(&State::reset(), &short_main(random), 8, &[]);
+    let channel = random.pick(&[1, 2]);
+    let begin = start(channel, random.pick(&[0, 48, 1 << 20]), 0);
+    let go = run(random.pick(&[0, 1, 3, 30, NO_LIMIT]));
+    case.calls = if random.percent(50) {
+        vec![begin, go]
+    } else {
+        vec![go, begin, run(2)]
+    };
+    case.state = block;
+    cases.push(case);
+}
+
+/// Each field of a state block but the unit's at its limits and just outside.
+fn add_field_cases(random: &mut Random, cases: &mut Vec<Case>) {
+    let reset = write_block(&State::reset());
+    let mut add = |random: &mut Random, changes: &[(usize, u32)]| {
+        for also in [&[][..], &[(0, 2)]] {
+            let mut block = reset;
+            for &(field, value) in also.iter().chain(changes) {
+                block[field] = value;
+            }
+            add_block(random, cases, block);
+        }
+    };
+    for channel in [0, 1, 2, 3, 257, u32::MAX] {
+        add(random, &[(0, channel)]);
+    }
+    let tadrs = [
+        1,
+        4,
+        8,
+        15,
+        16,
+        48,
+        80,
+        1_048_560,
+        1_048_576,
+        0x7FFF_FFF0,
+        0x7FFF_FFF1,
+        0x8000_0000,
+        0x8000_0010,
+        0xFFFF_FFF0,
+        u32::MAX,
+    ];
+    for tadr in tadrs {
+        add(random, &[(1, tadr)]);
+    }
+    for tte in [1, 2, 256, u32::MAX] {
+        add(random, &[(2, tte)]);
+    }
+    for ended in [1, 2, 256, u32::MAX] {
+        add(random, &[(3, ended)]);
+    }
+    for depth in [1, 2, 3, 4, 256, u32::MAX] {
+        add(random, &[(4, depth)]);
+        add(random, &[(4, depth), (5, u32::MAX), (6, 3)]);
+    }
+    add(random, &[(5, 8), (6, u32::MAX)]);
+    for entry in [
+        8,
+        15,
+        16,
+        1_048_560,
+        1_048_576,
+        1_048_577,
+        1_048_592,
+        1 << 31,
+        u32::MAX - 15,
+    ] {
+        add(random, &[(4, 1), (5, entry)]);
+        add(random, &[(4, 1), (6, entry)]);
+        add(random, &[(4, 2), (5, entry), (6, 32)]);
+        add(random, &[(4, 2), (5, 32), (6, entry)]);
+    }
+    for pending in [1, 2, 256, u32::MAX] {
+        for tte in [0, 1] {
+            add(random, &[(7, pending), (8, 24), (2, tte)]);
+        }
+    }
+    for at in 0..17 {
+        add(random, &[(2, 1), (7, 1), (8, 32 + at)]);
+        add(random, &[(2, 1), (7, 0), (8, 32 + at)]);
+    }
+    for (words, address) in [
+        (1, 12),
+        (1, 16),
+        (2, 12),
+        (3, 4),
+        (4, 0),
+        (4, 4),
+        (4, 2),
+        (1, 13),
+        (1, 14),
+        (4, 16),
+        (8, 16),
+        (7, 20),
+        (8, 20),
+        (262_140, 0),
+        (262_139, 4),
+        (262_141, 12),
+        (262_143, 4),
+        (262_144, 0),
+        (262_144, 16),
+        (0, 1),
+        (0, u32::MAX),
+        (u32::MAX, 4),
+        (u32::MAX - 3, 0),
+        (1 << 31, 0),
+        (1 << 30, 0),
+    ] {
+        add(random, &[(9, words), (10, address)]);
+    }
+    for path_at in [45, 54] {
+        for _ in 0..10 {
+            for path in [
+                random_held_block(random),
+                random_out_of_range_block(random),
+                random_no_path_block(random),
+            ] {
+                let mut block = reset;
+                block[path_at..path_at + 9].copy_from_slice(&path);
+                block[0] = random.pick(&[1, 2]);
+                add_block(random, cases, block);
+            }
+        }
+    }
+}
+
+/// Each field of the unit block at its limits and just outside.
+fn add_unit_field_cases(random: &mut Random, cases: &mut Vec<Case>) {
+    let reset = write_block(&State::reset());
+    let mut add = |random: &mut Random, unit: &vif_cases::Block, field: usize, value: u32| {
+        let mut block = reset;
+        block[0] = random.pick(&[1, 2]);
+        block[13..45].copy_from_slice(unit);
+        block[13 + field] = value;
+        // Once for the run, once for the start.
+        for calls in [vec![run(2)], vec![start(2, 0, 0), run(NO_LIMIT)]] {
+            let mut case = plain_case(&State::reset(), &short_main(random), 8, &calls);
+            case.state = block;
+            cases.push(case);
+        }
+    };
+    let limits = [
+        255, 255, 1_023, 1_023, 1_023, 1_023, 1_023, 1_023, 1, 2, 1, 65_535,
+    ];
+    for (field, limit) in limits.into_iter().enumerate() {
+        for value in [limit, limit + 1, u32::MAX] {
+            add(random, &[0; 32], field, value);
+        }
+    }
+    add(random, &[0; 32], 21, 8);
+    for code in 1..8 {
+        for (cl, wl) in [(4, 3), (3, 4), (4, 0)] {
+            let mut unit = [0; 32];
+            (unit[0], unit[1]) = (cl, wl);
+            unit[21] = code;
+            unit[23] = 1;
+            unit[25] = 1;
+            add(random, &unit, 22, 1);
+            add(random, &unit, 22, 2);
+            for due in [0, 2, 3, 4, 5, 65_536, 65_537, u32::MAX] {
+                add(random, &unit, 23, due);
+            }
+            for address in [1_023, 1_024, 2_047, 2_048, u32::MAX] {
+                add(random, &unit, 24, address);
+            }
+            for count in [0, 256, 257, u32::MAX] {
+                add(random, &unit, 25, count);
+            }
+            for format in [3, 7, 11, 15, 16, u32::MAX] {
+                add(random, &unit, 26, format);
+            }
+            add(random, &unit, 27, 2);
+            add(random, &unit, 28, 2);
+        }
+    }
+}
+
+/// Starts with each value at its limits and just outside.
+fn add_start_cases(random: &mut Random, cases: &mut Vec<Case>) {
+    let main = short_main(random);
+    let mut starts = Vec::new();
+    for channel in [0, 1, 2, 3, 257, 258, u32::MAX] {
+        starts.push((channel, 48, 0));
+    }
+    for tte in [0, 1, 2, 256, 257, u32::MAX] {
+        starts.push((1, 48, tte));
+        starts.push((2, 48, tte));
+    }
+    for tadr in [
+        1,
+        2,
+        4,
+        8,
+        15,
+        16,
+        80,
+        0x7FFF_FFF0,
+        1 << 31,
+        u32::MAX - 15,
+        u32::MAX,
+    ] {
+        starts.push((1, tadr, 0));
+        starts.push((2, tadr, 0));
+    }
+    starts.push((0, 1, 2));
+    for (channel, tadr, tte) in starts {
+        for wrong_state in [false, true] {
+            let length = 4 * main.len() as u32;
+            let mut state = random_state(random, length);
+            state.used = state.used.min(4);
+            let mut case = plain_case(&state, &main, 8, &[]);
+            if wrong_state {
+                case.state[22] = 3;
+            }
+            case.calls = vec![
+                run(random.below(4)),
+                start(channel, tadr, tte),
+                run(random.pick(&[0, 1, 3])),
+                run(3),
+            ];
+            cases.push(case);
+        }
+    }
+}
+
+/// Tags by every ID with right and wrong ADDR, SPR, QWC and stack.
+fn add_tag_cases(random: &mut Random, cases: &mut Vec<Case>) {
+    // The tag lies at 32 of 96 bytes; after it is room for three quadwords.
+    for id in 0..8 {
+        for addr in [16, 64, 80, 96, 1_048_576, 0x7FFF_FFF0, 65, 72, 0x7FFF_FFF8] {
+            for spr in [0, 1] {
+                for qwc in [0, 1, 2, 3, 4, 65_535] {
+                    let depth = random.below(3) as usize;
+                    let depth = if id == chain::CALL && random.percent(60) {
+                        2
+                    } else {
+                        depth
+                    };
+                    add_tag_case(random, cases, (id, qwc, addr, spr), depth);
+                }
+            }
+        }
+    }
+}
+
+fn add_tag_case(
+    random: &mut Random,
+    cases: &mut Vec<Case>,
+    (id, qwc, addr, spr): (u32, u32, u32, u32),
+    depth: usize,
+) {
+    let mut state = State {
+        channel: random.pick(&[1, 1, 2]),
+        tadr: 32,
+        depth,
+        ..State::reset()
+    };
+    state.tte = state.channel == 1 && random.percent(50);
+    for entry in &mut state.stack[..depth] {
+        *entry = random.pick(&[0, 16, 80, 96, 1_048_576]);
+    }
+    let mut main = vec![0; 24];
+    let unused = random.word() & 0x8FFF_0000;
+    main[8] = id << 28 | qwc | random.pick(&[0, unused]);
+    main[9] = addr | spr << 31;
+    for word in [10, 11] {
+        main[word] = code_word(0x07, 0, random.word() & 0xFFFF);
+    }
+    main[16] = 0x7000_0000;
+    let allowance = random.pick(&[1, 1, 2, 3, 4, 9, 40]);
+    let calls = [run(allowance), run(random.pick(&[0, 1, 30]))];
+    cases.push(plain_case(&state, &main, 8, &calls));
+}
+
+/// Tag words of every ID with codes of many kinds, cut at every step.
+fn add_tag_word_cases(random: &mut Random, cases: &mut Vec<Case>) {
+    let mark = |imm: u32| code_word(0x07, 0, imm);
+    let pairs = [
+        [mark(1), mark(2)],
+        [1 << 31 | mark(3), 1 << 31 | mark(4)],
+        [code_word(0x20, 0, 0), 0x1234_5678],
+        [1 << 31 | code_word(0x20, 0, 0), 0x1234_5678],
+        [mark(5), code_word(0x31, 0, 0)],
+        [0, code_word(0x50, 0, 1)],
+        [0, code_word(0x51, 0, 2)],
+        [code_word(0x50, 0, 1), 0],
+        [code_word(0x14, 0, 7), code_word(0x17, 0, 0)],
+        [code_word(0x08, 0, 0), 0],
+        [0, code_word(0x5F, 0, 0)],
+        [stcycl(1, 1), code_word(0x60, 2, 0x3FF)],
+        [code_word(0x05, 0, 3), 0],
+        [code_word(0x62, 1, 0), 0],
+    ];
+    for id in 0..8 {
+        for qwc in [0, 1] {
+            for pair in pairs {
+                let [low, high] = tag_words(id, qwc, 48);
+                // After the tag: a quadword of payload, then an end.
+                let main = [
+                    [low, high, pair[0], pair[1]],
+                    [1, 0, 0, 0],
+                    tag(7, 0, 0),
+                    [0x7000_0000, 0, mark(8), mark(9)],
+                ];
+                let mut state = State {
+                    tte: random.percent(85),
+                    ..State::reset()
+                };
+                if random.percent(25) {
+                    state.depth = 1;
+                    state.stack[0] = 48;
+                }
+                if random.percent(15) {
+                    state.unit = direct_waits(random);
+                }
+                state.used = random.pick(&[0, 0, 3, 4]);
+                let cut = random.below(5);
+                let calls = [run(cut), run(random.below(3)), run(20)];
+                cases.push(plain_case(&state, &main.concat(), 8, &calls));
+            }
+        }
+    }
+}
+
+/// A unit in which DIRECT or DIRECTHL waits.
+fn direct_waits(random: &mut Random) -> Unit {
+    Unit {
+        waiting: Some(Waiting {
+            payload: random.pick(&[Payload::Direct, Payload::Directhl]),
+            interrupt: random.percent(30),
+            due: random.within(1..=3) as u32,
+        }),
+        ..Unit::default()
+    }
+}
+
+/// Codes with their bit 31 set that end in each word of a payload, the last too.
+fn add_interrupt_cases(random: &mut Random, cases: &mut Vec<Case>) {
+    for id in [0, 1, 6, 7] {
+        for at in 0..4 {
+            for steps in [1, 2, 3, 4, 5, 6, 9] {
+                let mut payload = [0; 4];
+                payload[at] = 1 << 31;
+                let main = [tag(id, 1, 16), payload, tag(7, 0, 0)].concat();
+                let calls = [run(steps), run(random.pick(&[0, 1, 5])), run(10)];
+                cases.push(plain_case(&State::reset(), &main, 8, &calls));
+            }
+        }
+    }
+    // The last quadword of DIRECT, the last of the payload too.
+    for command in [0x50, 0x51] {
+        for after in [0, 1] {
+            for allowance in [5, 6, 7, 8, NO_LIMIT] {
+                let direct = [0, 0, 0, 1 << 31 | code_word(command, 0, 2)];
+                let gif_tag = split(tag_quadword(1, 0, 1, 0xE));
+                let main = [tag(7, 3 + after, 0), direct, gif_tag, [1, 2, 3, 4], [0; 4]];
+                let calls = [run(allowance), run(0), run(1), run(NO_LIMIT)];
+                cases.push(plain_case(&State::reset(), &main.concat(), 8, &calls));
+            }
+        }
+    }
+}
+
+/// Each refusal of a step after steps that stay.
+fn add_refusal_cases(random: &mut Random, cases: &mut Vec<Case>) {
+    let log_full = State {
+        used: 4,
+        ..State::reset()
+    };
+    let calls = [run(1 << 32), run(NO_LIMIT)];
+    let codes = [
+        code_word(0x08, 0, 0),
+        code_word(0x63, 1, 0),
+        code_word(0x60, 1, 0),
+        code_word(0x05, 0, 3),
+        code_word(0x50, 0, 1),
+        code_word(0x14, 0, 1),
+    ];
+    for code in codes {
+        for at in 0..4 {
+            for interrupt in [0, 1 << 31] {
+                let mut payload = [0; 8];
+                payload[at] = code | interrupt;
+                let main = [&tag(7, 2, 0)[..], &payload].concat();
+                cases.push(plain_case(&log_full, &main, 8, &calls));
+            }
+        }
+    }
+    for gif_tag in [
+        tag_quadword(2, 0, 2, 0xBF),
+        tag_quadword(2, 1, 3, 0xFBF),
+        tag_quadword(1, 0, 2, 0xEF),
+        tag_quadword(1, 1, 3, 0x1FF),
+        tag_quadword(1, 2, 1, 0),
+    ] {
+        let data = [split(gif_tag), [1, 2, 3, 4], [5, 6, 7, 8]].concat();
+        let direct = [0, 0, 0, code_word(0x51, 0, 3)];
+        let main = [&tag(7, 4, 0)[..], &direct, &data].concat();
+        cases.push(plain_case(&log_full, &main, 8, &calls));
+        let main = [&tag(7, 3, 0)[..], &data].concat();
+        let state = State {
+            channel: 2,
+            ..log_full
+        };
+        cases.push(plain_case(&state, &main, 8, &calls));
+    }
+    for bad in [
+        tag(2, 0, 8),
+        tag(2, 0, 1 << 31),
+        tag(3, 1, 48),
+        tag(1, 1, 0),
+        tag(2, 0, 48),
+    ] {
+        let main = [tag(1, 1, 0), [0; 4], bad].concat();
+        let channel = random.pick(&[1, 2]);
+        let state = State {
+            channel,
+            ..State::reset()
+        };
+        cases.push(plain_case(&state, &main, 8, &calls));
+    }
+}
+
+/// The longest main memory and payload, nearly all zero.
+fn add_zero_memory_cases(cases: &mut Vec<Case>) {
+    for channel in [1, 2] {
+        for (id, qwc, addr) in [
+            (1, 65_535, 0),
+            (7, 65_535, 0),
+            (3, 65_535, 0),
+            (3, 65_535, 16),
+            (4, 65_535, 32),
+            (0, 1, 1_048_560),
+            (0, 1, 1_048_576),
+            (2, 0, 1_048_560),
+            (2, 0, 1_048_576),
+            (5, 0, 1_048_560),
+        ] {
+            let state = State {
+                channel,
+                ..State::reset()
+            };
+            let calls = [run(NO_LIMIT), run(0), run(1), run(NO_LIMIT)];
+            // Tag words are legal codes, so that payload may hold them.
+            let [low, high] = tag_words(id, qwc, addr);
+            let mut case = plain_case(&state, &[low, high, 0, 0], 8, &calls);
+            case.main_length = chain::MOST_MAIN as u32;
+            cases.push(case);
+        }
+    }
+}
+
+/// What a case has more or less of.
+struct Taste {
+    vif: VifTaste,
+    /// Tags that are refused.
+    bad_tag_percent: u64,
+    /// Tags that end the chain.
+    end_percent: u64,
+    /// Tags that go back to one that was read.
+    loop_percent: u64,
+    /// DIRECT in word 3.
+    direct_percent: u64,
+    /// What writes to the log is avoided where less room is left, in entries.
+    spare: u64,
+    most_qwc: u64,
+}
+
+impl Taste {
+    fn new(random: &mut Random) -> Taste {
+        Taste {
+            vif: VifTaste {
+                interrupt_percent: random.pick(&[0, 0, 0, 0, 1, 1, 1, 8]),
+                illegal_percent: random.pick(&[0, 0, 0, 0, 0, 1]),
+                b_percent: random.pick(&[0, 0, 0, 0, 0, 0, 3]),
+                unpack_percent: random.pick(&[15, 30, 60]),
+                long_percent: random.pick(&[0, 0, 2, 10]),
+            },
+            bad_tag_percent: random.pick(&[0, 0, 0, 1, 4]),
+            end_percent: random.pick(&[0, 1, 1, 2, 6]),
+            loop_percent: random.pick(&[0, 1, 5]),
+            direct_percent: random.pick(&[0, 15, 40]),
+            spare: random.pick(&[0, 2, 2, 2, 2, 2, 2, 2]),
+            most_qwc: random.pick(&[3, 8, 16, 40]),
+        }
+    }
+
+    /// For loops that can go on for ever: nothing is refused, no interrupts, no log.
+    fn deep(random: &mut Random) -> Taste {
+        let mut taste = Taste::new(random);
+        taste.vif.interrupt_percent = 0;
+        taste.vif.illegal_percent = 0;
+        taste.vif.b_percent = 0;
+        taste.vif.long_percent = random.pick(&[0, 5, 15]);
+        taste.bad_tag_percent = 0;
+        taste.end_percent = 0;
+        taste.loop_percent = 0;
+        taste.spare = u64::MAX;
+        taste
+    }
+}
+
+/// A case under way. Main memory gets its words just before they are read.
+struct Maker {
+    case: Case,
+    standing: Standing,
+    taste: Taste,
+    /// Which words of main memory have been read, or stay as they are.
+    fixed: Vec<bool>,
+    /// Tags that were read with nothing waiting, by their address.
+    tags: Vec<u32>,
+}
+
+impl Maker {
+    /// The first `words` words of main memory are to be given.
+    fn new(case: Case, words: usize, taste: Taste) -> Maker {
+        let standing = Standing::new(&case);
+        let all = case.main_length as usize / 4;
+        let mut fixed = vec![true; all];
+        fixed[..words.min(all)].fill(false);
+        Maker {
+            case,
+            standing,
+            taste,
+            fixed,
+            tags: Vec::new(),
+        }
+    }
+
+    fn state(&self) -> Option<&State> {
+        self.standing.state.as_ref()
+    }
+
+    /// A start; hands back its answer.
+    fn start(&mut self, channel: u32, tadr: u32, tte: u32) -> u32 {
+        self.case.calls.push(start(channel, tadr, tte));
+        self.standing.start(channel, tadr, tte)
+    }
+
+    /// Runs on, at most so many steps; hands back the answer and the steps.
+    fn run(&mut self, random: &mut Random, most: u64) -> (u32, u64) {
+        let mut steps = 0;
+        let answer = loop {
+            let Some(state) = &self.standing.state else {
+                break gif::REFUSED_RANGE;
+            };
+            let (done, state) = (state.is_done(), *state);
+            if steps == 0 {
+                if let Err(refusal) = self.check_entry() {
+                    break refusal;
+                }
+            }
+            if done {
+                break chain::DONE;
+            }
+            if steps == most {
+                break chain::ALLOWANCE_USED;
+            }
+            self.fix_next(random, &state);
+            match self.step() {
+                Err(refusal) => break refusal,
+                Ok(interrupt) => {
+                    steps += 1;
+                    if interrupt {
+                        break chain::INTERRUPT;
+                    }
+                }
+            }
+        };
+        let allowance = self.allowance(random, answer, steps);
+        self.case.calls.push(run(allowance));
+        (answer, steps)
+    }
+
+    /// An allowance that leads to the same state.
+    fn allowance(&self, random: &mut Random, answer: u32, steps: u64) -> u64 {
+        if answer == chain::ALLOWANCE_USED {
+            return steps;
+        }
+        let few = random.within(1..=9);
+        match random.below(8) {
+            0..=1 => steps,
+            2 => steps + 1,
+            3 => steps + few,
+            4 => few << 32 | steps / 2,
+            5 => steps + 100 + random.below(100_000),
+            6 => 1 << 63,
+            _ => NO_LIMIT,
+        }
+    }
+
+    fn check_entry(&mut self) -> Result<(), u32> {
+        let standing = &mut self.standing;
+        let memories = Memories {
+            main: &standing.main,
+            data: &mut standing.data,
+            code: &mut standing.code,
+            log: &mut standing.log,
+        };
+        let state = standing.state.as_ref().expect("there is a state");
+        chain::check_entry(state, &memories)
+    }
+
+    /// A step; hands back whether it was an interrupt.
+    fn step(&mut self) -> Result<bool, u32> {
+        let standing = &mut self.standing;
+        let mut memories = Memories {
+            main: &standing.main,
+            data: &mut standing.data,
+            code: &mut standing.code,
+            log: &mut standing.log,
+        };
+        let state = standing.state.as_mut().expect("there is a state");
+        chain::step(state, &mut memories).map(|step| step.interrupt())
+    }
+
+    /// The case, with words by chance where main memory was never read.
+    fn finish(mut self, random: &mut Random) -> Case {
+        let zeros = random.percent(10);
+        for word in 0..self.fixed.len() {
+            if !self.fixed[word] && !zeros {
+                self.put(word, random.word());
+            }
+        }
+        self.case
+    }
+
+    fn put(&mut self, word: usize, value: u32) {
+        self.fixed[word] = true;
+        self.case.main[word] = value;
+        self.standing.main[4 * word..4 * word + 4].copy_from_slice(&value.to_le_bytes());
+    }
+
+    /// Whether little of main memory is still free.
+    fn is_full(&self) -> bool {
+        let given = self.case.main.len();
+        let free = self.fixed.iter().take(given).filter(|fixed| !*fixed);
+        8 * free.count() < 3 * given
+    }
+
+    /// Entries that the log has room for.
+    fn room(&self, state: &State) -> u64 {
+        self.standing.log.len() as u64 / 2 - state.used
+    }
+
+    /// Gives main memory the words that the next step reads.
+    fn fix_next(&mut self, random: &mut Random, state: &State) {
+        match state.next() {
+            Next::Tag => self.fix_tag(random, state),
+            Next::TagWord(address) => {
+                let after = state.payload.map_or(0, |pending| pending.words);
+                let more = if address % 16 == 8 { 1 } else { 0 };
+                self.fix_word(random, state, address, after + more);
+            }
+            Next::Payload(pending) => {
+                let quadword = state.channel == 2
+                    || pending.address % 16 == 0 && waits_for_quadwords(&state.unit);
+                if quadword {
+                    let path = match state.channel {
+                        2 => &state.path3,
+                        _ => &state.path2,
+                    };
+                    self.fix_quadword(random, state, path, pending);
+                } else {
+                    self.fix_word(random, state, pending.address, pending.words - 1);
+                }
+            }
+        }
+    }
+
+    /// A word for VIF1, with so many pending after it.
+    fn fix_word(&mut self, random: &mut Random, state: &State, address: u32, after: u32) {
+        let word = address as usize / 4;
+        if self.fixed[word] {
+            return;
+        }
+        let value = match &state.unit.waiting {
+            None => self.code(random, state, address, after),
+            Some(waiting) => match waiting.payload {
+                Payload::Stmask => random_mask(random),
+                _ => payload_word(random),
+            },
+        };
+        self.put(word, value);
+    }
+
+    /// A code for word `address`, with so many words pending after it.
+    fn code(&self, random: &mut Random, state: &State, address: u32, after: u32) -> u32 {
+        let interrupt = (random.percent(self.taste.vif.interrupt_percent) as u32) << 31;
+        let full = self.room(state) < self.taste.spare;
+        if address % 16 == 12 && random.percent(self.taste.direct_percent) {
+            if let Some(quadwords) = self.direct_length(random, state, after) {
+                let command = random.pick(&[0x50, 0x51]);
+                return interrupt | code_word(command, random.word() & 0xFF, quadwords);
+            }
+        }
+        for _ in 0..20 {
+            let word = random_code(random, &state.unit.registers, 0, &self.taste.vif);
+            let good = match Code::decode(word) {
+                Err(_) => true,
+                Ok(Code::Mscal(_) | Code::Mscalf(_) | Code::Mscnt) => !full,
+                Ok(Code::Direct(_) | Code::Directhl(_)) => {
+                    // Not in word 3, so refused.
+                    self.taste.vif.illegal_percent > 0 && random.percent(30)
+                }
+                Ok(Code::Stcycl { cl, wl }) => {
+                    self.taste.vif.illegal_percent > 0 || wl != 0 && wl <= cl
+                }
+                Ok(Code::Unpack { .. }) => {
+                    let legal = vif::cycle_legal(&state.unit.registers);
+                    legal || self.taste.vif.illegal_percent > 0
+                }
+                Ok(_) => true,
+            };
+            if good && (!self.goes_round(state) || payload_words(word) <= after) {
+                return interrupt | word;
+            }
+        }
+        if vif::cycle_legal(&state.unit.registers) {
+            return interrupt | code_word(0x07, 0, random.word() & 0xFFFF);
+        }
+        interrupt | legal_cycle(random)
+    }
+
+    /// Quadwords for a DIRECT in word 3, with so many words pending after it.
+    fn direct_length(&self, random: &mut Random, state: &State, after: u32) -> Option<u32> {
+        let room = after / 4;
+        let across = !state.tte && !self.goes_round(state) && !state.ended;
+        if room == 0 && !across && !random.percent(self.taste.vif.illegal_percent) {
+            return None;
+        }
+        let few = random.within(1..=5) as u32;
+        match random.below(10) {
+            0..=6 if room > 0 => Some(random.within(1..=room as u64) as u32),
+            7 if across => Some(random.pick(&[0, 40, few])),
+            _ if across || room == 0 => Some(few),
+            _ => Some(room),
+        }
+    }
+
+    /// Whether the next tag has been read before.
+    fn goes_round(&self, state: &State) -> bool {
+        let word = state.tadr as usize / 4;
+        !state.ended && self.fixed.get(word).copied().unwrap_or(false)
+    }
+
+    /// A quadword for a path.
+    fn fix_quadword(&mut self, random: &mut Random, state: &State, path: &Path, pending: Pending) {
+        let word = pending.address as usize / 4;
+        let free: Vec<usize> = (0..4).filter(|i| !self.fixed[word + i]).collect();
+        if free.is_empty() {
+            return;
+        }
+        let due = match &state.unit.waiting {
+            Some(waiting) if state.channel == 1 => waiting.due.min(pending.words / 4),
+            _ => pending.words / 4,
+        };
+        let quadword = match &path.place {
+            Place::Idle => self.gif_tag(random, state, due - 1),
+            Place::Data { .. } => random.quadword(),
+        };
+        let words = split(quadword);
+        for i in free {
+            self.put(word + i, words[i]);
+        }
+    }
+
+    /// A GIF tag, with so many quadwords sure to follow.
+    fn gif_tag(&self, random: &mut Random, state: &State, after: u32) -> u128 {
+        let room = self.room(state);
+        let careful = self.taste.spare > 0;
+        let fits = self.goes_round(state) || random.percent(60);
+        for _ in 0..20 {
+            let with_b = random.percent(self.taste.vif.b_percent);
+            let mut quadword = random_tag(random, with_b);
+            if careful && room < self.taste.spare.max(16) {
+                // PACKED with descriptor F writes nothing; no PRE.
+                quadword |= (u64::MAX as u128) << 64;
+                quadword &= !(3 << 58 | 1 << 46);
+            }
+            let tag = gif::Tag::decode(quadword);
+            let writes = match tag.format {
+                _ if tag.descriptors == u64::MAX => 0,
+                Format::Image => 2 * tag.all_data(),
+                _ => tag.nloop as u64 * tag.nreg as u64 + 1,
+            };
+            let has_b = (0..tag.nreg).any(|i| tag.descriptors >> (4 * i) & 15 == 0xB);
+            let b_fits = with_b || !has_b || tag.format == Format::Image;
+            let log_fits = !careful || tag.nloop == 0 || writes <= room;
+            if b_fits && log_fits && (!fits || tag.all_data() <= after as u64) {
+                return quadword;
+            }
+        }
+        tag_quadword(0, random.below(4), random.below(16), random.number())
+    }
+
+    /// How many quadwords from the address on are free, at most `most`.
+    fn free_from(&self, state: &State, address: u32, most: u32) -> u32 {
+        let is_free = |i: &u32| {
+            let at = address as u64 + 16 * *i as u64;
+            let word = at as usize / 4;
+            let returns = state.stack[..state.depth].iter().any(|&e| e as u64 == at);
+            !returns
+                && at != state.tadr as u64
+                && word + 4 <= self.fixed.len()
+                && self.fixed[word..word + 4].iter().all(|fixed| !fixed)
+        };
+        (0..most).take_while(is_free).count() as u32
+    }
+
+    /// A quadword where a tag or payload can go, not within the range given.
+    fn free_place(&self, random: &mut Random, state: &State, not: (u32, u32)) -> Option<u32> {
+        let given = self.case.main.len() as u64 / 4;
+        let mut best = None;
+        for _ in 0..12 {
+            let at = 16 * random.below(given.max(1)) as u32;
+            let free = self.free_from(state, at, 6);
+            if free == 0 || (not.0..not.1).contains(&at) {
+                continue;
+            }
+            if best.is_none_or(|(most, _)| free > most) {
+                best = Some((free, at));
+            }
+        }
+        best.map(|(_, at)| at)
+    }
+
+    /// The tag at TADR.
+    fn fix_tag(&mut self, random: &mut Random, state: &State) {
+        let word = state.tadr as usize / 4;
+        if word + 4 > self.fixed.len() {
+            return;
+        }
+        let clean = state.unit.waiting.is_none()
+            && state.path2.place == Place::Idle
+            && state.path3.place == Place::Idle;
+        if clean && state.depth == 0 && !self.tags.contains(&state.tadr) {
+            self.tags.push(state.tadr);
+        }
+        if self.fixed[word] || self.fixed[word + 1] {
+            return;
+        }
+        let bad = random.percent(self.taste.bad_tag_percent);
+        let tag = if bad {
+            self.bad_tag(random, state)
+        } else {
+            self.good_tag(random, state, clean)
+        };
+        let unused = random.word() & 0x8FFF_0000;
+        let rest = if random.percent(40) { unused } else { 0 };
+        self.put(word, tag.id << 28 | tag.qwc | rest);
+        self.put(word + 1, tag.addr | (tag.spr as u32) << 31);
+    }
+
+    fn good_tag(&self, random: &mut Random, state: &State, clean: bool) -> Tag {
+        let after = state.tadr + 16;
+        let free = self.free_from(state, after, 64);
+        let qwc = self.qwc(random, free);
+        let ending = random.percent(self.taste.end_percent);
+        let back = clean && state.depth == 0 && !self.tags.is_empty();
+        let any = random.word();
+        let unused = |id, qwc| Tag {
+            id,
+            qwc,
+            addr: any & 0x7FFF_FFFF,
+            spr: any >> 31 == 1,
+        };
+        let used = |id, qwc, addr| Tag {
+            id,
+            qwc,
+            addr,
+            spr: false,
+        };
+        if ending {
+            return match random.below(4) {
+                0 if state.depth == 0 => unused(chain::RET, qwc),
+                0 | 1 => self.refe(random, state),
+                _ => unused(chain::END, qwc),
+            };
+        }
+        if back && self.tags.len() > 4 && random.percent(self.taste.loop_percent) {
+            let qwc = random.pick(&[0, 0, qwc]);
+            return used(chain::NEXT, qwc, self.old_tag(random));
+        }
+        let place = self.free_place(random, state, (state.tadr, after + 16 * qwc + 16));
+        let goes_on = free > qwc;
+        let kind = random.below(100);
+        match (kind, place) {
+            (0..=34, _) if goes_on => unused(chain::CNT, qwc),
+            (35..=59, Some(place)) if free > 0 => {
+                let id = random.pick(&[chain::REF, chain::REF, chain::REFS]);
+                let long = self.free_beside(state, place);
+                used(id, self.qwc(random, long), place)
+            }
+            (60..=79, _) if state.depth > 0 => unused(chain::RET, qwc),
+            (80..=92, Some(place)) if state.depth < chain::STACK && goes_on => {
+                used(chain::CALL, qwc, place)
+            }
+            (_, Some(place)) => used(chain::NEXT, qwc, place),
+            _ if state.depth > 0 => unused(chain::RET, qwc),
+            _ if back => used(chain::NEXT, 0, self.old_tag(random)),
+            _ => unused(chain::END, qwc),
+        }
+    }
+
+    /// A tag that was read, mostly one of the first.
+    fn old_tag(&self, random: &mut Random) -> u32 {
+        if random.percent(10) {
+            return random.pick(&self.tags);
+        }
+        random.pick(&self.tags[..self.tags.len().div_ceil(4)])
+    }
+
+    /// The quadwords free from `place` on that spare the tag after TADR.
+    fn free_beside(&self, state: &State, place: u32) -> u32 {
+        let after = state.tadr + 16;
+        let free = self.free_from(state, place, 64);
+        if place <= after {
+            free.min((after - place) / 16)
+        } else {
+            free
+        }
+    }
+
+    fn refe(&self, random: &mut Random, state: &State) -> Tag {
+        let place = self.free_place(random, state, (state.tadr, state.tadr + 16));
+        let addr = place.unwrap_or(16 * (random.word() & 0x07FF_FFFF));
+        let long = self.free_beside(state, addr);
+        Tag {
+            id: chain::REFE,
+            qwc: self.qwc(random, long),
+            addr,
+            spr: false,
+        }
+    }
+
+    fn qwc(&self, random: &mut Random, free: u32) -> u32 {
+        let wanted = match random.below(10) {
+            0 => 0,
+            1 => 1,
+            2 => free,
+            _ => random.within(1..=self.taste.most_qwc) as u32,
+        };
+        wanted.min(free)
+    }
+
+    /// A tag that is mostly refused.
+    fn bad_tag(&self, random: &mut Random, state: &State) -> Tag {
+        let length = self.standing.main.len() as u32;
+        let id = random.below(8) as u32;
+        let inside = 16 * random.below((length / 16) as u64) as u32;
+        let outside = length + 16 * random.pick(&[0, 0, 1, 5, 1_000]);
+        let far = random.word() & 0x7FFF_FFF0;
+        let addr = random.pick(&[inside, inside, outside, far]);
+        let lowest = random.within(1..=15) as u32;
+        let left = (length - state.tadr) / 16;
+        let qwc = random.pick(&[0, 1, left - 1, left, 65_535]).min(65_535);
+        let kind = random.below(4);
+        Tag {
+            id: match kind {
+                0 => random.pick(&[chain::CALL, id]),
+                1 => random.pick(&[chain::NEXT, chain::CALL]),
+                _ => id,
+            },
+            qwc,
+            addr: if kind == 2 { addr | lowest } else { addr },
+            spr: kind == 3 || random.percent(15),
+        }
+    }
+}
+
+/// The words that a code waits for; for DIRECT those of its quadwords.
+fn payload_words(word: u32) -> u32 {
+    match Code::decode(word) {
+        Ok(Code::Stmask) => 1,
+        Ok(Code::Strow | Code::Stcol) => 4,
+        Ok(Code::Mpg(mpg)) => mpg.all_words(),
+        Ok(Code::Direct(quadwords) | Code::Directhl(quadwords)) => 4 * quadwords,
+        Ok(Code::Unpack { format, count, .. }) => (count * format.vector_bits()).div_ceil(32),
+        _ => 0,
+    }
+}
+
+fn waits_for_quadwords(unit: &Unit) -> bool {
+    unit.waiting
+        .is_some_and(|waiting| matches!(waiting.payload, Payload::Direct | Payload::Directhl))
+}
+
+/// A random case of a few runs and starts.
+fn random_case(random: &mut Random) -> Case {
+    if random.below(400) == 0 {
+        return deep_case(random);
+    }
+    let quadwords = match random.below(100) {
+        0..=4 => random.within(1..=6),
+        5..=29 => random.within(8..=60),
+        30..=94 => random.within(60..=255),
+        95..=98 => random.within(256..=1_200),
+        _ => random.within(1_200..=65_536),
+    };
+    let given = quadwords.min(if random.percent(98) { 256 } else { 2_000 });
+    let length = 16 * quadwords as u32;
+    let (log_length, used) = log(random);
+    let mut case = plain_case(
+        &State::reset(),
+        &vec![0; 4 * given as usize],
+        log_length,
+        &[],
+    );
+    case.main_length = length;
+    case.fill = random.number();
+    case.whole = random.percent(4) && log_length < 4_000;
+    case.state = random_block(random, 16 * given as u32, used);
+    if random.percent(2) {
+        spoil_lengths(random, &mut case);
+    }
+    let taste = Taste::new(random);
+    let maker = Maker::new(case, 4 * given as usize, taste);
+    make_calls(random, maker)
+}
+
+fn make_calls(random: &mut Random, mut maker: Maker) -> Case {
+    let mut left = match random.below(10) {
+        0..=1 => 1,
+        2..=6 => random.within(2..=8),
+        _ => random.within(6..=25),
+    };
+    if random.percent(35) {
+        random_start(random, &mut maker);
+    }
+    while left > 0 {
+        left -= 1;
+        let most = match random.below(20) {
+            0 => 0,
+            1 => 1,
+            2..=3 => random.within(2..=12),
+            4..=7 => random.within(10..=120),
+            8..=9 => random.within(50..=600),
+            10 => random.within(500..=3_000),
+            _ => random.within(200..=2_000),
+        };
+        let (answer, _) = maker.run(random, most);
+        let again = match answer {
+            chain::ALLOWANCE_USED | chain::INTERRUPT => random.percent(93),
+            chain::DONE => random.percent(12),
+            1..=5 => {
+                left = left.min(1);
+                random.percent(30)
+            }
+            _ => random.percent(12),
+        };
+        if !again && left > 0 {
+            if maker.is_full() && random.percent(80) {
+                break;
+            }
+            random_start(random, &mut maker);
+        }
+    }
+    maker.finish(random)
+}
+
+fn random_start(random: &mut Random, maker: &mut Maker) {
+    let direct = maker
+        .state()
+        .is_some_and(|state| waits_for_quadwords(&state.unit));
+    let channel = random.pick(&[1, 1, 1, 2, 2]);
+    let tte = channel == 1 && random.percent(if direct { 10 } else { 50 });
+    let state = maker.state().copied().unwrap_or(State::reset());
+    let free = maker.free_place(random, &state, (0, 0));
+    let length = maker.standing.main.len() as u32;
+    let anywhere = 16 * random.below(length as u64 / 16 + 1) as u32;
+    let clean = state.unit.waiting.is_none() || random.percent(20);
+    let tadr = match (random.below(20), free) {
+        (0, _) if random.percent(30) => anywhere,
+        (1..=3, _) if !maker.tags.is_empty() && clean => random.pick(&maker.tags),
+        (_, Some(free)) => free,
+        _ if !maker.tags.is_empty() => random.pick(&maker.tags),
+        _ => anywhere,
+    };
+    if random.percent(6) {
+        let bad_channel = random.pick(&[0, 1, 2, 3]);
+        let bad_tadr = random.pick(&[tadr, tadr | 4, tadr | 1 << 31]);
+        let bad_tte = random.pick(&[0, 1, 2]);
+        let answer = maker.start(bad_channel, bad_tadr, bad_tte);
+        if answer == 0 || random.percent(50) {
+            return;
+        }
+    }
+    maker.start(channel, tadr, tte as u32);
+}
+
+/// The length of the log and the entries used, mostly with much room.
+fn log(random: &mut Random) -> (u32, u64) {
+    match random.below(20) {
+        0..=11 => (2 * random.within(40..=400) as u32, random.below(8)),
+        12..=17 => (2 * random.within(200..=1_500) as u32, random.below(150)),
+        _ => random_log(random),
+    }
+}
+
+fn spoil_lengths(random: &mut Random, case: &mut Case) {
+    match random.below(3) {
+        0 => case.data_length = random.pick(&[0, 1_024, 4_095, 4_097, MOST_DATA]),
+        1 => case.code_length = random.pick(&[0, 4, 16_383, 16_385, 16_391, MOST_CODE]),
+        _ => case.main_length += random.pick(&[1, 4, 8, 15]),
+    }
+}
+
+/// A state block over a main memory of this length.
+fn random_block(random: &mut Random, length: u32, used: u64) -> Block {
+    let mut state = match random.below(100) {
+        0..=29 => State::reset(),
+        30..=44 => State {
+            channel: 2,
+            ..State::reset()
+        },
+        _ => random_state(random, length),
+    };
+    state.used = used;
+    let mut block = write_block(&state);
+    if random.percent(8) {
+        add_junk(random, &mut block);
+    }
+    if random.percent(4) {
+        spoil(random, &mut block);
+    }
+    block
+}
+
+/// A state in range over a main memory of this length, which is not 0.
+fn random_state(random: &mut Random, length: u32) -> State {
+    let quadwords = length as u64 / 16;
+    let place = |random: &mut Random| 16 * random.below(quadwords) as u32;
+    let mut state = State {
+        channel: random.pick(&[1, 1, 2]),
+        tadr: place(random),
+        ended: random.percent(10),
+        depth: random.pick(&[0, 0, 1, 2]),
+        ..State::reset()
+    };
+    state.tte = state.channel == 1 && random.percent(50);
+    for i in 0..state.depth {
+        let high = 16 * random.below(65_537) as u32;
+        let in_memory = place(random);
+        state.stack[i] = random.pick(&[in_memory, in_memory, in_memory, high]);
+    }
+    if state.tte && random.percent(30) {
+        state.tag_word = Some(place(random) + random.pick(&[8, 12]));
+    }
+    if random.percent(40) {
+        state.payload = Some(random_pending(random, state.channel, quadwords));
+    }
+    if random.percent(4) {
+        state.tadr = random.word() & 0x7FFF_FFF0;
+    }
+    let unit = random_good_unit(random);
+    state.unit = unit;
+    state.path2 = random_good_path(random);
+    state.path3 = random_good_path(random);
+    state
+}
+
+fn random_pending(random: &mut Random, channel: u32, quadwords: u64) -> Pending {
+    let first = random.below(quadwords);
+    let most = (quadwords - first).min(random.pick(&[2, 6, 65_535]));
+    let count = random.within(1..=most) as u32;
+    let skipped = if channel == 2 {
+        0
+    } else {
+        random.below(4) as u32
+    };
+    // Now and then a few quadwords too many.
+    let count = if random.percent(4) {
+        (count + 300).min(65_535)
+    } else {
+        count
+    };
+    Pending {
+        address: 16 * first as u32 + 4 * skipped,
+        words: 4 * count - skipped,
+    }
+}
+
+fn random_good_unit(random: &mut Random) -> Unit {
+    loop {
+        let block = if random.percent(40) {
+            vif_cases::write_block(&random_waiting_unit(random))
+        } else {
+            random_unit_block(random)
+        };
+        match vif_cases::read_block(&block) {
+            Some(unit) if vif::in_range(&unit) => return unit,
+            _ => {}
+        }
+    }
+}
+
+fn random_good_path(random: &mut Random) -> Path {
+    loop {
+        let block = random_path_block(random);
+        match gif_cases::read_block(&block) {
+            Some(path) if gif::path_in_range(&path) => return path,
+            _ => {}
+        }
+    }
+}
+
+/// Puts words where they mean nothing.
+fn add_junk(random: &mut Random, block: &mut Block) {
+    let state = read_block(block).expect("a written block is read");
+    for i in state.depth..chain::STACK {
+        block[5 + i] = random.word();
+    }
+    if state.tag_word.is_none() {
+        block[8] = random.word();
+    }
+    if state.payload.is_none() {
+        block[10] = random.word();
+    }
+    if state.unit.waiting.is_none() {
+        block[35..45].iter_mut().for_each(|w| *w = random.word());
+    }
+    for (path, at) in [(state.path2, 45), (state.path3, 54)] {
+        if path.place == Place::Idle {
+            block[at + 2..at + 9]
+                .iter_mut()
+                .for_each(|w| *w = random.word());
+        }
+    }
+}
+
+/// Changes one word or two.
+fn spoil(random: &mut Random, block: &mut Block) {
+    for _ in 0..random.within(1..=2) {
+        let field = random.below(63) as usize;
+        if field == 11 || field == 12 {
+            continue;
+        }
+        let any = random.word();
+        let held = block[field];
+        block[field] = random.pick(&[
+            0,
+            1,
+            2,
+            3,
+            256,
+            1_024,
+            65_536,
+            u32::MAX,
+            held.wrapping_add(1),
+            held ^ 1 << (any & 31),
+            any,
+        ]);
+    }
+}
+
+/// A loop that goes on for a hundred thousand steps and more.
+fn deep_case(random: &mut Random) -> Case {
+    loop {
+        let given = random.within(60..=255);
+        let mut case = plain_case(&State::reset(), &vec![0; 4 * given as usize], 8, &[]);
+        case.main_length = 16 * given as u32;
+        case.fill = random.number();
+        let mut maker = Maker::new(case, 4 * given as usize, Taste::deep(random));
+        maker.taste.vif.unpack_percent = random.pick(&[30, 80]);
+        let channel = random.pick(&[1, 1, 2]);
+        let tte = channel == 1 && random.percent(40);
+        let at = 16 * random.below(given / 2) as u32;
+        maker.start(channel, at, tte as u32);
+        let most = random.within(100_000..=101_000);
+        let (_, first) = maker.run(random, most);
+        let (_, second) = maker.run(random, 300);
+        if first >= 100_000 && second == 300 {
+            return maker.finish(random);
+        }
+    }
+}
