@@ -148,3 +148,10 @@ vector-fits f k i v =
       multiple = rw q (lane-multiple (width-of f) (i * elements f) k (rw q at s));
       inside = omega arith;
     }
+
+pub payload-some : (f : Format) (n : ℕ) → 1 ≤ n → 1 ≤ payloadWords f n
+unfolding payloadWords
+payload-some f n h =
+    let b = bits-some f in
+    let m : 0 < n * vectorBits f = mul-pos h b in
+    omega arith

@@ -3,6 +3,7 @@ use mathlib.Core.Path.{_≡_, refl, sym, ap, _∙_}
 use mathlib.Core.Bool.{Bool, true, false, _&&_}
 use mathlib.Core.List.{List, [], _∷_}
 use Prim.Native.Nat.{ℕ, suc, _+_, _*_, _-_, _/_, _%_, _<_, _≤_}
+use native.Mathlib.Nat.{le-refl}
 use native.Mathlib.Omega.{arith}
 use borrow.Author.Tests.{leb-true, eqb-true, eqb-false, le-leb}
 use lib.ListN.{length}
@@ -17,7 +18,7 @@ use Rattle.unpack.specs.Write.{Written, written, writeVectors}
 use Rattle.unpack.specs.Range.{cycleInRange, unpackingInRange, CycleFits, UnpackingFits}
 use Rattle.unpack.specs.Inner.{MemoryFits, WordFits, VectorIn}
 use Rattle.unpack.specs.Step.{countOf, unpackingOf, takenWords, acting, heldVector, wordOf, unpackWord, acceptable, Left, takeOf}
-use Rattle.unpack.proofs.PayloadLaws.{whole-few, vector-in, payload-most}
+use Rattle.unpack.proofs.PayloadLaws.{whole-few, vector-in, payload-most, payload-some}
 
 pub count-range : (num : ℕ) → (1 ≤ countOf num) × (countOf num ≤ 256)
 unfolding countOf
@@ -138,3 +139,10 @@ pub taken-as : (size : ℕ) (f : Format) (u : Unpacking) (r : Registers) (word :
     → _≡_ {A = Left} (record { accepted = true; row = rs; mem = m }) (takeOf size f u r word row mem)
 unfolding takeOf if
 taken-as size f u r word row mem h e = rw (h, ← e)
+
+-- an UNPACK code whose whole payload is due is in range
+pub begun-fits : (f : Format) (a num : ℕ) (usn masked i : Bool) → UnpackingFits f (unpackingOf f a num usn masked i)
+unfolding unpackingOf
+begun-fits f a num usn masked i =
+    let n = count-range num in
+    record { inside = omega arith; some = n .0; few = n .1; left = payload-some f (countOf num) (n .0); most = le-refl _ }

@@ -3,3 +3,5 @@ pub mod CodeLaws
 pub mod RangeLaws
 pub mod StepLaws
 pub mod MpgLaws
+pub mod KeepLaws
+pub mod RangeKept

@@ -3,6 +3,8 @@ use mathlib.Core.Path.{_≡_, refl, sym, ap, _∙_}
 use mathlib.Core.Bool.{Bool, true, false}
 use mathlib.Core.List.{List}
 use Prim.Native.Nat.{ℕ, _+_, _*_, _^_}
+use borrow.Author.Tests.{eq-eqb}
+use lib.ListN.{length}
 use Rattle.fields.specs.Fields.{if, quadword}
 use Rattle.gif.specs.declared.Path.{Path}
 use Rattle.gif.specs.declared.GifAnswer.{GifAnswer}
@@ -21,8 +23,8 @@ use Rattle.vif.specs.declared.VifAnswer.the-variants.{Word}
 use Rattle.vif.specs.declared.Waiting.{Waiting}
 use Rattle.vif.specs.declared.Vif.{Vif}
 use Rattle.vif.specs.Payload.{completes, writeRegisters, unpackUnit}
-use Rattle.vif.specs.Inner.{GifReady, UnpackReady}
-use Rattle.vif.specs.Step.{Lent, lent, Left, left, answers, afterGif, afterQuadword, giveQuadword, directStep, unpackStep, stepBy}
+use Rattle.vif.specs.Inner.{GifReady, UnpackReady, StepReady}
+use Rattle.vif.specs.Step.{Lent, lent, Left, left, answers, afterGif, afterQuadword, giveQuadword, directStep, unpackStep, stepBy, vifStep, takeOf}
 
 -- what holds at the case that an arm knows holds at the value itself
 pub by-answer : {a b : GifAnswer} → a ≡ b → (o : GifLeft) (v : Vif) (p : Path) (due : ℕ) (i : Bool) (w : Waiting) (used : ℕ) (m : Lent) {x : Left}
@@ -62,3 +64,10 @@ unfolding unpackStep unpackTakeOf if
 unpacked v p f u word used mem code log g er es ev eb =
     let e = rw (er, g .accepted) at es in
     rw (eb, ev, ap (λ (o : UnpackLeft). o .row) e, ap (λ (o : UnpackLeft). o .mem) e)
+
+-- input that passes the tests gets document 01's step
+pub vif-tested : (v : Vif) (p : Path) (n : Incoming) (used : ℕ) (m : Lent) → StepReady v p used (m .mem) (m .code) (m .log)
+    → takeOf v p n used m ≡ vifStep v p n used m
+unfolding takeOf if
+vif-tested v p n used m r =
+    rw (eq-eqb (length (m .mem)) 4096 (r .long), eq-eqb (length (m .code)) 16384 (r .wide), r .gif .logged, r .ranged, r .gif .ranged)
