@@ -1,0 +1,74 @@
+-- A run: document 01's "Before each step: if the chain has ended and nothing is pending, answer 0 (done); else if the allowance is used, answer 90. After a
+-- step that completes a VIF code with its bit 31 set, payload included, answer 91 at once, also where the chain or allowance ends there. The step count is
+-- the number of steps completed. A refused step isn't counted."
+use Prim.Native.Nat.{ℕ, zero, suc, _+_}
+use mathlib.Core.Bool.{Bool, true, false, _&&_}
+use mathlib.Core.List.{List}
+use lib.Dec.{eqb}
+use Rattle.fields.specs.Fields.{if}
+use Rattle.vif.specs.Step.{Lent}
+use Rattle.chain.specs.declared.Answer.{Answer}
+use Rattle.chain.specs.declared.Answer.the-variants.{Done, Allowance, Interrupt, Refused}
+use Rattle.chain.specs.declared.StepAnswer.{StepAnswer}
+use Rattle.chain.specs.declared.StepAnswer.the-variants.{Completed, Refused as StepRefused}
+use Rattle.chain.specs.declared.RunResult.{RunResult}
+use Rattle.chain.specs.declared.State.{State}
+use Rattle.chain.specs.Pending.{nothingPending}
+use Rattle.chain.specs.Range.{entryRefusal}
+use Rattle.chain.specs.Step.{Machine, machine, Stepped, stepOf}
+
+-- the number of an answer
+abbrev pub numberOf : Answer → ℕ
+numberOf Done = 0
+numberOf Allowance = 90
+numberOf Interrupt = 91
+numberOf (Refused n) = n
+
+-- what a run leaves: the answer, the state and the memories, and the step count
+pub record Ran : Type 0 where
+  pub answer : Answer
+  pub after : Machine
+  pub steps : ℕ
+
+abbrev pub ran : Answer → State → ℕ → Lent → Ran
+ran a s k m = record { answer = a; after = machine s m; steps = k }
+
+abbrev pub leftBy : RunResult → Lent → Ran
+leftBy r m = ran (r .answer) (r .state) (r .steps) m
+
+-- the chain has ended and nothing is pending
+unfoldable pub done : State → Bool
+done s = s .ended && nothingPending s
+
+-- a run counted on the way back: one step more
+abbrev pub oneMore : Ran → Ran
+oneMore r = record { answer = r .answer; after = r .after; steps = suc (r .steps) }
+
+-- by a step's answer; f runs on
+abbrev pub afterStep : (State → Lent → Ran) → StepAnswer → Stepped → State → Lent → Ran
+afterStep f (Completed true) x s m = ran Interrupt (x .after .state) 1 (x .after .memories)
+afterStep f (Completed false) x s m = oneMore (f (x .after .state) (x .after .memories))
+afterStep f (StepRefused n) x s m = ran (Refused n) s 0 m
+
+abbrev pub onStep : (State → Lent → Ran) → Stepped → State → Lent → Ran
+onStep f x s m = afterStep f (x .answer) x s m
+
+abbrev pub orStop : Bool → Answer → State → Lent → Ran
+orStop true a s m = ran Done s 0 m
+orStop false a s m = ran a s 0 m
+
+abbrev pub turn : Bool → (State → Lent → Ran) → List ℕ → State → Lent → Ran
+turn true f main s m = ran Done s 0 m
+turn false f main s m = onStep f (stepOf main s m) s m
+
+-- the steps of a run, by its allowance
+unfoldable pub steps : List ℕ → ℕ → State → Lent → Ran
+steps main zero s m = orStop (done s) Allowance s m
+steps main (suc n) s m = turn (done s) (steps main n) main s m
+
+-- a run: the entry tests, then the steps
+abbrev pub entered : ℕ → List ℕ → ℕ → State → Lent → Ran
+entered n main allowance s m = if (eqb n 0) (steps main allowance s m) (ran (Refused n) s 0 m)
+
+unfoldable pub runOf : List ℕ → ℕ → State → Lent → Ran
+runOf main allowance s m = entered (entryRefusal main m s) main allowance s m

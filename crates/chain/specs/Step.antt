@@ -1,0 +1,84 @@
+-- A step: document 01's "A step is one of: a tag read; one word taken by VIF1; one quadword taken by the GIF (channel 2, or inside DIRECT)."
+use Prim.Native.Nat.{ℕ, _+_, _*_, _-_, _/_, _%_}
+use mathlib.Core.Bool.{Bool, false}
+use mathlib.Core.List.{List}
+use lib.Dec.{eqb}
+use Rattle.fields.specs.Fields.{if}
+use Rattle.gif.specs.declared.GifAnswer.{GifAnswer}
+use Rattle.gif.specs.declared.GifAnswer.the-variants.{Taken, Refused as GifRefused}
+use Rattle.gif.specs.Step.{Left as GifLeft, gifStep}
+use Rattle.vif.specs.declared.VifAnswer.{VifAnswer}
+use Rattle.vif.specs.declared.VifAnswer.the-variants.{Word, Quadword, Refused as VifRefused}
+use Rattle.vif.specs.Step.{Lent, lent, Left as VifLeft, vifStep}
+use Rattle.chain.specs.declared.TagWords.{TagWords}
+use Rattle.chain.specs.declared.TagWords.the-variants.{Nothing as NoTagWords, From}
+use Rattle.chain.specs.declared.Payload.{Payload}
+use Rattle.chain.specs.declared.Payload.the-variants.{Nothing as NoPayload, Words}
+use Rattle.chain.specs.declared.StepAnswer.{StepAnswer}
+use Rattle.chain.specs.declared.StepAnswer.the-variants.{Completed, Refused}
+use Rattle.chain.specs.declared.StepResult.{StepResult}
+use Rattle.chain.specs.declared.State.{State}
+use Rattle.chain.specs.Memory.{quadwordAt}
+use Rattle.chain.specs.Setters.{withPending, withUnit, withPath3}
+use Rattle.chain.specs.Tags.{tagStep}
+use Rattle.chain.specs.Pending.{incomingAt, tagsAfter, payloadAfter}
+
+-- the state and the memories
+pub record Machine : Type 0 where
+  pub state : State
+  pub memories : Lent
+
+abbrev pub machine : State → Lent → Machine
+machine s m = record { state = s; memories = m }
+
+-- what a step leaves
+pub record Stepped : Type 0 where
+  pub answer : StepAnswer
+  pub after : Machine
+
+abbrev pub stepped : StepAnswer → State → Lent → Stepped
+stepped a s m = record { answer = a; after = machine s m }
+
+abbrev pub steppedBy : StepResult → Lent → Stepped
+steppedBy r m = stepped (r .answer) (r .state) m
+
+-- a word or quadword that VIF1 was given, by what it made of it; t and p are what is then pending, p by the number of words taken
+abbrev pub afterVif : VifAnswer → VifLeft → TagWords → (ℕ → Payload) → State → Lent → Stepped
+afterVif (Word i) o t p s m = stepped (Completed i) (withPending (withUnit s (o .unit) (o .path2) (o .used)) t (p 1)) (o .memories)
+afterVif (Quadword i) o t p s m = stepped (Completed i) (withPending (withUnit s (o .unit) (o .path2) (o .used)) t (p 4)) (o .memories)
+afterVif (VifRefused n) o t p s m = stepped (Refused n) s m
+
+abbrev pub givenVif : VifLeft → TagWords → (ℕ → Payload) → State → Lent → Stepped
+givenVif o t p s m = afterVif (o .answer) o t p s m
+
+unfoldable pub vifGiven : List ℕ → ℕ → TagWords → (ℕ → Payload) → State → Lent → Stepped
+vifGiven main a t p s m = givenVif (vifStep (s .vif) (s .path2) (incomingAt main a) (s .used) m) t p s m
+
+-- a quadword that path 3 was given
+abbrev pub afterGif : GifAnswer → GifLeft → Payload → State → Lent → Stepped
+afterGif Taken o p s m = stepped (Completed false) (withPending (withPath3 s (o .path) (o .used)) (s .tags) p) (lent (m .mem) (m .code) (o .log))
+afterGif (GifRefused n) o p s m = stepped (Refused n) s m
+
+abbrev pub givenGif : GifLeft → Payload → State → Lent → Stepped
+givenGif o p s m = afterGif (o .answer) o p s m
+
+unfoldable pub gifGiven : List ℕ → ℕ → Payload → State → Lent → Stepped
+gifGiven main a p s m = givenGif (gifStep (s .path3) (quadwordAt main a) (s .used) (m .log)) p s m
+
+-- a pending payload word, on channel 2 a quadword
+unfoldable pub payloadStep : List ℕ → ℕ → ℕ → State → Lent → Stepped
+payloadStep main at n s m =
+    if (eqb (s .channel) 2) (gifGiven main at (payloadAfter at n 4) s m) (vifGiven main at (s .tags) (payloadAfter at n) s m)
+
+-- "A tag is read only when nothing is pending."
+abbrev pub payloadOrTag : Payload → List ℕ → State → Lent → Stepped
+payloadOrTag NoPayload main s m = steppedBy (tagStep main s) m
+payloadOrTag (Words at n) main s m = if (eqb n 0) (steppedBy (tagStep main s) m) (payloadStep main at n s m)
+
+-- "words 2 and 3 of the tag go to VIF1 before the payload"
+abbrev pub pendingOrTag : TagWords → Payload → List ℕ → State → Lent → Stepped
+pendingOrTag NoTagWords p main s m = payloadOrTag p main s m
+pendingOrTag (From a) p main s m = vifGiven main a (tagsAfter a) (λ k. s .payload) s m
+
+unfoldable pub stepOf : List ℕ → State → Lent → Stepped
+stepOf main s m = pendingOrTag (s .tags) (s .payload) main s m
