@@ -3,3 +3,4 @@ pub mod PayloadLaws
 pub mod VectorLaws
 pub mod WriteLaws
 pub mod StepLaws
+pub mod WholeLaws
