@@ -1,27 +1,33 @@
--- The steps of payload words do what the whole payload says.
+-- The steps of payload words do what the whole payload says, and what writes keep.
 use mathlib.Core.Path.{_≡_, refl, sym, ap, _∙_}
+use mathlib.Core.Logic.{_↔_}
 use mathlib.Core.Bool.{Bool, true, false}
 use mathlib.Core.List.{List, [], _∷_, _++_}
-use Prim.Native.Nat.{ℕ, zero, suc, _+_, _*_, _-_, _/_, _%_, _^_, _<_, _≤_, min}
-use native.Mathlib.Nat.{add-zero, sub-zero, zero-add, add-assoc, mul-add, mul-assoc, mul-comm, mul-le-mul-left, mul-le-mul-right, suc-mul, mul-suc, add-mul-div-left, div-div-eq-div-mul, mul-div-mul-left, div-eq-of-lt, zero-div, min-zero, le-div-iff-mul-le, div-mul-le-self}
-use native.Mathlib.Numerals.{add-one}
+use Prim.Native.Nat.{ℕ, zero, suc, _+_, _*_, _-_, _/_, _%_, _^_, _<_, _≤_}
+use native.Mathlib.Nat.{add-zero, sub-zero, zero-add, add-assoc, mul-add, mul-assoc, mul-le-mul-left, mul-le-mul-right, suc-mul, mul-suc, add-mul-div-left, div-div-eq-div-mul, mul-div-mul-left, div-eq-of-lt, zero-div, div-one, mod-one, mul-one, min-zero, min-eq-left, le-div-iff-mul-le, div-mul-le-self}
 use native.Mathlib.Omega.{arith}
-use borrow.Author.Tests.{eq-eqb, ne-eqb}
-use lib.ListN.{length, getD}
-use lib.Pow.{pow-pos, pow-add, pow-mono}
+use borrow.Author.Tests.{ne-eqb}
+use lib.ListN.{length, getD, set, length-set}
+use lib.Seq.{getD-set-other}
+use lib.Dec.{ltb}
+use lib.Pow.{pow-pos, pow-add}
 use Rattle.fields.specs.Fields.{if}
+use Rattle.fields.proofs.ChoiceLaws.{if-ind}
 use Rattle.fields.proofs.FieldLaws.{field-low}
 use Rattle.unpack.specs.declared.Format.{Format}
+use Rattle.unpack.specs.declared.Format.the-variants.{V4x32}
 use Rattle.unpack.specs.declared.Unpacking.{Unpacking}
 use Rattle.unpack.specs.declared.Registers.{Registers}
 use Rattle.unpack.specs.Payload.{elementBits, elements, isFive, vectorBits, payloadWords, value, wholeVectors}
-use Rattle.unpack.specs.Vector.{extended, element, fieldsOf, fiveFields, extendedAt, vectorAt}
-use Rattle.unpack.specs.Write.{Written, written, writeVector, writeVectors}
+use Rattle.unpack.specs.Vector.{extended, element, fieldsOf, fiveFields, vectorAt}
+use Rattle.unpack.specs.Position.{positionOf}
+use Rattle.unpack.specs.Mask.{maskOf, codeAt, codeRow}
+use Rattle.unpack.specs.Write.{rowOf, dataOf, fieldOf, rowsAfter, putField, writtenAt, Written, written, writeVector, writeVectors}
 use Rattle.unpack.specs.Step.{countOf, unpackingOf, takenWords, holds, acting, heldVector, wordOf, unpackWord}
-use Rattle.unpack.specs.Whole.{payloadVector, unpackedBy, takeWords, heldAfter}
-use Rattle.unpack.specs.Inner.{VectorIn, VectorFits}
+use Rattle.unpack.specs.Whole.{payloadVector, unpackedBy, takeWords, heldAfter, storeQuadword, copyVectors, fourWords}
+use Rattle.unpack.specs.Inner.{VectorIn}
 use Rattle.unpack.proofs.PayloadLaws.{few-elements, bits-some, vector-in, starts-inside, vector-fits}
-use Rattle.unpack.proofs.VectorLaws.{Words, none, more}
+use Rattle.unpack.proofs.VectorLaws.{Words, more, digit}
 
 -- ---- a vector is known from its elements
 
@@ -49,13 +55,13 @@ same-vector f usn p at q on h =
 
 -- ---- the payload from bit 32k on, and the three words before it
 
--- two numbers, one the other moved up by s bits but for its k lowest bits, from bits that lie s and k below the same bit
-same-place : (s A low W k b c : ℕ) → 2 ^ s * A ≡ low + 2 ^ k * W → low < 2 ^ k → s + b ≡ k + c → A / 2 ^ b ≡ W / 2 ^ c
-same-place s A low W k b c e l q =
-    sym (mul-div-mul-left A (2 ^ b) (pow-pos s))
-    ∙ rw (e, ← pow-add 2 s b, q, pow-add 2 k c, ← div-div-eq-div-mul (low + 2 ^ k * W), add-mul-div-left low W (pow-pos k), div-eq-of-lt l, zero-add)
+-- p moved up by s bits is v moved up by k bits, low bits apart: from the same bit on, p and v hold the same
+same-place : (s p low v k b c : ℕ) → 2 ^ s * p ≡ low + 2 ^ k * v → low < 2 ^ k → s + b ≡ k + c → p / 2 ^ b ≡ v / 2 ^ c
+same-place s p low v k b c e l q =
+    sym (mul-div-mul-left p (2 ^ b) (pow-pos s))
+    ∙ rw (e, ← pow-add 2 s b, q, pow-add 2 k c, ← div-div-eq-div-mul (low + 2 ^ k * v), add-mul-div-left low v (pow-pos k), div-eq-of-lt l, zero-add)
 
--- the payload's number p, with 96 zero bits below it, is what the first k words held, and on top of it the three words held and those to come
+-- the number p of the payload with three words of zeros before it: its first k words, and on top of them the three held and those to come
 record Along (p k : ℕ) (u : Unpacking) (ws : List ℕ) : Type 0 where
   low : ℕ
   below : low < 2 ^ (32 * k)
@@ -106,14 +112,14 @@ along-first f a num usn masked i ws h =
     }
 
 -- a digit more
-digit-below : (low P x B : ℕ) → low < P → x < B → low + P * x < P * B
-digit-below low P x B h l =
-    let m = mul-le-mul-left {m = suc x} P l in
-    let e : P * suc x ≡ P * x + P = mul-suc P x in
+digit-below : (low n x b : ℕ) → low < n → x < b → low + n * x < n * b
+digit-below low n x b h l =
+    let m = mul-le-mul-left {m = suc x} n l in
+    let e : n * suc x ≡ n * x + n = mul-suc n x in
     omega arith
 
-digit-split : (low P x B v : ℕ) → low + P * (x + B * v) ≡ low + P * x + P * B * v
-digit-split low P x B v = rw (mul-add P x, ← mul-assoc P B, ← add-assoc low)
+digit-split : (low n x b v : ℕ) → low + n * (x + b * v) ≡ low + n * x + n * b * v
+digit-split low n x b v = rw (mul-add n x, ← mul-assoc n b, ← add-assoc low)
 
 -- one word more
 along-next : (p k x : ℕ) (u : Unpacking) (ws : List ℕ) → Along p k u (x ∷ ws) → Along p (k + 1) (holds u x) ws
@@ -152,7 +158,7 @@ module _ (size a : ℕ) (r : Registers) where
       let q : suc m + n ≡ suc (m + n) = omega arith in
       rw (e, q) (writes-join vec m n (suc i) _)
 
-  -- from a to b and from b to c
+  -- up to one number, and from it on
   writes-to : (vec : ℕ → List ℕ) (from mid to : ℕ) (w : Written) → from ≤ mid → mid ≤ to
       → writeVectors size a r vec (to - mid) mid (writeVectors size a r vec (mid - from) from w) ≡ writeVectors size a r vec (to - from) from w
   writes-to vec from mid to w h l =
@@ -164,9 +170,8 @@ module _ (size a : ℕ) (r : Registers) where
 whole-mono : (f : Format) (n k l : ℕ) → k ≤ l → wholeVectors f n k ≤ wholeVectors f n l
 unfolding wholeVectors
 whole-mono f n k l h =
-    let d : 32 * k / vectorBits f ≤ 32 * l / vectorBits f =
-      le-div-iff-mul-le (bits-some f) .1 (let m = div-mul-le-self (32 * k) (vectorBits f) in omega arith)
-    in
+    let m = div-mul-le-self (32 * k) (vectorBits f) in
+    let d : 32 * k / vectorBits f ≤ 32 * l / vectorBits f = le-div-iff-mul-le (bits-some f) .1 (omega arith) in
     omega arith
 
 whole-none : (f : Format) (n : ℕ) → wholeVectors f n 0 ≡ 0
@@ -223,7 +228,7 @@ payload-theorem size f a num usn masked i r ws w h l =
     steps-write size f (value ws) 0 (unpackingOf f a num usn masked i) r ws w (along-first f a num usn masked i ws h) (omega arith) l
     ∙ rw (whole-none f (countOf num), zero-add, sub-zero)
 
--- each word taken is due no more
+-- each word taken makes one less due
 due-after : (u : Unpacking) (ws : List ℕ) → heldAfter u ws .due ≡ u .due - length ws
 unfolding heldAfter
 due-after u [] = omega arith
@@ -233,3 +238,153 @@ pub payload-due : (f : Format) (a num : ℕ) (usn masked i : Bool) (ws : List �
     → heldAfter (unpackingOf f a num usn masked i) ws .due ≡ payloadWords f (countOf num) - length ws
 unfolding unpackingOf
 payload-due f a num usn masked i ws = due-after (unpackingOf f a num usn masked i) ws
+
+-- ---- the vectors of the words taken
+
+-- "exactly the vectors lying wholly in them"
+pub whole-exactly : (f : Format) (n k i : ℕ) → i < n → (i < wholeVectors f n k) ↔ ((i + 1) * vectorBits f ≤ 32 * k)
+unfolding wholeVectors
+whole-exactly f n k i h =
+    let t = le-div-iff-mul-le {k = vectorBits f} {x = i + 1} {y = 32 * k} (bits-some f) in (
+      (λ l. t .0 (omega arith)),
+      (λ l. let q = t .1 l in omega arith),
+    )
+
+-- all of them lie in the whole payload
+pub whole-all : (f : Format) (n : ℕ) → wholeVectors f n (payloadWords f n) ≡ n
+unfolding wholeVectors payloadWords
+whole-all f n =
+    let q : n ≤ 32 * ((n * vectorBits f + 31) / 32) / vectorBits f = le-div-iff-mul-le (bits-some f) .1 (omega arith) in
+    min-eq-left q
+
+-- a whole payload writes every vector
+pub payload-whole : (size : ℕ) (f : Format) (a num : ℕ) (usn masked i : Bool) (r : Registers) (ws : List ℕ) (w : Written) → Words ws
+    → length ws ≡ payloadWords f (countOf num)
+    → takeWords size f (unpackingOf f a num usn masked i) r ws w
+    ≡ writeVectors size (a % 1024) (acting f (unpackingOf f a num usn masked i) r) (payloadVector f usn ws) (countOf num) 0 w
+unfolding unpackedBy unpackingOf
+payload-whole size f a num usn masked i r ws w h l =
+    payload-theorem size f a num usn masked i r ws w h (omega arith) ∙ rw (l, whole-all f (countOf num))
+
+-- ---- what writes leave as it was
+
+put-length : (m : List ℕ) (at code mode x row col : ℕ) → length (putField m at code mode x row col) ≡ length m
+unfolding putField
+put-length m at code mode x row col = length-set m at _
+
+put-other : (m : List ℕ) (at code mode x row col k : ℕ) → (k ≡ at → ⊥) → getD (putField m at code mode x row col) k 0 ≡ getD m k 0
+unfolding putField
+put-other m at code mode x row col k n = getD-set-other m at k _ 0 n
+
+module _ (size a : ℕ) (r : Registers) (vec : ℕ → List ℕ) where
+  vector-length : (i : ℕ) (fields : List ℕ) (w : Written) → length (writeVector size a r i fields w .mem) ≡ length (w .mem)
+  unfolding writeVector writtenAt
+  vector-length i fields w = simp put-length
+
+  pub vectors-length : (n i : ℕ) (w : Written) → length (writeVectors size a r vec n i w .mem) ≡ length (w .mem)
+  unfolding writeVectors
+  vectors-length zero i w = refl
+  vectors-length (suc n) i w = vectors-length n (suc i) (writeVector size a r i (vec i) w) ∙ vector-length i (vec i) w
+
+  vector-rows : (i : ℕ) (fields : List ℕ) (w : Written) → length (writeVector size a r i fields w .row) ≡ 4
+  unfolding writeVector rowsAfter
+  vector-rows i fields w = refl
+
+  pub vectors-rows : (n i : ℕ) (w : Written) → length (w .row) ≡ 4 → length (writeVectors size a r vec n i w .row) ≡ 4
+  unfolding writeVectors
+  vectors-rows zero i w h = h
+  vectors-rows (suc n) i w h = vectors-rows n (suc i) (writeVector size a r i (vec i) w) (vector-rows i (vec i) w)
+
+  vector-outside : (i q e : ℕ) (fields : List ℕ) (w : Written) → e < 4 → (q ≡ positionOf size a (r .cl) (r .wl) i → ⊥)
+      → getD (writeVector size a r i fields w .mem) (4 * q + e) 0 ≡ getD (w .mem) (4 * q + e) 0
+  unfolding writeVector writtenAt
+  vector-outside i q e fields w h n =
+      put-other _ _ _ _ _ _ _ _ (λ z. n (omega arith)) ∙ put-other _ _ _ _ _ _ _ _ (λ z. n (omega arith))
+      ∙ put-other _ _ _ _ _ _ _ _ (λ z. n (omega arith))
+      ∙ put-other _ _ _ _ _ _ _ _ (λ z. n (omega arith))
+
+  -- a quadword to which none of the vectors goes keeps its four words
+  pub vectors-outside : (n i q e : ℕ) (w : Written) → e < 4 → ((j : ℕ) → i ≤ j → j < i + n → q ≡ positionOf size a (r .cl) (r .wl) j → ⊥)
+      → getD (writeVectors size a r vec n i w .mem) (4 * q + e) 0 ≡ getD (w .mem) (4 * q + e) 0
+  unfolding writeVectors
+  vectors-outside zero i q e w l h = refl
+  vectors-outside (suc n) i q e w l h =
+      vectors-outside n (suc i) q e (writeVector size a r i (vec i) w) l (λ j s t. h j (omega arith) (omega arith))
+      ∙ vector-outside i q e (vec i) w l (h i (omega arith) (omega arith))
+
+-- ---- CL = WL = 1, no mask and no mode: quadwords one after another
+
+plain-position : (size a i : ℕ) → positionOf size a 1 1 i ≡ (a + i) % size
+unfolding positionOf
+plain-position size a i = rw (div-one, mod-one, mul-one, add-zero)
+
+plain-rows : (fields row : List ℕ) → length row ≡ 4 → rowsAfter 0 fields row ≡ row
+unfolding rowsAfter rowOf if
+plain-rows fields [] h = absurd (omega arith)
+plain-rows fields (a ∷ []) h = absurd (omega arith)
+plain-rows fields (a ∷ b ∷ []) h = absurd (omega arith)
+plain-rows fields (a ∷ b ∷ c ∷ []) h = absurd (omega arith)
+plain-rows fields (a ∷ b ∷ c ∷ d ∷ []) h = refl
+plain-rows fields (a ∷ b ∷ c ∷ d ∷ e ∷ row) h = absurd (omega arith)
+
+plain-code : (r f : ℕ) → codeAt 0 r f ≡ 0
+unfolding codeAt
+plain-code r f = rw zero-div
+
+plain-put : (m : List ℕ) (at x row col : ℕ) → putField m at 0 0 x row col ≡ set m at x
+unfolding putField fieldOf dataOf if
+plain-put m at x row col = refl
+
+plain-quadword : (m fields row : List ℕ) (q col c : ℕ) → writtenAt m q fields row col (codeRow 0 c) 0 ≡ storeQuadword m q fields
+unfolding writtenAt storeQuadword
+plain-quadword m fields row q col c = simp (plain-code, plain-put)
+
+module _ (size a : ℕ) (r : Registers) (hc : r .cl ≡ 1) (hw : r .wl ≡ 1) (hm : r .mode ≡ 0) (hk : r .mask ≡ 0) where
+  plain-vector : (i : ℕ) (fields : List ℕ) (w : Written) → length (w .row) ≡ 4
+      → writeVector size a r i fields w ≡ written (w .row) (storeQuadword (w .mem) ((a + i) % size) fields)
+  unfolding writeVector
+  plain-vector i fields w h =
+      rw (hc, hw, hm, hk, plain-position size a i, plain-rows fields (w .row) h, plain-quadword (w .mem) fields (w .row) _ _ _)
+
+  pub plain-written : (vec : ℕ → List ℕ) (n i : ℕ) (w : Written) → length (w .row) ≡ 4
+      → writeVectors size a r vec n i w ≡ written (w .row) (copyVectors size a vec n i (w .mem))
+  unfolding writeVectors copyVectors
+  plain-written vec zero i w h = refl
+  plain-written vec (suc n) i w h = rw (plain-vector i (vec i) w h) (plain-written vec n (suc i) _ h)
+
+  pub v4-written : (vec : ℕ → List ℕ) (n : ℕ) (w : Written) → length (w .row) ≡ 4
+      → writeVectors size a r vec n 0 w ≡ written (w .row) (copyVectors size a vec n 0 (w .mem))
+  v4-written vec n w h = plain-written vec n 0 w h
+
+-- a whole word is extended by nothing
+extended-word : (usn : Bool) (x : ℕ) → extended 32 usn x ≡ x
+unfolding extended if
+extended-word true x = refl
+extended-word false x = if-ind (λ (y : ℕ). y ≡ x) (ltb x (2 ^ 31)) refl (omega arith)
+
+v4-element : (usn : Bool) {ws : List ℕ} → Words ws → (j e m : ℕ) → 32 * m ≡ j * 128 + e * 32
+    → extended 32 usn (element 32 (value ws) (j * 128) e) ≡ getD ws m 0
+unfolding element
+v4-element usn {ws} h j e m q = extended-word usn _ ∙ rw (← q) (digit h m)
+
+-- the vectors of a V4-32 payload are its words, four by four
+pub v4-vector : (usn : Bool) {ws : List ℕ} → Words ws → (j : ℕ) → payloadVector V4x32 usn ws j ≡ fourWords ws j
+unfolding payloadVector vectorAt vectorBits fieldsOf fourWords if
+v4-vector usn h j =
+    rw (v4-element usn h j 0 (4 * j) (omega arith), v4-element usn h j 1 (4 * j + 1) (omega arith), v4-element usn h j 2 (4 * j + 2) (omega arith), v4-element usn h j 3 (4 * j + 3) (omega arith))
+
+v4-words : (n : ℕ) → payloadWords V4x32 n ≡ 4 * n
+unfolding payloadWords vectorBits
+v4-words n = omega arith
+
+-- a whole V4-32 payload, with CL = WL = 1, M clear and MODE 0, is copied: its words 4j to 4j + 3 to quadword (a + j) mod size
+pub v4-payload : (size a num : ℕ) (usn i : Bool) (r : Registers) (ws : List ℕ) (w : Written) → Words ws → length ws ≡ 4 * countOf num
+    → r .cl ≡ 1 → r .wl ≡ 1 → r .mode ≡ 0 → length (w .row) ≡ 4
+    → takeWords size V4x32 (unpackingOf V4x32 a num usn false i) r ws w
+    ≡ written (w .row) (copyVectors size (a % 1024) (fourWords ws) (countOf num) 0 (w .mem))
+unfolding acting unpackingOf maskOf if
+v4-payload size a num usn i r ws w h l hc hw hm hr =
+    let u = unpackingOf V4x32 a num usn false i in
+    payload-whole size V4x32 a num usn false i r ws w h (l ∙ sym (v4-words (countOf num)))
+    ∙ same-writes size (a % 1024) (acting V4x32 u r) (payloadVector V4x32 usn ws) (fourWords ws) (countOf num) 0 w (λ j s t. v4-vector usn h j)
+    ∙ v4-written size (a % 1024) (acting V4x32 u r) hc hw hm refl (fourWords ws) (countOf num) w hr

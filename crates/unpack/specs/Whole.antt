@@ -11,7 +11,7 @@ use Rattle.unpack.specs.Vector.{vectorAt}
 use Rattle.unpack.specs.Write.{Written, writeVectors}
 use Rattle.unpack.specs.Step.{holds, acting, unpackWord}
 
--- "payload is their bits rounded up to whole words": vector i is bits i x its bits and on of the payload's number
+-- vector i of a payload, "their bits rounded up to whole words": its bits lie one after another in the number of the words
 unfoldable pub payloadVector : Format → Bool → List ℕ → ℕ → List ℕ
 payloadVector f usn ws i = vectorAt f usn (value ws) (i * vectorBits f)
 
@@ -39,3 +39,7 @@ storeQuadword mem q x =
 unfoldable pub copyVectors : ℕ → ℕ → (ℕ → List ℕ) → ℕ → ℕ → List ℕ → List ℕ
 copyVectors size a vec zero j mem = mem
 copyVectors size a vec (suc n) j mem = copyVectors size a vec n (suc j) (storeQuadword mem ((a + j) % size) (vec j))
+
+-- words 4j to 4j + 3 of a list: vector j of a V4-32 payload
+unfoldable pub fourWords : List ℕ → ℕ → List ℕ
+fourWords ws j = getD ws (4 * j) 0 ∷ getD ws (4 * j + 1) 0 ∷ getD ws (4 * j + 2) 0 ∷ getD ws (4 * j + 3) 0 ∷ []
