@@ -3,4 +3,5 @@ pub mod PayloadLaws
 pub mod VectorLaws
 pub mod WriteLaws
 pub mod StepLaws
+pub mod WholeLaws
 pub mod LengthLaws

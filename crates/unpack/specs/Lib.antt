@@ -6,4 +6,5 @@ pub mod Mask
 pub mod Write
 pub mod Range
 pub mod Step
+pub mod Whole
 pub mod Inner

@@ -65,7 +65,7 @@ acting f u r =
     }
 
 -- The vector i, from the last four payload words: the three held and the one that comes, which is word k. What the program holds is its own
--- choice; `PayloadLaws` ties this to the bits of the whole payload.
+-- choice; `WholeLaws` ties this to the bits of the whole payload (`payload-theorem`).
 unfoldable pub heldVector : Format → Unpacking → ℕ → ℕ → ℕ → List ℕ
 heldVector f u word k i =
     vectorAt f (u .usn) (value (u .first ∷ u .second ∷ u .third ∷ word ∷ [])) (i * vectorBits f + 96 - 32 * k)

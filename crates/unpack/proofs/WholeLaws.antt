@@ -1,0 +1,390 @@
+-- The steps of payload words do what the whole payload says, and what writes keep.
+use mathlib.Core.Path.{_≡_, refl, sym, ap, _∙_}
+use mathlib.Core.Logic.{_↔_}
+use mathlib.Core.Bool.{Bool, true, false}
+use mathlib.Core.List.{List, [], _∷_, _++_}
+use Prim.Native.Nat.{ℕ, zero, suc, _+_, _*_, _-_, _/_, _%_, _^_, _<_, _≤_}
+use native.Mathlib.Nat.{add-zero, sub-zero, zero-add, add-assoc, mul-add, mul-assoc, mul-le-mul-left, mul-le-mul-right, suc-mul, mul-suc, add-mul-div-left, div-div-eq-div-mul, mul-div-mul-left, div-eq-of-lt, zero-div, div-one, mod-one, mul-one, min-zero, min-eq-left, le-div-iff-mul-le, div-mul-le-self}
+use native.Mathlib.Omega.{arith}
+use borrow.Author.Tests.{ne-eqb}
+use lib.ListN.{length, getD, set, length-set}
+use lib.Seq.{getD-set-other}
+use lib.Dec.{ltb}
+use lib.Pow.{pow-pos, pow-add}
+use Rattle.fields.specs.Fields.{if}
+use Rattle.fields.proofs.ChoiceLaws.{if-ind}
+use Rattle.fields.proofs.FieldLaws.{field-low}
+use Rattle.unpack.specs.declared.Format.{Format}
+use Rattle.unpack.specs.declared.Format.the-variants.{V4x32}
+use Rattle.unpack.specs.declared.Unpacking.{Unpacking}
+use Rattle.unpack.specs.declared.Registers.{Registers}
+use Rattle.unpack.specs.Payload.{elementBits, elements, isFive, vectorBits, payloadWords, value, wholeVectors}
+use Rattle.unpack.specs.Vector.{extended, element, fieldsOf, fiveFields, vectorAt}
+use Rattle.unpack.specs.Position.{positionOf}
+use Rattle.unpack.specs.Mask.{maskOf, codeAt, codeRow}
+use Rattle.unpack.specs.Write.{rowOf, dataOf, fieldOf, rowsAfter, putField, writtenAt, Written, written, writeVector, writeVectors}
+use Rattle.unpack.specs.Step.{countOf, unpackingOf, takenWords, holds, acting, heldVector, wordOf, unpackWord}
+use Rattle.unpack.specs.Whole.{payloadVector, unpackedBy, takeWords, heldAfter, storeQuadword, copyVectors, fourWords}
+use Rattle.unpack.specs.Inner.{VectorIn}
+use Rattle.unpack.proofs.PayloadLaws.{few-elements, bits-some, vector-in, starts-inside, vector-fits}
+use Rattle.unpack.proofs.VectorLaws.{Words, more, digit}
+
+-- ---- a vector is known from its elements
+
+same-fields : (n : ℕ) → 1 ≤ n → {x y z w a b c d : ℕ} → x ≡ a → (1 < n → y ≡ b) → (2 < n → z ≡ c) → (3 < n → w ≡ d)
+    → fieldsOf n x y z w ≡ fieldsOf n a b c d
+unfolding fieldsOf if
+same-fields zero h ex ey ez ew = absurd (omega arith)
+same-fields (suc zero) h ex ey ez ew = rw ex
+same-fields (suc (suc zero)) h ex ey ez ew = rw (ex, ey (omega arith))
+same-fields (suc (suc (suc zero))) h ex ey ez ew = rw (ex, ey (omega arith), ez (omega arith))
+same-fields (suc (suc (suc (suc n)))) h ex ey ez ew =
+    rw (ne-eqb (suc (suc (suc (suc n)))) 1 (λ e. omega arith), ne-eqb (suc (suc (suc (suc n)))) 2 (λ e. omega arith), ne-eqb (suc (suc (suc (suc n)))) 3 (λ e. omega arith), ex, ey (omega arith), ez (omega arith), ew (omega arith))
+
+-- two places that agree on each element of a format hold the same vector
+pub same-vector : (f : Format) (usn : Bool) (p at q on : ℕ)
+    → ((e : ℕ) → e < elements f → element (elementBits f) p at e ≡ element (elementBits f) q on e)
+    → vectorAt f usn p at ≡ vectorAt f usn q on
+unfolding vectorAt
+same-vector f usn p at q on h =
+    let s = few-elements f .some in
+    let h0 : element (elementBits f) p at 0 ≡ element (elementBits f) q on 0 = h 0 s in
+    rw h0
+    (ap (if (isFive f) (fiveFields (element (elementBits f) q on 0)))
+    (same-fields (elements f) s refl (λ l. rw (h 1 l)) (λ l. rw (h 2 l)) (λ l. rw (h 3 l))))
+
+-- ---- the payload from bit 32k on, and the three words before it
+
+-- p moved up by s bits is v moved up by k bits, low bits apart: from the same bit on, p and v hold the same
+same-place : (s p low v k b c : ℕ) → 2 ^ s * p ≡ low + 2 ^ k * v → low < 2 ^ k → s + b ≡ k + c → p / 2 ^ b ≡ v / 2 ^ c
+same-place s p low v k b c e l q =
+    sym (mul-div-mul-left p (2 ^ b) (pow-pos s))
+    ∙ rw (e, ← pow-add 2 s b, q, pow-add 2 k c, ← div-div-eq-div-mul (low + 2 ^ k * v), add-mul-div-left low v (pow-pos k), div-eq-of-lt l, zero-add)
+
+-- the number p of the payload with three words of zeros before it: its first k words, and on top of them the three held and those to come
+record Along (p k : ℕ) (u : Unpacking) (ws : List ℕ) : Type 0 where
+  low : ℕ
+  below : low < 2 ^ (32 * k)
+  split : 2 ^ 96 * p ≡ low + 2 ^ (32 * k) * value (u .first ∷ u .second ∷ u .third ∷ ws)
+  words : Words (u .first ∷ u .second ∷ u .third ∷ ws)
+
+-- the number of words and of more after them
+pub value-append : (xs ys : List ℕ) → value (xs ++ ys) ≡ value xs + value ys * 2 ^ (32 * length xs)
+value-append [] ys = omega arith
+value-append (x ∷ xs) ys =
+    let e : 32 * suc (length xs) ≡ 32 * length xs + 32 = omega arith in
+    let m : value ys * 2 ^ (32 * suc (length xs)) ≡ value ys * 2 ^ (32 * length xs) * 2 ^ 32 = rw (e, pow-add 2 (32 * length xs) 32, ← mul-assoc) in
+    let h = value-append xs ys in
+    omega arith
+
+-- the four words of a step are the low 128 bits from there on
+window : (a b c d : ℕ) (ws : List ℕ) → value (a ∷ b ∷ c ∷ d ∷ ws) ≡ value (a ∷ b ∷ c ∷ d ∷ []) + value ws * 2 ^ 128
+window a b c d ws = value-append (a ∷ b ∷ c ∷ d ∷ []) ws
+
+-- so an element of a vector that word k completes is the same in them and in the payload
+same-element : (f : Format) (p k i x : ℕ) (u : Unpacking) (ws : List ℕ) → Along p k u (x ∷ ws) → VectorIn f k i → (e : ℕ) → e < elements f
+    → element (elementBits f) (value (u .first ∷ u .second ∷ u .third ∷ x ∷ [])) (i * vectorBits f + 96 - 32 * k) e
+    ≡ element (elementBits f) p (i * vectorBits f) e
+unfolding element vectorBits
+same-element f p k i x u ws h v e l =
+    let s = starts-inside f k i v in
+    let b = vector-fits f k i v .inside in
+    let m = mul-le-mul-right {m = suc e} {n = elements f} (elementBits f) l in
+    let t : suc e * elementBits f ≡ e * elementBits f + elementBits f = suc-mul e (elementBits f) in
+    let at = i * vectorBits f + 96 - 32 * k in
+    sym (rw (same-place 96 p (h .low) _ (32 * k) (i * vectorBits f + e * elementBits f) (at + e * elementBits f) (h .split) (h .below) (omega arith), window (u .first) (u .second) (u .third) x ws)
+    (field-low 128 _ (value ws) (at + e * elementBits f) (elementBits f) (omega arith)))
+
+held-vector : (f : Format) (p k i x : ℕ) (u : Unpacking) (ws : List ℕ) → Along p k u (x ∷ ws) → VectorIn f k i
+    → heldVector f u x k i ≡ vectorAt f (u .usn) p (i * vectorBits f)
+unfolding heldVector
+held-vector f p k i x u ws h v = same-vector f (u .usn) _ _ _ _ (same-element f p k i x u ws h v)
+
+-- before the first word
+along-first : (f : Format) (a num : ℕ) (usn masked i : Bool) (ws : List ℕ) → Words ws → Along (value ws) 0 (unpackingOf f a num usn masked i) ws
+unfolding unpackingOf
+along-first f a num usn masked i ws h =
+    record {
+      low = 0;
+      below = omega arith;
+      split = omega arith;
+      words = more {w = 0} (omega arith) (more {w = 0} (omega arith) (more {w = 0} (omega arith) h));
+    }
+
+-- a digit more
+digit-below : (low n x b : ℕ) → low < n → x < b → low + n * x < n * b
+digit-below low n x b h l =
+    let m = mul-le-mul-left {m = suc x} n l in
+    let e : n * suc x ≡ n * x + n = mul-suc n x in
+    omega arith
+
+digit-split : (low n x b v : ℕ) → low + n * (x + b * v) ≡ low + n * x + n * b * v
+digit-split low n x b v = rw (mul-add n x, ← mul-assoc n b, ← add-assoc low)
+
+-- one word more
+along-next : (p k x : ℕ) (u : Unpacking) (ws : List ℕ) → Along p k u (x ∷ ws) → Along p (k + 1) (holds u x) ws
+along-next p k x u ws h =
+    let e : 32 * (k + 1) ≡ 32 * k + 32 = omega arith in
+    record {
+      low = h .low + 2 ^ (32 * k) * u .first;
+      below = rw (e, pow-add 2 (32 * k) 32) (digit-below (h .low) (2 ^ (32 * k)) (u .first) (2 ^ 32) (h .below) (head (h .words)));
+      split = h .split ∙ rw (e, pow-add 2 (32 * k) 32) (digit-split (h .low) (2 ^ (32 * k)) (u .first) (2 ^ 32) (value (u .second ∷ u .third ∷ x ∷ ws)));
+      words = tail (h .words);
+    }
+  where
+    head : {y : ℕ} {ys : List ℕ} → Words (y ∷ ys) → y < 2 ^ 32
+    head (more l r) = l
+
+    tail : {y : ℕ} {ys : List ℕ} → Words (y ∷ ys) → Words ys
+    tail (more l r) = r
+
+-- ---- writes one after another
+
+module _ (size a : ℕ) (r : Registers) where
+  -- they depend on no other vectors than theirs
+  pub same-writes : (vec on : ℕ → List ℕ) (n i : ℕ) (w : Written) → ((j : ℕ) → i ≤ j → j < i + n → vec j ≡ on j)
+      → writeVectors size a r vec n i w ≡ writeVectors size a r on n i w
+  unfolding writeVectors
+  same-writes vec on zero i w h = refl
+  same-writes vec on (suc n) i w h =
+      rw (h i (omega arith) (omega arith)) (same-writes vec on n (suc i) _ (λ j l m. h j (omega arith) (omega arith)))
+
+  pub writes-join : (vec : ℕ → List ℕ) (m n i : ℕ) (w : Written)
+      → writeVectors size a r vec n (i + m) (writeVectors size a r vec m i w) ≡ writeVectors size a r vec (m + n) i w
+  unfolding writeVectors
+  writes-join vec zero n i w = rw (add-zero, zero-add)
+  writes-join vec (suc m) n i w =
+      let e : i + suc m ≡ suc i + m = omega arith in
+      let q : suc m + n ≡ suc (m + n) = omega arith in
+      rw (e, q) (writes-join vec m n (suc i) _)
+
+  -- up to one number, and from it on
+  writes-to : (vec : ℕ → List ℕ) (from mid to : ℕ) (w : Written) → from ≤ mid → mid ≤ to
+      → writeVectors size a r vec (to - mid) mid (writeVectors size a r vec (mid - from) from w) ≡ writeVectors size a r vec (to - from) from w
+  writes-to vec from mid to w h l =
+      let e : from + (mid - from) ≡ mid = omega arith in
+      let q : mid - from + (to - mid) ≡ to - from = omega arith in
+      let j = writes-join vec (mid - from) (to - mid) from w in
+      rw (e, q) at j
+
+whole-mono : (f : Format) (n k l : ℕ) → k ≤ l → wholeVectors f n k ≤ wholeVectors f n l
+unfolding wholeVectors
+whole-mono f n k l h =
+    let m = div-mul-le-self (32 * k) (vectorBits f) in
+    let d : 32 * k / vectorBits f ≤ 32 * l / vectorBits f = le-div-iff-mul-le (bits-some f) .1 (omega arith) in
+    omega arith
+
+whole-none : (f : Format) (n : ℕ) → wholeVectors f n 0 ≡ 0
+unfolding wholeVectors
+whole-none f n = rw zero-div (min-zero n)
+
+-- ---- the steps
+
+-- one step: word k writes the payload's vectors that it completes
+step-writes : (size : ℕ) (f : Format) (p k x : ℕ) (u : Unpacking) (r : Registers) (ws : List ℕ) (w : Written) → Along p k u (x ∷ ws)
+    → takenWords f u ≡ k
+    → unpackWord size f u r x w
+    ≡ writeVectors size (u .address) (acting f u r) (λ i. vectorAt f (u .usn) p (i * vectorBits f))
+    (wholeVectors f (u .count) (k + 1) - wholeVectors f (u .count) k)
+    (wholeVectors f (u .count) k)
+    w
+unfolding unpackWord wordOf
+step-writes size f p k x u r ws w h e =
+    rw e
+    (same-writes size (u .address) (acting f u r) (heldVector f u x k) (λ i. vectorAt f (u .usn) p (i * vectorBits f)) _ _ w
+    (λ j l m. held-vector f p k j x u ws h (vector-in f (u .count) k j l (omega arith))))
+
+taken : (f : Format) (u : Unpacking) (k : ℕ) → k + u .due ≡ payloadWords f (u .count) → takenWords f u ≡ k
+unfolding takenWords
+taken f u k q = omega arith
+
+-- the steps from word k on write the payload's vectors from there on
+steps-write : (size : ℕ) (f : Format) (p k : ℕ) (u : Unpacking) (r : Registers) (ws : List ℕ) (w : Written) → Along p k u ws
+    → k + u .due ≡ payloadWords f (u .count) → length ws ≤ u .due
+    → takeWords size f u r ws w
+    ≡ writeVectors size (u .address) (acting f u r) (λ i. vectorAt f (u .usn) p (i * vectorBits f))
+    (wholeVectors f (u .count) (k + length ws) - wholeVectors f (u .count) k)
+    (wholeVectors f (u .count) k)
+    w
+unfolding takeWords writeVectors acting
+steps-write size f p k u r [] w h q l =
+    let e : wholeVectors f (u .count) (k + 0) - wholeVectors f (u .count) k ≡ 0 = rw add-zero (omega arith) in
+    rw e
+steps-write size f p k u r (x ∷ ws) w h q l =
+    let e : takenWords f u ≡ k = taken f u k q in
+    let c : k + suc (length ws) ≡ k + 1 + length ws = omega arith in
+    steps-write size f p (k + 1) (holds u x) r ws (unpackWord size f u r x w) (along-next p k x u ws h) (omega arith) (omega arith)
+    ∙ rw (c, step-writes size f p k x u r ws w h e)
+    (writes-to size (u .address) (acting f u r) (λ i. vectorAt f (u .usn) p (i * vectorBits f)) _ _ _ w (whole-mono f (u .count) k (k + 1) (omega arith)) (whole-mono f (u .count) (k + 1) (k + 1 + length ws) (omega arith)))
+
+-- ---- the whole payload
+
+-- taking a payload's words one by one, at most all of it, writes exactly the vectors that lie wholly in them, by the bits of the words as one number
+pub payload-theorem : (size : ℕ) (f : Format) (a num : ℕ) (usn masked i : Bool) (r : Registers) (ws : List ℕ) (w : Written) → Words ws
+    → length ws ≤ payloadWords f (countOf num)
+    → takeWords size f (unpackingOf f a num usn masked i) r ws w ≡ unpackedBy size f (unpackingOf f a num usn masked i) r ws w
+unfolding unpackedBy unpackingOf payloadVector
+payload-theorem size f a num usn masked i r ws w h l =
+    steps-write size f (value ws) 0 (unpackingOf f a num usn masked i) r ws w (along-first f a num usn masked i ws h) (omega arith) l
+    ∙ rw (whole-none f (countOf num), zero-add, sub-zero)
+
+-- each word taken makes one less due
+due-after : (u : Unpacking) (ws : List ℕ) → heldAfter u ws .due ≡ u .due - length ws
+unfolding heldAfter
+due-after u [] = omega arith
+due-after u (x ∷ ws) = let h = due-after (holds u x) ws in omega arith
+
+pub payload-due : (f : Format) (a num : ℕ) (usn masked i : Bool) (ws : List ℕ)
+    → heldAfter (unpackingOf f a num usn masked i) ws .due ≡ payloadWords f (countOf num) - length ws
+unfolding unpackingOf
+payload-due f a num usn masked i ws = due-after (unpackingOf f a num usn masked i) ws
+
+-- ---- the vectors of the words taken
+
+-- "exactly the vectors lying wholly in them"
+pub whole-exactly : (f : Format) (n k i : ℕ) → i < n → (i < wholeVectors f n k) ↔ ((i + 1) * vectorBits f ≤ 32 * k)
+unfolding wholeVectors
+whole-exactly f n k i h =
+    let t = le-div-iff-mul-le {k = vectorBits f} {x = i + 1} {y = 32 * k} (bits-some f) in (
+      (λ l. t .0 (omega arith)),
+      (λ l. let q = t .1 l in omega arith),
+    )
+
+-- all of them lie in the whole payload
+pub whole-all : (f : Format) (n : ℕ) → wholeVectors f n (payloadWords f n) ≡ n
+unfolding wholeVectors payloadWords
+whole-all f n =
+    let q : n ≤ 32 * ((n * vectorBits f + 31) / 32) / vectorBits f = le-div-iff-mul-le (bits-some f) .1 (omega arith) in
+    min-eq-left q
+
+-- a whole payload writes every vector
+pub payload-whole : (size : ℕ) (f : Format) (a num : ℕ) (usn masked i : Bool) (r : Registers) (ws : List ℕ) (w : Written) → Words ws
+    → length ws ≡ payloadWords f (countOf num)
+    → takeWords size f (unpackingOf f a num usn masked i) r ws w
+    ≡ writeVectors size (a % 1024) (acting f (unpackingOf f a num usn masked i) r) (payloadVector f usn ws) (countOf num) 0 w
+unfolding unpackedBy unpackingOf
+payload-whole size f a num usn masked i r ws w h l =
+    payload-theorem size f a num usn masked i r ws w h (omega arith) ∙ rw (l, whole-all f (countOf num))
+
+-- ---- what writes leave as it was
+
+put-length : (m : List ℕ) (at code mode x row col : ℕ) → length (putField m at code mode x row col) ≡ length m
+unfolding putField
+put-length m at code mode x row col = length-set m at _
+
+put-other : (m : List ℕ) (at code mode x row col k : ℕ) → (k ≡ at → ⊥) → getD (putField m at code mode x row col) k 0 ≡ getD m k 0
+unfolding putField
+put-other m at code mode x row col k n = getD-set-other m at k _ 0 n
+
+module _ (size a : ℕ) (r : Registers) (vec : ℕ → List ℕ) where
+  vector-length : (i : ℕ) (fields : List ℕ) (w : Written) → length (writeVector size a r i fields w .mem) ≡ length (w .mem)
+  unfolding writeVector writtenAt
+  vector-length i fields w = simp put-length
+
+  pub vectors-length : (n i : ℕ) (w : Written) → length (writeVectors size a r vec n i w .mem) ≡ length (w .mem)
+  unfolding writeVectors
+  vectors-length zero i w = refl
+  vectors-length (suc n) i w = vectors-length n (suc i) (writeVector size a r i (vec i) w) ∙ vector-length i (vec i) w
+
+  vector-rows : (i : ℕ) (fields : List ℕ) (w : Written) → length (writeVector size a r i fields w .row) ≡ 4
+  unfolding writeVector rowsAfter
+  vector-rows i fields w = refl
+
+  pub vectors-rows : (n i : ℕ) (w : Written) → length (w .row) ≡ 4 → length (writeVectors size a r vec n i w .row) ≡ 4
+  unfolding writeVectors
+  vectors-rows zero i w h = h
+  vectors-rows (suc n) i w h = vectors-rows n (suc i) (writeVector size a r i (vec i) w) (vector-rows i (vec i) w)
+
+  vector-outside : (i q e : ℕ) (fields : List ℕ) (w : Written) → e < 4 → (q ≡ positionOf size a (r .cl) (r .wl) i → ⊥)
+      → getD (writeVector size a r i fields w .mem) (4 * q + e) 0 ≡ getD (w .mem) (4 * q + e) 0
+  unfolding writeVector writtenAt
+  vector-outside i q e fields w h n =
+      put-other _ _ _ _ _ _ _ _ (λ z. n (omega arith)) ∙ put-other _ _ _ _ _ _ _ _ (λ z. n (omega arith))
+      ∙ put-other _ _ _ _ _ _ _ _ (λ z. n (omega arith))
+      ∙ put-other _ _ _ _ _ _ _ _ (λ z. n (omega arith))
+
+  -- a quadword to which none of the vectors goes keeps its four words
+  pub vectors-outside : (n i q e : ℕ) (w : Written) → e < 4 → ((j : ℕ) → i ≤ j → j < i + n → q ≡ positionOf size a (r .cl) (r .wl) j → ⊥)
+      → getD (writeVectors size a r vec n i w .mem) (4 * q + e) 0 ≡ getD (w .mem) (4 * q + e) 0
+  unfolding writeVectors
+  vectors-outside zero i q e w l h = refl
+  vectors-outside (suc n) i q e w l h =
+      vectors-outside n (suc i) q e (writeVector size a r i (vec i) w) l (λ j s t. h j (omega arith) (omega arith))
+      ∙ vector-outside i q e (vec i) w l (h i (omega arith) (omega arith))
+
+-- ---- CL = WL = 1, no mask and no mode: quadwords one after another
+
+plain-position : (size a i : ℕ) → positionOf size a 1 1 i ≡ (a + i) % size
+unfolding positionOf
+plain-position size a i = rw (div-one, mod-one, mul-one, add-zero)
+
+plain-rows : (fields row : List ℕ) → length row ≡ 4 → rowsAfter 0 fields row ≡ row
+unfolding rowsAfter rowOf if
+plain-rows fields [] h = absurd (omega arith)
+plain-rows fields (a ∷ []) h = absurd (omega arith)
+plain-rows fields (a ∷ b ∷ []) h = absurd (omega arith)
+plain-rows fields (a ∷ b ∷ c ∷ []) h = absurd (omega arith)
+plain-rows fields (a ∷ b ∷ c ∷ d ∷ []) h = refl
+plain-rows fields (a ∷ b ∷ c ∷ d ∷ e ∷ row) h = absurd (omega arith)
+
+plain-code : (r f : ℕ) → codeAt 0 r f ≡ 0
+unfolding codeAt
+plain-code r f = rw zero-div
+
+plain-put : (m : List ℕ) (at x row col : ℕ) → putField m at 0 0 x row col ≡ set m at x
+unfolding putField fieldOf dataOf if
+plain-put m at x row col = refl
+
+plain-quadword : (m fields row : List ℕ) (q col c : ℕ) → writtenAt m q fields row col (codeRow 0 c) 0 ≡ storeQuadword m q fields
+unfolding writtenAt storeQuadword
+plain-quadword m fields row q col c = simp (plain-code, plain-put)
+
+module _ (size a : ℕ) (r : Registers) (hc : r .cl ≡ 1) (hw : r .wl ≡ 1) (hm : r .mode ≡ 0) (hk : r .mask ≡ 0) where
+  plain-vector : (i : ℕ) (fields : List ℕ) (w : Written) → length (w .row) ≡ 4
+      → writeVector size a r i fields w ≡ written (w .row) (storeQuadword (w .mem) ((a + i) % size) fields)
+  unfolding writeVector
+  plain-vector i fields w h =
+      rw (hc, hw, hm, hk, plain-position size a i, plain-rows fields (w .row) h, plain-quadword (w .mem) fields (w .row) _ _ _)
+
+  pub plain-written : (vec : ℕ → List ℕ) (n i : ℕ) (w : Written) → length (w .row) ≡ 4
+      → writeVectors size a r vec n i w ≡ written (w .row) (copyVectors size a vec n i (w .mem))
+  unfolding writeVectors copyVectors
+  plain-written vec zero i w h = refl
+  plain-written vec (suc n) i w h = rw (plain-vector i (vec i) w h) (plain-written vec n (suc i) _ h)
+
+  pub v4-written : (vec : ℕ → List ℕ) (n : ℕ) (w : Written) → length (w .row) ≡ 4
+      → writeVectors size a r vec n 0 w ≡ written (w .row) (copyVectors size a vec n 0 (w .mem))
+  v4-written vec n w h = plain-written vec n 0 w h
+
+-- a whole word is extended by nothing
+extended-word : (usn : Bool) (x : ℕ) → extended 32 usn x ≡ x
+unfolding extended if
+extended-word true x = refl
+extended-word false x = if-ind (λ (y : ℕ). y ≡ x) (ltb x (2 ^ 31)) refl (omega arith)
+
+v4-element : (usn : Bool) {ws : List ℕ} → Words ws → (j e m : ℕ) → 32 * m ≡ j * 128 + e * 32
+    → extended 32 usn (element 32 (value ws) (j * 128) e) ≡ getD ws m 0
+unfolding element
+v4-element usn {ws} h j e m q = extended-word usn _ ∙ rw (← q) (digit h m)
+
+-- the vectors of a V4-32 payload are its words, four by four
+pub v4-vector : (usn : Bool) {ws : List ℕ} → Words ws → (j : ℕ) → payloadVector V4x32 usn ws j ≡ fourWords ws j
+unfolding payloadVector vectorAt vectorBits fieldsOf fourWords if
+v4-vector usn h j =
+    rw (v4-element usn h j 0 (4 * j) (omega arith), v4-element usn h j 1 (4 * j + 1) (omega arith), v4-element usn h j 2 (4 * j + 2) (omega arith), v4-element usn h j 3 (4 * j + 3) (omega arith))
+
+v4-words : (n : ℕ) → payloadWords V4x32 n ≡ 4 * n
+unfolding payloadWords vectorBits
+v4-words n = omega arith
+
+-- a whole V4-32 payload, with CL = WL = 1, M clear and MODE 0, is copied: its words 4j to 4j + 3 to quadword (a + j) mod size
+pub v4-payload : (size a num : ℕ) (usn i : Bool) (r : Registers) (ws : List ℕ) (w : Written) → Words ws → length ws ≡ 4 * countOf num
+    → r .cl ≡ 1 → r .wl ≡ 1 → r .mode ≡ 0 → length (w .row) ≡ 4
+    → takeWords size V4x32 (unpackingOf V4x32 a num usn false i) r ws w
+    ≡ written (w .row) (copyVectors size (a % 1024) (fourWords ws) (countOf num) 0 (w .mem))
+unfolding acting unpackingOf maskOf if
+v4-payload size a num usn i r ws w h l hc hw hm hr =
+    let u = unpackingOf V4x32 a num usn false i in
+    payload-whole size V4x32 a num usn false i r ws w h (l ∙ sym (v4-words (countOf num)))
+    ∙ same-writes size (a % 1024) (acting V4x32 u r) (payloadVector V4x32 usn ws) (fourWords ws) (countOf num) 0 w (λ j s t. v4-vector usn h j)
+    ∙ v4-written size (a % 1024) (acting V4x32 u r) hc hw hm refl (fourWords ws) (countOf num) w hr

@@ -1,0 +1,45 @@
+-- A payload as a whole: what its words make of ROW and memory, read off all of them at once, and the steps that take them one by one.
+use Prim.Native.Nat.{ℕ, zero, suc, _+_, _*_, _%_}
+use mathlib.Core.Bool.{Bool}
+use mathlib.Core.List.{List, [], _∷_}
+use lib.ListN.{length, getD, set}
+use Rattle.unpack.specs.declared.Format.{Format}
+use Rattle.unpack.specs.declared.Unpacking.{Unpacking}
+use Rattle.unpack.specs.declared.Registers.{Registers}
+use Rattle.unpack.specs.Payload.{vectorBits, value, wholeVectors}
+use Rattle.unpack.specs.Vector.{vectorAt}
+use Rattle.unpack.specs.Write.{Written, writeVectors}
+use Rattle.unpack.specs.Step.{holds, acting, unpackWord}
+
+-- vector i of a payload, "their bits rounded up to whole words": its bits lie one after another in the number of the words
+unfoldable pub payloadVector : Format → Bool → List ℕ → ℕ → List ℕ
+payloadVector f usn ws i = vectorAt f usn (value ws) (i * vectorBits f)
+
+-- "After k payload words, exactly the vectors lying wholly in them have been written": those of the words ws, in order
+unfoldable pub unpackedBy : ℕ → Format → Unpacking → Registers → List ℕ → Written → Written
+unpackedBy size f u r ws w =
+    writeVectors size (u .address) (acting f u r) (payloadVector f (u .usn) ws) (wholeVectors f (u .count) (length ws)) 0 w
+
+-- the steps of payload words, one after another
+unfoldable pub takeWords : ℕ → Format → Unpacking → Registers → List ℕ → Written → Written
+takeWords size f u r [] w = w
+takeWords size f u r (x ∷ ws) w = takeWords size f (holds u x) r ws (unpackWord size f u r x w)
+
+-- the UNPACK after them
+unfoldable pub heldAfter : Unpacking → List ℕ → Unpacking
+heldAfter u [] = u
+heldAfter u (x ∷ ws) = heldAfter (holds u x) ws
+
+-- the memory with four words stored at a quadword
+unfoldable pub storeQuadword : List ℕ → ℕ → List ℕ → List ℕ
+storeQuadword mem q x =
+    set (set (set (set mem (4 * q) (getD x 0 0)) (4 * q + 1) (getD x 1 0)) (4 * q + 2) (getD x 2 0)) (4 * q + 3) (getD x 3 0)
+
+-- the plain meaning of an UNPACK with CL = WL = 1, no mask and no mode: n vectors from number j on, vector j to quadword (a + j) mod size
+unfoldable pub copyVectors : ℕ → ℕ → (ℕ → List ℕ) → ℕ → ℕ → List ℕ → List ℕ
+copyVectors size a vec zero j mem = mem
+copyVectors size a vec (suc n) j mem = copyVectors size a vec n (suc j) (storeQuadword mem ((a + j) % size) (vec j))
+
+-- words 4j to 4j + 3 of a list: vector j of a V4-32 payload
+unfoldable pub fourWords : List ℕ → ℕ → List ℕ
+fourWords ws j = getD ws (4 * j) 0 ∷ getD ws (4 * j + 1) 0 ∷ getD ws (4 * j + 2) 0 ∷ getD ws (4 * j + 3) 0 ∷ []
