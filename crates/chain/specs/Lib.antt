@@ -7,3 +7,4 @@ pub mod Range
 pub mod Step
 pub mod Start
 pub mod Run
+pub mod Inner

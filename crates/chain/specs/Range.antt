@@ -18,9 +18,11 @@ use Rattle.chain.specs.declared.Payload.the-variants.{Nothing as NoPaylo
 use Rattle.chain.specs.declared.State.{State}
 
 -- "5 a state or start value outside the range of its field (TADR a multiple of 16 below 2^31, channel 1 or 2, TTE on channel 2)": TTE is off on channel 2
+unfoldable pub channelInRange : ℕ → Bool → Bool
+channelInRange channel tte = eqb channel 1 || (eqb channel 2 && not tte)
+
 unfoldable pub startInRange : ℕ → ℕ → Bool → Bool
-startInRange channel tadr tte =
-    (eqb channel 1 || (eqb channel 2 && not tte)) && (eqb (tadr % 16) 0 && ltb tadr (2 ^ 31))
+startInRange channel tadr tte = channelInRange channel tte && (eqb (tadr % 16) 0 && ltb tadr (2 ^ 31))
 
 -- "multiples of 16 up to 1,048,576"
 unfoldable pub entryInRange : ℕ → Bool
@@ -33,15 +35,18 @@ stackInRange (One a) = entryInRange a
 stackInRange (Two a b) = entryInRange a && entryInRange b
 
 -- "pending tag words only with TTE on, the last being word 3": the next one is word 2 or 3 of its quadword
+unfoldable pub tagWordInRange : ℕ → Bool → Bool
+tagWordInRange a tte = tte && (eqb (a % 4) 0 && leb 2 (a / 4 % 4))
+
 unfoldable pub tagsInRange : TagWords → Bool → Bool
 tagsInRange NoTagWords tte = true
-tagsInRange (From a) tte = tte && (eqb (a % 4) 0 && leb 2 (a / 4 % 4))
+tagsInRange (From a) tte = tagWordInRange a tte
 
 -- "pending payload if it starts at a word (channel 2: a quadword), ends with a quadword and is at most 65,535 quadwords"
 unfoldable pub wordsInRange : ℕ → ℕ → ℕ → Bool
 wordsInRange channel at n =
     eqb n 0
-    || (eqb (at % 4) 0 && ((eqb channel 1 || eqb (at % 16) 0) && (eqb ((at / 4 + n) % 4) 0 && leb n 262140)))
+    || (eqb (at % 4) 0 && ((eqb channel 1 || eqb (at % 16) 0) && (leb n 262140 && eqb ((at / 4 + n) % 4) 0)))
 
 unfoldable pub payloadInRange : Payload → ℕ → Bool
 payloadInRange NoPayload channel = true
@@ -51,9 +56,8 @@ unfoldable pub stateInRange : State → Bool
 stateInRange s =
     startInRange (s .channel) (s .tadr) (s .tte)
     && (stackInRange (s .stack)
-    && (tagsInRange (s .tags) (s .tte)
-    && (payloadInRange (s .payload) (s .channel)
-    && (unitInRange (s .vif) && (pathInRange (s .path2) && pathInRange (s .path3))))))
+    && ((tagsInRange (s .tags) (s .tte) && payloadInRange (s .payload) (s .channel))
+    && (unitInRange (s .vif) && (pathInRange (s .path2) && pathInRange (s .path3)))))
 
 -- "1 main memory length 0, not a multiple of 16 or above 1,048,576"
 unfoldable pub mainRefused : ℕ → Bool

@@ -1,0 +1,26 @@
+use borrow.Author.Needs.{needs}
+use Rattle.chain.proofs.control.start.Statement.{statement}
+use Rattle.chain.proofs.control.start.Tie as tie
+use Rattle.chain.proofs.control.start.Reads as reads
+use Rattle.chain.proofs.control.start.Lts as lts
+use Rattle.chain.proofs.control.accepted.Reads as accepted-reads
+use Rattle.chain.proofs.control.started.Reads as started-reads
+
+-- src/control.rt:102:8
+accepted-requires : tie.Need-accepted-requires
+accepted-requires c κs = search needs
+
+-- src/control.rt:105:20
+started-requires : tie.Need-started-requires
+started-requires c κs = search needs
+
+-- src/control.rt:99:1
+returns : tie.Need-returns
+returns c = ?
+
+-- src/control.rt:99:1
+returns-2 : tie.Need-returns-2
+returns-2 c = ?
+
+pub start-spec : {M : Type 1} → statement M
+start-spec = tie.close (tie.spec accepted-requires started-requires returns returns-2)

@@ -1,0 +1,52 @@
+use borrow.Author.Needs.{needs}
+use Rattle.chain.proofs.memory.incoming_at.Statement.{statement}
+use Rattle.chain.proofs.memory.incoming_at.Tie as tie
+use Rattle.chain.proofs.memory.incoming_at.Reads as reads
+use Rattle.chain.proofs.memory.incoming_at.Lts as lts
+use Rattle.chain.proofs.memory.quadword_at.Reads as quadword-at-reads
+use Rattle.chain.proofs.memory.word_at.Reads as word-at-reads
+
+-- src/memory.rt:52:14
+quadword-at-requires : tie.Need-quadword-at-requires
+quadword-at-requires c κs = search needs
+
+-- src/memory.rt:53:30
+word-at-requires : tie.Need-word-at-requires
+word-at-requires c κs = search needs
+
+-- src/memory.rt:54:30
+word-at-requires-2 : tie.Need-word-at-requires-2
+word-at-requires-2 c κs = search needs
+
+-- src/memory.rt:55:30
+word-at-requires-3 : tie.Need-word-at-requires-3
+word-at-requires-3 c κs = search needs
+
+-- src/memory.rt:47:1
+returns : tie.Need-returns
+returns c = ?
+
+-- src/memory.rt:47:1
+returns-2 : tie.Need-returns-2
+returns-2 c = ?
+
+-- src/memory.rt:47:1
+returns-3 : tie.Need-returns-3
+returns-3 c = ?
+
+-- src/memory.rt:47:1
+returns-4 : tie.Need-returns-4
+returns-4 c = ?
+
+pub incoming-at-spec : {M : Type 1} → statement M
+incoming-at-spec =
+    tie.close
+    (tie.spec
+    quadword-at-requires
+    word-at-requires
+    word-at-requires-2
+    word-at-requires-3
+    returns
+    returns-2
+    returns-3
+    returns-4)

@@ -1,0 +1,26 @@
+use borrow.Author.Needs.{needs}
+use Rattle.chain.proofs.range.both_in_range.Statement.{statement}
+use Rattle.chain.proofs.range.both_in_range.Tie as tie
+use Rattle.chain.proofs.range.both_in_range.Reads as reads
+use Rattle.chain.proofs.range.both_in_range.Lts as lts
+use Rattle.chain.proofs.range.entry_in_range.Reads as entry-in-range-reads
+
+-- src/range.rt:51:8
+entry-in-range-requires : tie.Need-entry-in-range-requires
+entry-in-range-requires c κs = search needs
+
+-- src/range.rt:52:9
+entry-in-range-requires-2 : tie.Need-entry-in-range-requires-2
+entry-in-range-requires-2 c κs = search needs
+
+-- src/range.rt:52:9
+returns : tie.Need-returns
+returns c = ?
+
+-- src/range.rt:48:1
+returns-2 : tie.Need-returns-2
+returns-2 c = ?
+
+pub both-in-range-spec : {M : Type 1} → statement M
+both-in-range-spec =
+    tie.close (tie.spec entry-in-range-requires entry-in-range-requires-2 returns returns-2)

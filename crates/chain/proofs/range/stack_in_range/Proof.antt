@@ -1,0 +1,52 @@
+use borrow.Author.Needs.{needs}
+use Rattle.chain.proofs.range.stack_in_range.Statement.{statement}
+use Rattle.chain.proofs.range.stack_in_range.Tie as tie
+use Rattle.chain.proofs.range.stack_in_range.Reads as reads
+use Rattle.chain.proofs.range.stack_in_range.Lts as lts
+use Rattle.chain.proofs.range.both_in_range.Reads as both-in-range-reads
+use Rattle.chain.proofs.range.entry_in_range.Reads as entry-in-range-reads
+
+-- src/range.rt:61:25
+enum-told : tie.Need-enum-told
+enum-told c = search needs
+
+-- src/range.rt:62:20
+enum-known-stack : tie.Need-enum-known-stack
+enum-known-stack c = search needs
+
+-- src/range.rt:62:26
+entry-in-range-requires : tie.Need-entry-in-range-requires
+entry-in-range-requires c κs = search needs
+
+-- src/range.rt:63:20
+enum-known-stack-2 : tie.Need-enum-known-stack-2
+enum-known-stack-2 c = search needs
+
+-- src/range.rt:63:29
+both-in-range-requires : tie.Need-both-in-range-requires
+both-in-range-requires c κs = search needs
+
+-- src/range.rt:57:1
+returns : tie.Need-returns
+returns c = ?
+
+-- src/range.rt:57:1
+returns-2 : tie.Need-returns-2
+returns-2 c = ?
+
+-- src/range.rt:57:1
+returns-3 : tie.Need-returns-3
+returns-3 c = ?
+
+pub stack-in-range-spec : {M : Type 1} → statement M
+stack-in-range-spec =
+    tie.close
+    (tie.spec
+    enum-told
+    enum-known-stack
+    entry-in-range-requires
+    enum-known-stack-2
+    both-in-range-requires
+    returns
+    returns-2
+    returns-3)

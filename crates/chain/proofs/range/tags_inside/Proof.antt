@@ -1,0 +1,55 @@
+use borrow.Author.Needs.{needs}
+use Rattle.chain.proofs.range.tags_inside.Statement.{statement}
+use Rattle.chain.proofs.range.tags_inside.Tie as tie
+use Rattle.chain.proofs.range.tags_inside.Reads as reads
+use Rattle.chain.proofs.range.tags_inside.Lts as lts
+
+-- src/range.rt:178:30
+enum-told : tie.Need-enum-told
+enum-told c = search needs
+
+-- src/range.rt:179:24
+enum-known-tags : tie.Need-enum-known-tags
+enum-known-tags c = search needs
+
+-- src/range.rt:179:30
+cast-result : tie.Need-cast-result
+cast-result c = search needs
+
+-- src/range.rt:179:50
+cast-result-2 : tie.Need-cast-result-2
+cast-result-2 c = search needs
+
+-- src/range.rt:179:46
+sub-result : tie.Need-sub-result
+sub-result c = search needs
+
+-- src/range.rt:179:41
+mul-result : tie.Need-mul-result
+mul-result c = search needs
+
+-- src/range.rt:179:30
+add-result : tie.Need-add-result
+add-result c = search needs
+
+-- src/range.rt:174:1
+returns : tie.Need-returns
+returns c = ?
+
+-- src/range.rt:174:1
+returns-2 : tie.Need-returns-2
+returns-2 c = ?
+
+pub tags-inside-spec : {M : Type 1} → statement M
+tags-inside-spec =
+    tie.close
+    (tie.spec
+    enum-told
+    enum-known-tags
+    cast-result
+    cast-result-2
+    sub-result
+    mul-result
+    add-result
+    returns
+    returns-2)

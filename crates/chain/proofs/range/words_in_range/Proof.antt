@@ -1,0 +1,39 @@
+use borrow.Author.Needs.{needs}
+use Rattle.chain.proofs.range.words_in_range.Statement.{statement}
+use Rattle.chain.proofs.range.words_in_range.Tie as tie
+use Rattle.chain.proofs.range.words_in_range.Reads as reads
+use Rattle.chain.proofs.range.words_in_range.Lts as lts
+use Rattle.chain.proofs.range.aligned.Reads as aligned-reads
+
+-- src/range.rt:100:9
+returns : tie.Need-returns
+returns c = ?
+
+-- src/range.rt:103:9
+returns-2 : tie.Need-returns-2
+returns-2 c = ?
+
+-- src/range.rt:105:8
+aligned-requires : tie.Need-aligned-requires
+aligned-requires c κs = search needs
+
+-- src/range.rt:107:21
+add-result : tie.Need-add-result
+add-result c = search needs
+
+-- src/range.rt:107:13
+returns-3 : tie.Need-returns-3
+returns-3 c = ?
+
+-- src/range.rt:96:1
+returns-4 : tie.Need-returns-4
+returns-4 c = ?
+
+-- src/range.rt:96:1
+returns-5 : tie.Need-returns-5
+returns-5 c = ?
+
+pub words-in-range-spec : {M : Type 1} → statement M
+words-in-range-spec =
+    tie.close
+    (tie.spec returns returns-2 aligned-requires add-result returns-3 returns-4 returns-5)

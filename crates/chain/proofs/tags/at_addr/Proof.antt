@@ -1,0 +1,19 @@
+use Rattle.chain.proofs.tags.at_addr.Statement.{statement}
+use Rattle.chain.proofs.tags.at_addr.Tie as tie
+use Rattle.chain.proofs.tags.at_addr.Reads as reads
+use Rattle.chain.proofs.tags.at_addr.Lts as lts
+
+-- src/tags.rt:33:9
+returns : tie.Need-returns
+returns c = ?
+
+-- src/tags.rt:36:9
+returns-2 : tie.Need-returns-2
+returns-2 c = ?
+
+-- src/tags.rt:29:1
+returns-3 : tie.Need-returns-3
+returns-3 c = ?
+
+pub at-addr-spec : {M : Type 1} → statement M
+at-addr-spec = tie.close (tie.spec returns returns-2 returns-3)

@@ -1,0 +1,43 @@
+-- Facts that inner functions require of their input; no promise of a public function cites them.
+use Prim.Native.Nat.{ℕ, _+_, _*_, _-_, _/_, _%_, _<_, _≤_}
+use mathlib.Core.Bool.{true, false}
+use mathlib.Core.List.{List}
+use mathlib.Core.Path.{_≡_}
+use lib.ListN.{length}
+use lib.Dec.{eqb}
+use Rattle.fields.specs.Fields.{if}
+use Rattle.gif.specs.Log.{logRefused}
+use Rattle.gif.specs.Range.{pathInRange}
+use Rattle.vif.specs.Step.{Lent}
+use Rattle.chain.specs.declared.Payload.{Payload}
+use Rattle.chain.specs.declared.State.{State}
+use Rattle.chain.specs.Range.{entryRefusal}
+
+-- the machine passes the entry tests
+pub record Ready (main : List ℕ) (s : State) (m : Lent) : Type 0 where
+  pub passed : entryRefusal main m s ≡ 0
+
+-- a word at an address, with what follows it in its quadword, lies inside main memory
+pub record WordInside (main : List ℕ) (a : ℕ) : Type 0 where
+  pub inside : a + 4 * (4 - a / 4 % 4) ≤ length main
+  pub most : length main ≤ 1048576
+
+-- pending payload lies inside
+pub record PayloadInside (main : List ℕ) (s : State) (at n : ℕ) : Type 0 where
+  pub some : 1 ≤ n
+  pub aligned : at % 4 ≡ 0
+  pub whole : (at / 4 + n) % 4 ≡ 0
+  pub inside : at + 4 * n ≤ length main
+  pub most : length main ≤ 1048576
+  pub quadwords : s .channel ≡ 2 → at % 16 ≡ 0
+
+-- a quadword at an address lies inside, and path 3 and the log pass the GIF's tests
+pub record QuadwordReady (main : List ℕ) (a : ℕ) (s : State) (log : List ℕ) : Type 0 where
+  pub inside : a + 16 ≤ length main
+  pub most : length main ≤ 1048576
+  pub logged : logRefused log (s .used) ≡ false
+  pub ranged : pathInRange (s .path3) ≡ true
+
+-- what is pending of the payload after one word, and after a quadword
+abbrev pub byTaken : Payload → Payload → ℕ → Payload
+byTaken one four k = if (eqb k 1) one four

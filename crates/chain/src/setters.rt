@@ -1,0 +1,76 @@
+// The state with some of its parts replaced.
+use super::Payload;
+use super::Stack;
+use super::State;
+use super::TagWords;
+use gif::Path;
+use vif::Vif;
+ghost use mathlib.Core.Path.{_≡_};
+ghost use Rattle.chain.specs.Setters.{withTag, withPending, withUnit, withPath3, withStart};
+
+pub(crate) fn with_tag(
+    s: State,
+    tadr: u32,
+    ended: bool,
+    stack: Stack,
+    tags: TagWords,
+    payload: Payload,
+) -> State
+    ensures { λ r. ⌜ r ≡ withTag s tadr ended stack tags payload ⌝ }
+{
+    State {
+        tadr,
+        ended,
+        stack,
+        tags,
+        payload,
+        ..s
+    }
+}
+
+pub(crate) fn with_pending(s: State, tags: TagWords, payload: Payload) -> State
+    ensures { λ r. ⌜ r ≡ withPending s tags payload ⌝ }
+{
+    State { tags, payload, ..s }
+}
+
+pub(crate) fn with_unit(s: State, vif: Vif, path2: Path, used: u64) -> State
+    ensures { λ r. ⌜ r ≡ withUnit s vif path2 used ⌝ }
+{
+    State {
+        vif,
+        path2,
+        used,
+        ..s
+    }
+}
+
+pub(crate) fn with_path3(s: State, path3: Path, used: u64) -> State
+    ensures { λ r. ⌜ r ≡ withPath3 s path3 used ⌝ }
+{
+    State { path3, used, ..s }
+}
+
+pub(crate) fn with_start(
+    s: State,
+    channel: u32,
+    tadr: u32,
+    tte: bool,
+    ended: bool,
+    stack: Stack,
+    tags: TagWords,
+    payload: Payload,
+) -> State
+    ensures { λ r. ⌜ r ≡ withStart s channel tadr tte ended stack tags payload ⌝ }
+{
+    State {
+        channel,
+        tadr,
+        tte,
+        ended,
+        stack,
+        tags,
+        payload,
+        ..s
+    }
+}
