@@ -92,10 +92,6 @@ tagWordsOf tte tadr = if tte (From (tadr + 8)) NoTagWords
 unfoldable pub payloadOf : ℕ → ℕ → Payload
 payloadOf at qwc = if (eqb qwc 0) NoPayload (Words at (4 * qwc))
 
--- 11 and 12 alone, 0 for none
-unfoldable pub addrRefusal : ℕ → ℕ → Bool → ℕ
-addrRefusal id addr spr = if (usesAddr id && not (eqb (addr % 16) 0)) 11 (if (usesAddr id && spr) 12 0)
-
 -- "Tag step, in order: 10 TADR outside memory; 11 used ADDR not a multiple of 16; 12 SPR set with a used ADDR; 13 call with two on the stack; 14 payload
 -- outside memory, only if QWC > 0"; 0 where the tag is accepted
 unfoldable pub tagRefusal : ℕ → ℕ → ℕ → ℕ → Bool → ℕ → Stack → ℕ

@@ -8,11 +8,11 @@ use super::TagWords;
 use super::memory::word_at;
 use super::setters::with_tag;
 ghost use mathlib.Core.Path.{_≡_};
-ghost use mathlib.Core.Bool.{_||_, _&&_, false};
-ghost use Prim.Native.Nat.{_+_, _*_, _^_, _<_, _≤_};
+ghost use mathlib.Core.Bool.{_||_, _&&_, not};
+ghost use Prim.Native.Nat.{_+_, _*_, _%_, _^_, _<_, _≤_};
 ghost use lib.ListN.{length};
-ghost use lib.Dec.{eqb, leb};
-ghost use Rattle.chain.specs.Tags.{usesAddr, payloadAt, afterPayload, returnTo, nextTadr, isEmpty, isFull, endsChain, pushed, popped, nextStack, tagWordsOf, payloadOf, addrRefusal, tagRefusal, tagState, stepResult, tagRead, tagStep};
+ghost use lib.Dec.{eqb, ltb};
+ghost use Rattle.chain.specs.Tags.{usesAddr, payloadAt, afterPayload, returnTo, nextTadr, isEmpty, isFull, endsChain, pushed, popped, nextStack, tagWordsOf, payloadOf, tagRefusal, tagState, stepResult, tagRead, tagStep};
 
 fn uses_addr(id: u32) -> bool
     ensures { λ r. ⌜ r ≡ usesAddr id ⌝ }
@@ -160,19 +160,45 @@ fn payload_of(at: u32, qwc: u32) -> Payload
     }
 }
 
-// Refusals 11 and 12 of an ID that uses ADDR; 0 for none.
-fn addr_refusal(id: u32, addr: u32, spr: bool) -> u32
-    ensures { λ r. ⌜ r ≡ addrRefusal id addr spr ⌝ }
+// Refusal 11.
+fn misaligned(id: u32, addr: u32) -> bool
+    ensures { λ r. ⌜ r ≡ (usesAddr id && not (eqb (addr % 16) 0)) ⌝ }
 {
     if uses_addr(id) {
-        if addr % 16 != 0 {
-            return 11;
-        }
-        if spr {
-            return 12;
-        }
+        return addr % 16 != 0;
     }
-    0
+    false
+}
+
+// Refusal 12.
+fn scratchpad(id: u32, spr: bool) -> bool
+    ensures { λ r. ⌜ r ≡ (usesAddr id && spr) ⌝ }
+{
+    if uses_addr(id) {
+        return spr;
+    }
+    false
+}
+
+// Refusal 13.
+fn call_refused(id: u32, stack: Stack) -> bool
+    ensures { λ r. ⌜ r ≡ (eqb id 5 && isFull stack) ⌝ }
+{
+    if id == 5 {
+        return is_full(stack);
+    }
+    false
+}
+
+// Refusal 14.
+fn payload_refused(size: usize, id: u32, addr: u32, tadr: u32, qwc: u32) -> bool
+    requires { ⌜ (tadr < 2 ^ 31) × (qwc ≤ 65535) × (addr < 2 ^ 31) ⌝ }
+    ensures { λ r. ⌜ r ≡ (not (eqb qwc 0) && ltb size (payloadAt id addr tadr + 16 * qwc)) ⌝ }
+{
+    if qwc == 0 {
+        return false;
+    }
+    size < (payload_at(id, addr, tadr) + 16 * qwc) as usize
 }
 
 // The refusal of a tag, 0 for none.
@@ -183,19 +209,17 @@ fn tag_refusal(size: usize, tadr: u32, id: u32, addr: u32, spr: bool, qwc: u32, 
     if size < (tadr + 16) as usize {
         return 10;
     }
-    let refused = addr_refusal(id, addr, spr);
-    if refused != 0 {
-        return refused;
+    if misaligned(id, addr) {
+        return 11;
     }
-    if id == 5 {
-        if is_full(stack) {
-            return 13;
-        }
+    if scratchpad(id, spr) {
+        return 12;
     }
-    if qwc != 0 {
-        if size < (payload_at(id, addr, tadr) + 16 * qwc) as usize {
-            return 14;
-        }
+    if call_refused(id, stack) {
+        return 13;
+    }
+    if payload_refused(size, id, addr, tadr, qwc) {
+        return 14;
     }
     0
 }

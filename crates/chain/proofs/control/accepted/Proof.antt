@@ -1,3 +1,4 @@
+use mathlib.Core.Path.{sym, _∙_}
 use borrow.Author.Needs.{needs}
 use Rattle.chain.proofs.control.accepted.Statement.{statement}
 use Rattle.chain.proofs.control.accepted.Tie as tie
@@ -16,11 +17,11 @@ start-in-range-requires c κs = search needs
 
 -- src/control.rt:78:9
 returns : tie.Need-returns
-returns c = ?
+returns c = rw (sym (c .before .before .state-in-range .ensures) ∙ c .before .if1 .taken) (c .start-in-range .ensures)
 
 -- src/control.rt:74:1
 returns-2 : tie.Need-returns-2
-returns-2 c = ?
+returns-2 c = rw (sym (c .before .state-in-range .ensures) ∙ c .if1 .left)
 
 pub accepted-spec : {M : Type 1} → statement M
 accepted-spec =

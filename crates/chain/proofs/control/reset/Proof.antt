@@ -1,3 +1,4 @@
+use Rattle.chain.specs.Start.{resetState}
 use borrow.Author.Needs.{needs}
 use Rattle.chain.proofs.control.reset.Statement.{statement}
 use Rattle.chain.proofs.control.reset.Tie as tie
@@ -20,7 +21,8 @@ reset-path-requires-2 c κs = search needs
 
 -- src/control.rt:53:1
 returns : tie.Need-returns
-returns c = ?
+unfolding resetState
+returns c = rw (c .reset-path2 .ensures, c .before .reset-path .ensures, c .before .before .reset-unit .ensures)
 
 pub reset-spec : {M : Type 1} → statement M
 reset-spec =

@@ -1,3 +1,6 @@
+use Rattle.chain.specs.Start.{startOf}
+use Rattle.fields.specs.Fields.{if}
+use mathlib.Core.Path.{sym, _∙_}
 use borrow.Author.Needs.{needs}
 use Rattle.chain.proofs.control.start.Statement.{statement}
 use Rattle.chain.proofs.control.start.Tie as tie
@@ -16,11 +19,13 @@ started-requires c κs = search needs
 
 -- src/control.rt:99:1
 returns : tie.Need-returns
-returns c = ?
+unfolding startOf if
+returns c = rw (sym (c .before .before .accepted .ensures) ∙ c .before .if1 .taken, c .started .ensures)
 
 -- src/control.rt:99:1
 returns-2 : tie.Need-returns-2
-returns-2 c = ?
+unfolding startOf if
+returns-2 c = rw (sym (c .before .accepted .ensures) ∙ c .if1 .left)
 
 pub start-spec : {M : Type 1} → statement M
 start-spec = tie.close (tie.spec accepted-requires started-requires returns returns-2)

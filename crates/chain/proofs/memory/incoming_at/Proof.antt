@@ -1,3 +1,6 @@
+use Rattle.chain.specs.Pending.{incomingAt}
+use Rattle.fields.specs.Fields.{if}
+use borrow.Author.Tests.{ne-eqb}
 use borrow.Author.Needs.{needs}
 use Rattle.chain.proofs.memory.incoming_at.Statement.{statement}
 use Rattle.chain.proofs.memory.incoming_at.Tie as tie
@@ -24,19 +27,23 @@ word-at-requires-3 c κs = search needs
 
 -- src/memory.rt:47:1
 returns : tie.Need-returns
-returns c = ?
+unfolding incomingAt if
+returns c = rw (c .before .match .keys1) (c .quadword-at .ensures)
 
 -- src/memory.rt:47:1
 returns-2 : tie.Need-returns-2
-returns-2 c = ?
+unfolding incomingAt if
+returns-2 c = rw (c .before .match .keys2, c .word-at .ensures)
 
 -- src/memory.rt:47:1
 returns-3 : tie.Need-returns-3
-returns-3 c = ?
+unfolding incomingAt if
+returns-3 c = rw (c .before .match .keys3, c .word-at2 .ensures)
 
 -- src/memory.rt:47:1
 returns-4 : tie.Need-returns-4
-returns-4 c = ?
+unfolding incomingAt if
+returns-4 c = rw (ne-eqb _ 0 (c .before .match .rest .0 .0 .1), ne-eqb _ 1 (c .before .match .rest .0 .1), ne-eqb _ 2 (c .before .match .rest .1), c .word-at3 .ensures)
 
 pub incoming-at-spec : {M : Type 1} → statement M
 incoming-at-spec =

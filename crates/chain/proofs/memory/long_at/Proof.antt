@@ -1,3 +1,4 @@
+use Rattle.chain.specs.Memory.{longAt}
 use borrow.Author.Needs.{needs}
 use Rattle.chain.proofs.memory.long_at.Statement.{statement}
 use Rattle.chain.proofs.memory.long_at.Tie as tie
@@ -35,7 +36,8 @@ add-result c = search needs
 
 -- src/memory.rt:27:1
 returns : tie.Need-returns
-returns c = ?
+unfolding longAt
+returns c = rw (c .word-at2 .ensures, c .before .word-at .ensures)
 
 pub long-at-spec : {M : Type 1} → statement M
 long-at-spec =

@@ -1,3 +1,4 @@
+use Rattle.chain.specs.Memory.{wordAt}
 use borrow.Author.Needs.{needs}
 use Rattle.chain.proofs.memory.word_at.Statement.{statement}
 use Rattle.chain.proofs.memory.word_at.Tie as tie
@@ -75,7 +76,8 @@ add-result-3 c = search needs
 
 -- src/memory.rt:16:1
 returns : tie.Need-returns
-returns c = ?
+unfolding wordAt
+returns c = search needs
 
 pub word-at-spec : {M : Type 1} → statement M
 word-at-spec =

@@ -18,7 +18,7 @@ returns c = search needs
 
 -- src/pending.rt:19:1
 returns-2 : tie.Need-returns-2
-returns-2 c = ?
+returns-2 c = rw (c .before .payload .given .1)
 
 pub no-payload-spec : {M : Type 1} → statement M
 no-payload-spec = tie.close (tie.spec enum-told enum-known-payload returns returns-2)

@@ -1,3 +1,6 @@
+use Rattle.chain.specs.Pending.{payloadAfter}
+use Rattle.fields.specs.Fields.{if}
+use borrow.Author.Tests.{le-leb, lt-leb}
 use borrow.Author.Needs.{needs}
 use Rattle.chain.proofs.pending.payload_after.Statement.{statement}
 use Rattle.chain.proofs.pending.payload_after.Tie as tie
@@ -18,11 +21,13 @@ sub-t8 c = search needs
 
 -- src/pending.rt:60:1
 returns : tie.Need-returns
-returns c = ?
+unfolding payloadAfter if
+returns c = rw (le-leb _ _ (c .if1 .taken))
 
 -- src/pending.rt:60:1
 returns-2 : tie.Need-returns-2
-returns-2 c = ?
+unfolding payloadAfter if
+returns-2 c = rw (lt-leb _ _ (c .if1 .left))
 
 pub payload-after-spec : {M : Type 1} → statement M
 payload-after-spec = tie.close (tie.spec mul-t6 add-t7 sub-t8 returns returns-2)

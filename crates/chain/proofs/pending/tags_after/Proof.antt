@@ -1,3 +1,6 @@
+use Rattle.chain.specs.Pending.{tagsAfter}
+use Rattle.fields.specs.Fields.{if}
+use borrow.Author.Tests.{eq-eqb, ne-eqb}
 use borrow.Author.Needs.{needs}
 use Rattle.chain.proofs.pending.tags_after.Statement.{statement}
 use Rattle.chain.proofs.pending.tags_after.Tie as tie
@@ -10,11 +13,13 @@ add-t6 c = search needs
 
 -- src/pending.rt:49:1
 returns : tie.Need-returns
-returns c = ?
+unfolding tagsAfter if
+returns c = rw (eq-eqb _ _ (c .if1 .taken))
 
 -- src/pending.rt:49:1
 returns-2 : tie.Need-returns-2
-returns-2 c = ?
+unfolding tagsAfter if
+returns-2 c = rw (ne-eqb _ _ (c .if1 .left))
 
 pub tags-after-spec : {M : Type 1} → statement M
 tags-after-spec = tie.close (tie.spec add-t6 returns returns-2)

@@ -1,3 +1,4 @@
+use mathlib.Core.Path.{sym, _∙_}
 use borrow.Author.Needs.{needs}
 use Rattle.chain.proofs.range.both_in_range.Statement.{statement}
 use Rattle.chain.proofs.range.both_in_range.Tie as tie
@@ -15,11 +16,11 @@ entry-in-range-requires-2 c κs = search needs
 
 -- src/range.rt:52:9
 returns : tie.Need-returns
-returns c = ?
+returns c = rw (sym (c .before .before .entry-in-range .ensures) ∙ c .before .if1 .taken) (c .entry-in-range2 .ensures)
 
 -- src/range.rt:48:1
 returns-2 : tie.Need-returns-2
-returns-2 c = ?
+returns-2 c = rw (sym (c .before .entry-in-range .ensures) ∙ c .if1 .left)
 
 pub both-in-range-spec : {M : Type 1} → statement M
 both-in-range-spec =

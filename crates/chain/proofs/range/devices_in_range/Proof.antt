@@ -1,3 +1,4 @@
+use mathlib.Core.Path.{sym, _∙_}
 use borrow.Author.Needs.{needs}
 use Rattle.chain.proofs.range.devices_in_range.Statement.{statement}
 use Rattle.chain.proofs.range.devices_in_range.Tie as tie
@@ -20,15 +21,15 @@ path-in-range-requires-2 c κs = search needs
 
 -- src/range.rt:130:13
 returns : tie.Need-returns
-returns c = ?
+returns c = rw (sym (c .before .before .before .before .unit-in-range .ensures) ∙ c .before .before .before .if1 .taken, sym (c .before .before .path-in-range .ensures) ∙ c .before .if2 .taken) (c .path-in-range2 .ensures)
 
 -- src/range.rt:122:1
 returns-2 : tie.Need-returns-2
-returns-2 c = ?
+returns-2 c = rw (sym (c .before .before .before .unit-in-range .ensures) ∙ c .before .before .if1 .taken, sym (c .before .path-in-range .ensures) ∙ c .if2 .left)
 
 -- src/range.rt:122:1
 returns-3 : tie.Need-returns-3
-returns-3 c = ?
+returns-3 c = rw (sym (c .before .unit-in-range .ensures) ∙ c .if1 .left)
 
 pub devices-in-range-spec : {M : Type 1} → statement M
 devices-in-range-spec =

@@ -1,3 +1,5 @@
+use Rattle.chain.specs.Range.{entryInRange}
+use borrow.Author.Tests.{eq-eqb, ne-eqb}
 use Rattle.chain.proofs.range.entry_in_range.Statement.{statement}
 use Rattle.chain.proofs.range.entry_in_range.Tie as tie
 use Rattle.chain.proofs.range.entry_in_range.Reads as reads
@@ -5,11 +7,13 @@ use Rattle.chain.proofs.range.entry_in_range.Lts as lts
 
 -- src/range.rt:43:9
 returns : tie.Need-returns
-returns c = ?
+unfolding entryInRange
+returns c = rw (eq-eqb _ _ (c .if1 .taken))
 
 -- src/range.rt:39:1
 returns-2 : tie.Need-returns-2
-returns-2 c = ?
+unfolding entryInRange
+returns-2 c = rw (ne-eqb _ _ (c .if1 .left))
 
 pub entry-in-range-spec : {M : Type 1} → statement M
 entry-in-range-spec = tie.close (tie.spec returns returns-2)

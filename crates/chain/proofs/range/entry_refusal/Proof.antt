@@ -1,3 +1,7 @@
+use Rattle.chain.specs.Range.{entryRefusal}
+use Rattle.fields.specs.Fields.{if}
+use borrow.Author.Tests.{eq-eqb, ne-eqb}
+use mathlib.Core.Path.{sym, _∙_}
 use borrow.Author.Needs.{needs}
 use Rattle.chain.proofs.range.entry_refusal.Statement.{statement}
 use Rattle.chain.proofs.range.entry_refusal.Tie as tie
@@ -14,15 +18,18 @@ main-refused-requires c κs = search needs
 
 -- src/range.rt:217:9
 returns : tie.Need-returns
-returns c = ?
+unfolding entryRefusal if
+returns c = rw (sym (c .before .main-refused .ensures) ∙ c .if1 .taken)
 
 -- src/range.rt:220:9
 returns-2 : tie.Need-returns-2
-returns-2 c = ?
+unfolding entryRefusal if
+returns-2 c = rw (sym (c .before .before .main-refused .ensures) ∙ c .before .if1 .left, ne-eqb _ _ (c .if2 .taken))
 
 -- src/range.rt:223:9
 returns-3 : tie.Need-returns-3
-returns-3 c = ?
+unfolding entryRefusal if
+returns-3 c = rw (sym (c .before .before .before .main-refused .ensures) ∙ c .before .before .if1 .left, eq-eqb _ _ (c .before .if2 .left), ne-eqb _ _ (c .if3 .taken))
 
 -- src/range.rt:225:8
 log-refused-requires : tie.Need-log-refused-requires
@@ -30,7 +37,8 @@ log-refused-requires c κs = search needs
 
 -- src/range.rt:226:9
 returns-4 : tie.Need-returns-4
-returns-4 c = ?
+unfolding entryRefusal if
+returns-4 c = rw (sym (c .before .before .before .before .before .main-refused .ensures) ∙ c .before .before .before .before .if1 .left, eq-eqb _ _ (c .before .before .before .if2 .left), eq-eqb _ _ (c .before .before .if3 .left), sym (c .before .log-refused .ensures) ∙ c .if4 .taken)
 
 -- src/range.rt:228:8
 state-in-range-requires : tie.Need-state-in-range-requires
@@ -42,15 +50,18 @@ pending-inside-requires c κs = search needs
 
 -- src/range.rt:230:13
 returns-5 : tie.Need-returns-5
-returns-5 c = ?
+unfolding entryRefusal if
+returns-5 c = rw (sym (c .before .before .before .before .before .before .before .before .before .main-refused .ensures) ∙ c .before .before .before .before .before .before .before .before .if1 .left, eq-eqb _ _ (c .before .before .before .before .before .before .before .if2 .left), eq-eqb _ _ (c .before .before .before .before .before .before .if3 .left), sym (c .before .before .before .before .before .log-refused .ensures) ∙ c .before .before .before .before .if4 .left, sym (c .before .before .before .state-in-range .ensures) ∙ c .before .before .if5 .taken, sym (c .before .pending-inside .ensures) ∙ c .if6 .taken)
 
 -- src/range.rt:232:9
 returns-6 : tie.Need-returns-6
-returns-6 c = ?
+unfolding entryRefusal if
+returns-6 c = rw (sym (c .before .before .before .before .before .before .before .before .before .main-refused .ensures) ∙ c .before .before .before .before .before .before .before .before .if1 .left, eq-eqb _ _ (c .before .before .before .before .before .before .before .if2 .left), eq-eqb _ _ (c .before .before .before .before .before .before .if3 .left), sym (c .before .before .before .before .before .log-refused .ensures) ∙ c .before .before .before .before .if4 .left, sym (c .before .before .before .state-in-range .ensures) ∙ c .before .before .if5 .taken, sym (c .before .pending-inside .ensures) ∙ c .if6 .left)
 
 -- src/range.rt:213:1
 returns-7 : tie.Need-returns-7
-returns-7 c = ?
+unfolding entryRefusal if
+returns-7 c = rw (sym (c .before .before .before .before .before .before .before .main-refused .ensures) ∙ c .before .before .before .before .before .before .if1 .left, eq-eqb _ _ (c .before .before .before .before .before .if2 .left), eq-eqb _ _ (c .before .before .before .before .if3 .left), sym (c .before .before .before .log-refused .ensures) ∙ c .before .before .if4 .left, sym (c .before .state-in-range .ensures) ∙ c .if5 .left)
 
 pub entry-refusal-spec : {M : Type 1} → statement M
 entry-refusal-spec =

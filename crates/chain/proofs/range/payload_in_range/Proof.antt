@@ -1,3 +1,4 @@
+use Rattle.chain.specs.Range.{payloadInRange}
 use borrow.Author.Needs.{needs}
 use Rattle.chain.proofs.range.payload_in_range.Statement.{statement}
 use Rattle.chain.proofs.range.payload_in_range.Tie as tie
@@ -19,11 +20,13 @@ words-in-range-requires c κs = search needs
 
 -- src/range.rt:113:1
 returns : tie.Need-returns
-returns c = ?
+unfolding payloadInRange
+returns c = rw (c .enum-told .given .1)
 
 -- src/range.rt:113:1
 returns-2 : tie.Need-returns-2
-returns-2 c = ?
+unfolding payloadInRange
+returns-2 c = rw (c .before .before .payload .given .1) (c .words-in-range .ensures)
 
 pub payload-in-range-spec : {M : Type 1} → statement M
 payload-in-range-spec =

@@ -1,3 +1,4 @@
+use Rattle.chain.specs.Range.{payloadInside}
 use borrow.Author.Needs.{needs}
 use Rattle.chain.proofs.range.payload_inside.Statement.{statement}
 use Rattle.chain.proofs.range.payload_inside.Tie as tie
@@ -19,11 +20,13 @@ words-inside-requires c κs = search needs
 
 -- src/range.rt:192:1
 returns : tie.Need-returns
-returns c = ?
+unfolding payloadInside
+returns c = rw (c .enum-told .given .1)
 
 -- src/range.rt:192:1
 returns-2 : tie.Need-returns-2
-returns-2 c = ?
+unfolding payloadInside
+returns-2 c = rw (c .before .before .payload .given .1) (c .words-inside .ensures)
 
 pub payload-inside-spec : {M : Type 1} → statement M
 payload-inside-spec =

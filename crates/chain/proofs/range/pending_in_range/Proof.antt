@@ -1,3 +1,4 @@
+use mathlib.Core.Path.{sym, _∙_}
 use borrow.Author.Needs.{needs}
 use Rattle.chain.proofs.range.pending_in_range.Statement.{statement}
 use Rattle.chain.proofs.range.pending_in_range.Tie as tie
@@ -16,11 +17,11 @@ payload-in-range-requires c κs = search needs
 
 -- src/range.rt:142:9
 returns : tie.Need-returns
-returns c = ?
+returns c = rw (sym (c .before .before .tags-in-range .ensures) ∙ c .before .if1 .taken) (c .payload-in-range .ensures)
 
 -- src/range.rt:136:1
 returns-2 : tie.Need-returns-2
-returns-2 c = ?
+returns-2 c = rw (sym (c .before .tags-in-range .ensures) ∙ c .if1 .left)
 
 pub pending-in-range-spec : {M : Type 1} → statement M
 pending-in-range-spec =

@@ -1,3 +1,4 @@
+use mathlib.Core.Path.{sym, _∙_}
 use borrow.Author.Needs.{needs}
 use Rattle.chain.proofs.range.pending_inside.Statement.{statement}
 use Rattle.chain.proofs.range.pending_inside.Tie as tie
@@ -16,11 +17,11 @@ payload-inside-requires c κs = search needs
 
 -- src/range.rt:207:9
 returns : tie.Need-returns
-returns c = ?
+returns c = rw (sym (c .before .before .tags-inside .ensures) ∙ c .before .if1 .taken) (c .payload-inside .ensures)
 
 -- src/range.rt:201:1
 returns-2 : tie.Need-returns-2
-returns-2 c = ?
+returns-2 c = rw (sym (c .before .tags-inside .ensures) ∙ c .if1 .left)
 
 pub pending-inside-spec : {M : Type 1} → statement M
 pending-inside-spec =

@@ -1,3 +1,4 @@
+use Rattle.chain.specs.Range.{stackInRange}
 use borrow.Author.Needs.{needs}
 use Rattle.chain.proofs.range.stack_in_range.Statement.{statement}
 use Rattle.chain.proofs.range.stack_in_range.Tie as tie
@@ -28,15 +29,18 @@ both-in-range-requires c κs = search needs
 
 -- src/range.rt:57:1
 returns : tie.Need-returns
-returns c = ?
+unfolding stackInRange
+returns c = rw (c .enum-told .given .1)
 
 -- src/range.rt:57:1
 returns-2 : tie.Need-returns-2
-returns-2 c = ?
+unfolding stackInRange
+returns-2 c = rw (c .before .before .stack .given .1) (c .entry-in-range .ensures)
 
 -- src/range.rt:57:1
 returns-3 : tie.Need-returns-3
-returns-3 c = ?
+unfolding stackInRange
+returns-3 c = rw (c .before .before .stack2 .given .1) (c .both-in-range .ensures)
 
 pub stack-in-range-spec : {M : Type 1} → statement M
 stack-in-range-spec =

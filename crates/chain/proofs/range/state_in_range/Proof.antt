@@ -1,3 +1,5 @@
+use Rattle.chain.specs.Range.{stateInRange}
+use mathlib.Core.Path.{sym, _∙_}
 use borrow.Author.Needs.{needs}
 use Rattle.chain.proofs.range.state_in_range.Statement.{statement}
 use Rattle.chain.proofs.range.state_in_range.Tie as tie
@@ -26,19 +28,23 @@ devices-in-range-requires c κs = search needs
 
 -- src/range.rt:155:17
 returns : tie.Need-returns
-returns c = ?
+unfolding stateInRange
+returns c = rw (sym (c .before .before .before .before .before .before .start-in-range .ensures) ∙ c .before .before .before .before .before .if1 .taken, sym (c .before .before .before .before .stack-in-range .ensures) ∙ c .before .before .before .if2 .taken, sym (c .before .before .pending-in-range .ensures) ∙ c .before .if3 .taken) (c .devices-in-range .ensures)
 
 -- src/range.rt:148:1
 returns-2 : tie.Need-returns-2
-returns-2 c = ?
+unfolding stateInRange
+returns-2 c = rw (sym (c .before .before .before .before .before .start-in-range .ensures) ∙ c .before .before .before .before .if1 .taken, sym (c .before .before .before .stack-in-range .ensures) ∙ c .before .before .if2 .taken, sym (c .before .pending-in-range .ensures) ∙ c .if3 .left)
 
 -- src/range.rt:148:1
 returns-3 : tie.Need-returns-3
-returns-3 c = ?
+unfolding stateInRange
+returns-3 c = rw (sym (c .before .before .before .start-in-range .ensures) ∙ c .before .before .if1 .taken, sym (c .before .stack-in-range .ensures) ∙ c .if2 .left)
 
 -- src/range.rt:148:1
 returns-4 : tie.Need-returns-4
-returns-4 c = ?
+unfolding stateInRange
+returns-4 c = rw (sym (c .before .start-in-range .ensures) ∙ c .if1 .left)
 
 pub state-in-range-spec : {M : Type 1} → statement M
 state-in-range-spec =

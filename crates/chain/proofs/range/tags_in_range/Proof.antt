@@ -1,3 +1,4 @@
+use Rattle.chain.specs.Range.{tagsInRange}
 use borrow.Author.Needs.{needs}
 use Rattle.chain.proofs.range.tags_in_range.Statement.{statement}
 use Rattle.chain.proofs.range.tags_in_range.Tie as tie
@@ -19,11 +20,13 @@ tag-word-in-range-requires c κs = search needs
 
 -- src/range.rt:78:1
 returns : tie.Need-returns
-returns c = ?
+unfolding tagsInRange
+returns c = rw (c .enum-told .given .1)
 
 -- src/range.rt:78:1
 returns-2 : tie.Need-returns-2
-returns-2 c = ?
+unfolding tagsInRange
+returns-2 c = rw (c .before .before .tags .given .1) (c .tag-word-in-range .ensures)
 
 pub tags-in-range-spec : {M : Type 1} → statement M
 tags-in-range-spec =

@@ -1,3 +1,4 @@
+use Rattle.chain.specs.Range.{tagsInside}
 use borrow.Author.Needs.{needs}
 use Rattle.chain.proofs.range.tags_inside.Statement.{statement}
 use Rattle.chain.proofs.range.tags_inside.Tie as tie
@@ -34,11 +35,13 @@ add-result c = search needs
 
 -- src/range.rt:174:1
 returns : tie.Need-returns
-returns c = ?
+unfolding tagsInside
+returns c = rw (c .enum-told .given .1)
 
 -- src/range.rt:174:1
 returns-2 : tie.Need-returns-2
-returns-2 c = ?
+unfolding tagsInside
+returns-2 c = rw (c .before .tags .given .1)
 
 pub tags-inside-spec : {M : Type 1} → statement M
 tags-inside-spec =

@@ -1,3 +1,4 @@
+use borrow.Author.Tests.{eq-eqb, ne-eqb}
 use borrow.Author.Needs.{needs}
 use Rattle.chain.proofs.range.words_inside.Statement.{statement}
 use Rattle.chain.proofs.range.words_inside.Tie as tie
@@ -6,7 +7,7 @@ use Rattle.chain.proofs.range.words_inside.Lts as lts
 
 -- src/range.rt:187:9
 returns : tie.Need-returns
-returns c = ?
+returns c = rw (eq-eqb _ _ (c .if1 .taken))
 
 -- src/range.rt:189:17
 mul-result : tie.Need-mul-result
@@ -18,7 +19,7 @@ add-result c = search needs
 
 -- src/range.rt:183:1
 returns-2 : tie.Need-returns-2
-returns-2 c = ?
+returns-2 c = rw (ne-eqb _ _ (c .if1 .left))
 
 pub words-inside-spec : {M : Type 1} → statement M
 words-inside-spec = tie.close (tie.spec returns mul-result add-result returns-2)

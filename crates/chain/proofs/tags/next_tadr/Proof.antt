@@ -1,3 +1,6 @@
+use Rattle.chain.specs.Tags.{nextTadr}
+use Rattle.fields.specs.Fields.{if}
+use borrow.Author.Tests.{ne-eqb}
 use borrow.Author.Needs.{needs}
 use Rattle.chain.proofs.tags.next_tadr.Statement.{statement}
 use Rattle.chain.proofs.tags.next_tadr.Tie as tie
@@ -20,27 +23,33 @@ add-result c = search needs
 
 -- src/tags.rt:65:1
 returns : tie.Need-returns
-returns c = ?
+unfolding nextTadr if
+returns c = rw (c .before .match .keys1) (c .after-payload .ensures)
 
 -- src/tags.rt:65:1
 returns-2 : tie.Need-returns-2
-returns-2 c = ?
+unfolding nextTadr if
+returns-2 c = rw (c .match .keys2)
 
 -- src/tags.rt:65:1
 returns-3 : tie.Need-returns-3
-returns-3 c = ?
+unfolding nextTadr if
+returns-3 c = rw (c .match .keys3)
 
 -- src/tags.rt:65:1
 returns-4 : tie.Need-returns-4
-returns-4 c = ?
+unfolding nextTadr if
+returns-4 c = rw (c .before .match .keys4) (c .return-to .ensures)
 
 -- src/tags.rt:65:1
 returns-5 : tie.Need-returns-5
-returns-5 c = ?
+unfolding nextTadr if
+returns-5 c = rw (c .match .keys5)
 
 -- src/tags.rt:65:1
 returns-6 : tie.Need-returns-6
-returns-6 c = ?
+unfolding nextTadr if
+returns-6 c = let n = c .match .rest in rw (ne-eqb _ 1 (n .0 .0 .0 .0 .1), ne-eqb _ 2 (n .0 .0 .0 .1), ne-eqb _ 5 (n .0 .0 .1), ne-eqb _ 6 (n .0 .1), ne-eqb _ 7 (n .1))
 
 pub next-tadr-spec : {M : Type 1} → statement M
 next-tadr-spec =

@@ -1,3 +1,6 @@
+use Rattle.chain.specs.Tags.{payloadAt}
+use Rattle.fields.specs.Fields.{if}
+use mathlib.Core.Path.{sym, _∙_}
 use borrow.Author.Needs.{needs}
 use Rattle.chain.proofs.tags.payload_at.Statement.{statement}
 use Rattle.chain.proofs.tags.payload_at.Tie as tie
@@ -15,11 +18,13 @@ add-result c = search needs
 
 -- src/tags.rt:41:1
 returns : tie.Need-returns
-returns c = ?
+unfolding payloadAt if
+returns c = rw (sym (c .before .at-addr .ensures) ∙ c .if1 .taken)
 
 -- src/tags.rt:41:1
 returns-2 : tie.Need-returns-2
-returns-2 c = ?
+unfolding payloadAt if
+returns-2 c = rw (sym (c .before .at-addr .ensures) ∙ c .if1 .left)
 
 pub payload-at-spec : {M : Type 1} → statement M
 payload-at-spec = tie.close (tie.spec at-addr-requires add-result returns returns-2)

@@ -1,3 +1,5 @@
+use Rattle.chain.proofs.TagLaws.{by-pop}
+use mathlib.Core.Path.{refl}
 use borrow.Author.Needs.{needs}
 use Rattle.chain.proofs.tags.pop.Statement.{statement}
 use Rattle.chain.proofs.tags.pop.Tie as tie
@@ -26,7 +28,7 @@ returns-2 c = search needs
 
 -- src/tags.rt:120:1
 returns-3 : tie.Need-returns-3
-returns-3 c = ?
+returns-3 c = by-pop (c .before .stack .given .1) refl
 
 pub pop-spec : {M : Type 1} → statement M
 pop-spec = tie.close (tie.spec enum-told enum-told-2 enum-known-stack returns returns-2 returns-3)

@@ -1,3 +1,5 @@
+use Rattle.chain.proofs.TagLaws.{by-push}
+use mathlib.Core.Path.{refl}
 use borrow.Author.Needs.{needs}
 use Rattle.chain.proofs.tags.push.Statement.{statement}
 use Rattle.chain.proofs.tags.push.Tie as tie
@@ -18,15 +20,15 @@ enum-known-stack-2 c = search needs
 
 -- src/tags.rt:110:1
 returns : tie.Need-returns
-returns c = ?
+returns c = by-push (c .enum-told .given .1) _ refl
 
 -- src/tags.rt:110:1
 returns-2 : tie.Need-returns-2
-returns-2 c = ?
+returns-2 c = by-push (c .before .stack .given .1) _ refl
 
 -- src/tags.rt:110:1
 returns-3 : tie.Need-returns-3
-returns-3 c = ?
+returns-3 c = by-push (c .before .stack2 .given .1) _ refl
 
 pub push-spec : {M : Type 1} → statement M
 push-spec =

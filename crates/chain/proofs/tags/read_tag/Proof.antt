@@ -1,3 +1,5 @@
+use mathlib.Core.Path.{_∙_}
+use Rattle.chain.proofs.TagLaws.{tag-taken, tag-refused}
 use borrow.Author.Needs.{needs}
 use Rattle.chain.proofs.tags.read_tag.Statement.{statement}
 use Rattle.chain.proofs.tags.read_tag.Tie as tie
@@ -25,11 +27,11 @@ answered-requires-2 c κs = search needs
 
 -- src/tags.rt:224:1
 returns : tie.Need-returns
-returns c = ?
+returns c = tag-taken (c .before .before .before .before .args .low) (c .before .before .before .before .args .high) (search needs) (search needs) (c .before .before .before .before .args .size) (c .before .before .before .before .args .s) (c .before .before .before .tag-refusal .ensures) (c .before .before .if1 .taken) (c .answered .ensures ∙ rw (c .before .tag-state .ensures))
 
 -- src/tags.rt:224:1
 returns-2 : tie.Need-returns-2
-returns-2 c = ?
+returns-2 c = tag-refused (c .before .before .before .args .low) (c .before .before .before .args .high) (search needs) (search needs) (c .before .before .before .args .size) (c .before .before .before .args .s) (c .before .before .tag-refusal .ensures) (c .before .if1 .left) (c .answered2 .ensures)
 
 pub read-tag-spec : {M : Type 1} → statement M
 read-tag-spec =

@@ -1,3 +1,5 @@
+use Rattle.chain.specs.Tags.{tagWordsOf}
+use Rattle.fields.specs.Fields.{if}
 use borrow.Author.Needs.{needs}
 use Rattle.chain.proofs.tags.tag_words_of.Statement.{statement}
 use Rattle.chain.proofs.tags.tag_words_of.Tie as tie
@@ -10,11 +12,13 @@ add-t5 c = search needs
 
 -- src/tags.rt:141:1
 returns : tie.Need-returns
-returns c = ?
+unfolding tagWordsOf if
+returns c = rw (c .if1 .taken)
 
 -- src/tags.rt:141:1
 returns-2 : tie.Need-returns-2
-returns-2 c = ?
+unfolding tagWordsOf if
+returns-2 c = rw (c .if1 .left)
 
 pub tag-words-of-spec : {M : Type 1} → statement M
 tag-words-of-spec = tie.close (tie.spec add-t5 returns returns-2)

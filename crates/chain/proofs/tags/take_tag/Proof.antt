@@ -1,3 +1,7 @@
+use Rattle.chain.specs.Memory.{longAt}
+use Rattle.chain.specs.Tags.{tagRefusal, tagRead}
+use Rattle.fields.specs.Fields.{if}
+use borrow.Author.Tests.{lt-ltb}
 use borrow.Author.Needs.{needs}
 use Rattle.chain.proofs.tags.take_tag.Statement.{statement}
 use Rattle.chain.proofs.tags.take_tag.Tie as tie
@@ -21,7 +25,8 @@ answered-requires c κs = search needs
 
 -- src/tags.rt:248:9
 returns : tie.Need-returns
-returns c = ?
+unfolding tagRead tagRefusal if
+returns c = rw (lt-ltb _ _ (c .before .if1 .taken)) (c .answered .ensures)
 
 -- src/tags.rt:250:26
 word-at-requires : tie.Need-word-at-requires
@@ -41,7 +46,8 @@ read-tag-requires c κs = search needs
 
 -- src/tags.rt:242:1
 returns-2 : tie.Need-returns-2
-returns-2 c = ?
+unfolding longAt
+returns-2 c = rw (← c .before .before .word-at .ensures, ← c .before .word-at2 .ensures) (c .read-tag .ensures)
 
 pub take-tag-spec : {M : Type 1} → statement M
 take-tag-spec =

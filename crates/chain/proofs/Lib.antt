@@ -1,0 +1,4 @@
+-- Laws of the definitions, by subject; the crates above cite them.
+pub mod TagLaws
+pub mod ReadyLaws
+pub mod StepLaws

@@ -1,0 +1,164 @@
+-- The entry tests as facts.
+use mathlib.Core.Path.{_≡_, refl, sym, ap, _∙_}
+use mathlib.Core.Bool.{Bool, true, false, not, _&&_, _||_}
+use mathlib.Core.List.{List}
+use Prim.Native.Nat.{ℕ, _+_, _*_, _-_, _/_, _%_, _^_, _<_, _≤_}
+use native.Mathlib.Omega.{arith}
+use borrow.Author.Tests.{leb-true, le-leb, ltb-true, ltb-false, lt-ltb, le-ltb, eqb-true, eqb-false, eq-eqb, ne-eqb}
+use lib.ListN.{length}
+use lib.Dec.{eqb, leb, ltb}
+use Rattle.fields.specs.Fields.{if}
+use Rattle.fields.proofs.ChoiceLaws.{and-left, and-right, or-left, or-right}
+use Rattle.gif.specs.Log.{logRefused}
+use Rattle.gif.specs.Range.{pathInRange}
+use Rattle.vif.specs.Step.{Lent}
+use Rattle.vif.specs.Range.{unitInRange}
+use Rattle.vif.specs.Inner.{GifReady, StepReady}
+use Rattle.chain.specs.declared.Stack.{Stack}
+use Rattle.chain.specs.declared.TagWords.{TagWords}
+use Rattle.chain.specs.declared.TagWords.the-variants.{From}
+use Rattle.chain.specs.declared.Payload.{Payload}
+use Rattle.chain.specs.declared.Payload.the-variants.{Words}
+use Rattle.chain.specs.declared.State.{State}
+use Rattle.chain.specs.Range.{channelInRange, startInRange, stackInRange, tagWordInRange, tagsInRange, wordsInRange, payloadInRange, stateInRange, mainRefused, tagsInside, payloadInside, entryRefusal}
+use Rattle.chain.specs.Inner.{Ready, WordInside, PayloadInside, QuadwordReady}
+
+-- an answer of 0 says that the test was false
+pub if-zero : (b : Bool) (n : ℕ) {r : ℕ} → 0 < n → if b n r ≡ 0 → (b ≡ false) × (r ≡ 0)
+unfolding if
+if-zero true n h e = absurd (omega arith)
+if-zero false n h e = (refl, e)
+
+pub not-false : (b : Bool) → not b ≡ false → b ≡ true
+not-false true h = refl
+not-false false h = sym h
+
+-- the fields of a state in range
+pub record Fields (s : State) : Type 0 where
+  pub start : startInRange (s .channel) (s .tadr) (s .tte) ≡ true
+  pub stack : stackInRange (s .stack) ≡ true
+  pub tags : tagsInRange (s .tags) (s .tte) ≡ true
+  pub payload : payloadInRange (s .payload) (s .channel) ≡ true
+  pub unit : unitInRange (s .vif) ≡ true
+  pub path2 : pathInRange (s .path2) ≡ true
+  pub path3 : pathInRange (s .path3) ≡ true
+
+pub fields-of : (s : State) → stateInRange s ≡ true → Fields s
+unfolding stateInRange
+fields-of s h =
+    let h1 = and-right (startInRange (s .channel) (s .tadr) (s .tte)) _ h in
+    let h2 = and-right (stackInRange (s .stack)) _ h1 in
+    let p : (tagsInRange (s .tags) (s .tte) && payloadInRange (s .payload) (s .channel)) ≡ true = and-left _ _ h2 in
+    let d = and-right (tagsInRange (s .tags) (s .tte) && payloadInRange (s .payload) (s .channel)) _ h2 in
+    let e = and-right (unitInRange (s .vif)) _ d in
+    record {
+      start = and-left _ _ h;
+      stack = and-left _ _ h1;
+      tags = and-left _ _ p;
+      payload = and-right (tagsInRange (s .tags) (s .tte)) _ p;
+      unit = and-left _ _ d;
+      path2 = and-left _ _ e;
+      path3 = and-right (pathInRange (s .path2)) _ e;
+    }
+
+pub state-of : (s : State) → Fields s → stateInRange s ≡ true
+unfolding stateInRange
+state-of s f = rw (f .start, f .stack, f .tags, f .payload, f .unit, f .path2, f .path3)
+
+-- what the entry tests say
+pub record Facts (main : List ℕ) (s : State) (m : Lent) : Type 0 where
+  pub size : mainRefused (length main) ≡ false
+  pub long : length (m .mem) ≡ 4096
+  pub wide : length (m .code) ≡ 16384
+  pub logged : logRefused (m .log) (s .used) ≡ false
+  pub fields : Fields s
+  pub tags-in : tagsInside (s .tags) (length main) ≡ true
+  pub payload-in : payloadInside (s .payload) (length main) ≡ true
+
+pub facts-of : {main : List ℕ} {s : State} {m : Lent} → Ready main s m → Facts main s m
+unfolding entryRefusal
+facts-of {main} {s} {m} r =
+    let e1 = if-zero (mainRefused (length main)) 1 (omega arith) (r .passed) in
+    let e2 = if-zero (not (eqb (length (m .mem)) 4096)) 2 (omega arith) (e1 .1) in
+    let e3 = if-zero (not (eqb (length (m .code)) 16384)) 3 (omega arith) (e2 .1) in
+    let e4 = if-zero (logRefused (m .log) (s .used)) 4 (omega arith) (e3 .1) in
+    let e5 = if-zero (not (stateInRange s)) 5 (omega arith) (e4 .1) in
+    let e6 = if-zero (not (tagsInside (s .tags) (length main) && payloadInside (s .payload) (length main))) 14 (omega arith) (e5 .1) in
+    let i = not-false (tagsInside (s .tags) (length main) && payloadInside (s .payload) (length main)) (e6 .0) in
+    record {
+      size = e1 .0;
+      long = eqb-true (length (m .mem)) 4096 (not-false _ (e2 .0));
+      wide = eqb-true (length (m .code)) 16384 (not-false _ (e3 .0));
+      logged = e4 .0;
+      fields = fields-of s (not-false _ (e5 .0));
+      tags-in = and-left _ _ i;
+      payload-in = and-right (tagsInside (s .tags) (length main)) _ i;
+    }
+
+pub ready-of : {main : List ℕ} {s : State} {m : Lent} → Facts main s m → Ready main s m
+unfolding entryRefusal if
+ready-of {main} {s} {m} f =
+    record {
+      passed =
+          rw (f .size, eq-eqb (length (m .mem)) 4096 (f .long), eq-eqb (length (m .code)) 16384 (f .wide), f .logged, state-of s (f .fields), f .tags-in, f .payload-in);
+    }
+
+module _ {main : List ℕ} {s : State} {m : Lent} (r : Ready main s m) where
+  facts : Facts main s m
+  facts = facts-of r
+
+  pub main-most : length main ≤ 1048576
+  unfolding mainRefused
+  main-most =
+      let a = or-right (eqb (length main) 0) _ (facts .size) in
+      ltb-false 1048576 (length main) (or-right (not (eqb (length main % 16) 0)) _ a)
+
+  pub main-whole : length main % 16 ≡ 0
+  unfolding mainRefused
+  main-whole =
+      let a = or-right (eqb (length main) 0) _ (facts .size) in
+      eqb-true (length main % 16) 0 (not-false (eqb (length main % 16) 0) (or-left _ _ a))
+
+  pub unit-ready : StepReady (s .vif) (s .path2) (s .used) (m .mem) (m .code) (m .log)
+  unit-ready =
+      record {
+        long = facts .long;
+        wide = facts .wide;
+        gif = record { logged = facts .logged; ranged = facts .fields .path2 };
+        ranged = facts .fields .unit;
+      }
+
+  pub tadr-below : s .tadr < 2 ^ 31
+  unfolding startInRange
+  tadr-below =
+      let t = and-right (channelInRange (s .channel) (s .tte)) _ (facts .fields .start) in
+      ltb-true (s .tadr) (2 ^ 31) (and-right (eqb (s .tadr % 16) 0) _ t)
+
+  pub tadr-whole : s .tadr % 16 ≡ 0
+  unfolding startInRange
+  tadr-whole =
+      let t = and-right (channelInRange (s .channel) (s .tte)) _ (facts .fields .start) in
+      eqb-true (s .tadr % 16) 0 (and-left _ _ t)
+
+  pub tag-word-inside : {a : ℕ} → s .tags ≡ From a → WordInside main a
+  unfolding tagsInside
+  tag-word-inside {a} q =
+      let i = rw q at (facts .tags-in) in
+      record { inside = leb-true _ _ i; most = main-most }
+
+  pub payload-ready : {at n : ℕ} → s .payload ≡ Words at n → (n ≡ 0 → ⊥) → PayloadInside main s at n
+  unfolding payloadInside payloadInRange wordsInRange
+  payload-ready {at} {n} q z =
+      let i = rw (q, ne-eqb n 0 z) at (facts .payload-in) in
+      let w = rw (q, ne-eqb n 0 z) at (facts .fields .payload) in
+      let w1 = and-right (eqb (at % 4) 0) _ w in
+      let c : (eqb (s .channel) 1 || eqb (at % 16) 0) ≡ true = and-left _ _ w1 in
+      let w2 = and-right (eqb (s .channel) 1 || eqb (at % 16) 0) _ w1 in
+      record {
+        some = omega arith;
+        aligned = eqb-true (at % 4) 0 (and-left _ _ w);
+        whole = eqb-true ((at / 4 + n) % 4) 0 (and-right (leb n 262140) _ w2);
+        inside = leb-true (at + 4 * n) (length main) i;
+        most = main-most;
+        quadwords = λ e. eqb-true (at % 16) 0 (rw e at c);
+      }

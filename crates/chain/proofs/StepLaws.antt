@@ -1,0 +1,88 @@
+-- The step from what its parts give.
+use mathlib.Core.Path.{_≡_, refl, sym, ap, _∙_}
+use mathlib.Core.Bool.{Bool, true, false}
+use mathlib.Core.List.{List}
+use Prim.Native.Nat.{ℕ, _+_, _*_, _-_, _/_, _%_, _^_, _<_, _≤_}
+use native.Mathlib.Omega.{arith}
+use lib.ListN.{length}
+use Rattle.fields.specs.Fields.{if, quadword}
+use Rattle.gif.specs.declared.GifAnswer.{GifAnswer}
+use Rattle.gif.specs.declared.GifAnswer.the-variants.{Taken, Refused as GifRefused}
+use Rattle.gif.specs.declared.GifResult.{GifResult}
+use Rattle.gif.specs.Step.{Left as GifLeft, left as gifLeft, gifStep, takeOf as gifTakeOf}
+use Rattle.gif.proofs.RangeLaws.{log-fits}
+use Rattle.gif.proofs.StepLaws.{tested, step-wrote}
+use Rattle.vif.specs.declared.Incoming.{Incoming}
+use Rattle.vif.specs.declared.VifAnswer.{VifAnswer}
+use Rattle.vif.specs.declared.VifAnswer.the-variants.{Word, Quadword, Refused as VifRefused}
+use Rattle.vif.specs.declared.VifResult.{VifResult}
+use Rattle.vif.specs.Step.{Lent, lent, Left as VifLeft, left as vifLeft, vifStep, takeOf as vifTakeOf}
+use Rattle.vif.proofs.StepLaws.{vif-tested}
+use Rattle.vif.proofs.KeepLaws.{step-kept}
+use Rattle.chain.specs.declared.TagWords.{TagWords}
+use Rattle.chain.specs.declared.Payload.{Payload}
+use Rattle.chain.specs.declared.State.{State}
+use Rattle.chain.specs.Memory.{longAt}
+use Rattle.chain.specs.Pending.{incomingAt}
+use Rattle.chain.specs.Inner.{Ready, QuadwordReady, byTaken}
+use Rattle.chain.specs.Step.{Stepped, stepped, afterVif, givenVif, vifGiven, afterGif, givenGif, gifGiven, payloadOrTag, pendingOrTag}
+use Rattle.chain.proofs.ReadyLaws.{unit-ready}
+
+-- what holds at the case that an arm knows holds at the value itself
+pub by-vif : {a b : VifAnswer} → a ≡ b → (o : VifLeft) (t : TagWords) (p : ℕ → Payload) (s : State) (m : Lent) {x : Stepped}
+    → x ≡ afterVif b o t p s m → x ≡ afterVif a o t p s m
+by-vif q o t p s m h = rw q h
+
+pub by-gif : {a b : GifAnswer} → a ≡ b → (o : GifLeft) (p : Payload) (s : State) (m : Lent) {x : Stepped} → x ≡ afterGif b o p s m
+    → x ≡ afterGif a o p s m
+by-gif q o p s m h = rw q h
+
+pub by-payload : {p q : Payload} → p ≡ q → (main : List ℕ) (s : State) (m : Lent) {x : Stepped} → x ≡ payloadOrTag q main s m → x ≡ payloadOrTag p main s m
+by-payload e main s m h = rw e h
+
+pub by-tags : {t u : TagWords} → t ≡ u → (p : Payload) (main : List ℕ) (s : State) (m : Lent) {x : Stepped} → x ≡ pendingOrTag u p main s m
+    → x ≡ pendingOrTag t p main s m
+by-tags e p main s m h = rw e h
+
+-- only what is pending after one word and after four counts
+pub same-pending : (main : List ℕ) (a : ℕ) (t : TagWords) (p : ℕ → Payload) (s : State) (m : Lent)
+    → vifGiven main a t (byTaken (p 1) (p 4)) s m ≡ vifGiven main a t p s m
+unfolding vifGiven if
+same-pending main a t p s m = go (vifStep (s .vif) (s .path2) (incomingAt main a) (s .used) m .answer)
+  where
+    go : (b : VifAnswer) → afterVif b (vifStep (s .vif) (s .path2) (incomingAt main a) (s .used) m) t (byTaken (p 1) (p 4)) s m ≡ afterVif b (vifStep (s .vif) (s .path2) (incomingAt main a) (s .used) m) t p s m
+    go (Word i) = refl
+    go (Quadword i) = refl
+    go (VifRefused n) = refl
+
+-- a word that VIF1 tested
+module _ {main : List ℕ} {s : State} {m : Lent} (r : Ready main s m) (a : ℕ) (t : TagWords) (p : ℕ → Payload) {n : Incoming} (en : n ≡ incomingAt main a)
+    {v : VifResult} {m′ : Lent} (e : vifLeft v m′ ≡ vifTakeOf (s .vif) (s .path2) n (s .used) m) where
+  taken-as : vifLeft v m′ ≡ vifStep (s .vif) (s .path2) (incomingAt main a) (s .used) m
+  taken-as = rw en at e ∙ vif-tested (s .vif) (s .path2) (incomingAt main a) (s .used) m (unit-ready r)
+
+  pub vif-gave : {x : Stepped} → x ≡ givenVif (vifLeft v m′) t p s m → x ≡ vifGiven main a t p s m
+  unfolding vifGiven
+  vif-gave h = h ∙ ap (λ (o : VifLeft). givenVif o t p s m) taken-as
+
+  -- a refused word left the memories as they were
+  pub vif-same : {k : ℕ} → v .answer ≡ VifRefused k → m′ ≡ m
+  vif-same {k} q =
+      let w = step-kept (s .vif) (s .path2) (s .used) m (log-fits (m .log) (s .used) (unit-ready r .gif .logged) .holds) (incomingAt main a) in
+      ap (λ (o : VifLeft). o .memories) (taken-as ∙ w .same k (ap (λ (o : VifLeft). o .answer) (sym taken-as) ∙ q))
+
+-- a quadword that the GIF tested
+module _ {main : List ℕ} {s : State} {log : List ℕ} {a : ℕ} (r : QuadwordReady main a s log) (p : Payload) (mem code : List ℕ) {x y : ℕ} (ex : x ≡ longAt main a)
+    (ey : y ≡ longAt main (a + 8)) {v : GifResult} {l : List ℕ} (e : gifLeft v l ≡ gifTakeOf (s .path3) (quadword x y) (s .used) log) where
+  given-as : gifLeft v l ≡ gifStep (s .path3) (quadword (longAt main a) (longAt main (a + 8))) (s .used) log
+  given-as =
+      rw (ex, ey) at e ∙ tested (s .path3) (quadword (longAt main a) (longAt main (a + 8))) (s .used) log (r .logged) (r .ranged)
+
+  pub gif-gave : {z : Stepped} → z ≡ givenGif (gifLeft v l) p s (lent mem code log) → z ≡ gifGiven main a p s (lent mem code log)
+  unfolding gifGiven
+  gif-gave h = h ∙ ap (λ (o : GifLeft). givenGif o p s (lent mem code log)) given-as
+
+  pub gif-same : {k : ℕ} → v .answer ≡ GifRefused k → l ≡ log
+  gif-same {k} q =
+      let w = step-wrote (s .path3) (s .used) log (log-fits log (s .used) (r .logged) .holds) (quadword (longAt main a) (longAt main (a + 8))) in
+      ap (λ (o : GifLeft). o .log) (given-as ∙ w .same k (ap (λ (o : GifLeft). o .answer) (sym given-as) ∙ q))
