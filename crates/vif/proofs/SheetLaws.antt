@@ -4,24 +4,39 @@ use mathlib.Core.Bool.{Bool, true, false}
 use mathlib.Core.List.{List, [], _∷_, _++_}
 use Prim.Native.Nat.{ℕ, zero, suc, _+_, _*_, _-_, _/_, _%_, _^_, _<_, _≤_}
 use native.Mathlib.Omega.{arith}
+use borrow.Author.Tests.{eqb-true, eqb-false, eq-eqb, ne-eqb}
 use lib.ListN.{length, getD}
 use lib.Dec.{eqb}
 use Rattle.fields.specs.Fields.{if, bits}
+use Rattle.fields.proofs.ChoiceLaws.{if-ind}
 use Rattle.gif.specs.declared.Path.{Path}
+use Rattle.unpack.specs.declared.Format.{Format}
+use Rattle.unpack.specs.declared.Format.the-variants.{V4x32}
+use Rattle.unpack.specs.declared.Unpacking.{Unpacking}
+use Rattle.unpack.specs.Payload.{payloadWords, vectorBits}
+use Rattle.unpack.specs.Write.{Written, written}
+use Rattle.unpack.specs.Step.{countOf, unpackingOf, holds, unpackWord}
+use Rattle.unpack.specs.Whole.{takeWords, heldAfter, unpackedBy, copyVectors, fourWords}
+use Rattle.unpack.proofs.PayloadLaws.{payload-some}
+use Rattle.unpack.proofs.StepLaws.{count-range}
+use Rattle.unpack.proofs.VectorLaws.{Words}
+use Rattle.unpack.proofs.WholeLaws.{payload-theorem, payload-due, v4-payload}
 use Rattle.vif.specs.declared.Code.{Code}
 use Rattle.vif.specs.declared.Code.the-variants.{Nop, Stcycl, Stmod, Mscal, Mpg, Direct, Unpack}
+use Rattle.vif.specs.declared.UnpackCode.{UnpackCode}
 use Rattle.vif.specs.declared.Decoded.the-variants.{Known}
 use Rattle.vif.specs.declared.Incoming.{Incoming}
 use Rattle.vif.specs.declared.Incoming.the-variants.{Word0, Word1, Word2, Word3}
 use Rattle.vif.specs.declared.VifAnswer.the-variants.{Word, Quadword}
 use Rattle.vif.specs.declared.Waiting.{Waiting}
-use Rattle.vif.specs.declared.Waiting.the-variants.{Nothing}
+use Rattle.vif.specs.declared.Waiting.the-variants.{Nothing, MpgDue, DirectDue, UnpackDue}
 use Rattle.vif.specs.declared.Vif.{Vif}
-use Rattle.vif.specs.Setters.{withCycle, withMode, withWaiting}
+use Rattle.vif.specs.Setters.{withCycle, withMode, withRow, withWaiting}
 use Rattle.vif.specs.Codes.{interruptOf, decodeOf, codeOf, plainCode}
-use Rattle.vif.specs.Execute.{executeOf, decodedStep}
-use Rattle.vif.specs.Step.{Lent, lent, Left, leaves, wordIn, afterCode, codeStep, stepBy, vifStep}
-use Rattle.vif.specs.Feeds.{Fed, fed, Feeds, none, word, quad, wordsIn}
+use Rattle.vif.specs.Execute.{addressOf, cycleRefused, beginUnpack, executeOf, decodedStep}
+use Rattle.vif.specs.Payload.{completes, orNothing, writeRegisters}
+use Rattle.vif.specs.Step.{Lent, lent, Left, leaves, wordIn, afterCode, codeStep, unpackStep, stepBy, vifStep}
+use Rattle.vif.specs.Feeds.{Fed, fed, Feeds, none, word, quad, wordsIn, unpackWaits, begunUnpack, unpackedFed}
 use Rattle.vif.proofs.StepLaws.{by-waiting}
 
 -- ---- steps one after another
@@ -55,3 +70,122 @@ pub feeds-nop : {v : Vif} {p : Path} {used : ℕ} {m : Lent} → v .waiting ≡ 
     → Feeds (fed v p used m) ns y → Feeds (fed v p used m) (n ∷ ns) y
 unfolding bits
 feeds-nop {v} {p} {used} {m} h {y} {n} e f = word (code-taken v p used m n h e nop-decoded refl) f
+
+-- ---- the payload of UNPACK
+
+-- without the interrupt bit nothing completes an interrupt
+quiet : (due : ℕ) → completes due false ≡ false
+unfolding completes
+quiet due = if-ind (λ (b : Bool). b ≡ false) (eqb due 1) refl refl
+
+same-left : {b c : Bool} (v : Vif) (p : Path) (used : ℕ) (m : Lent) {w x : Waiting} → b ≡ c → w ≡ x
+    → leaves (Word b) (withWaiting v w) p used m ≡ leaves (Word c) (withWaiting v x) p used m
+same-left v p used m e q = rw (e, q)
+
+-- a payload word more
+waits-next : (f : Format) (u : Unpacking) (x : ℕ) → 1 ≤ u .due → orNothing (u .due) (UnpackDue f (holds u x)) ≡ unpackWaits f (holds u x)
+unfolding orNothing unpackWaits
+waits-next f u x h =
+    let e : eqb (u .due) 1 ≡ eqb (u .due - 1) 0 = same (u .due) h in
+    rw e
+  where
+    same : (k : ℕ) → 1 ≤ k → eqb k 1 ≡ eqb (k - 1) 0
+    same k l = go (eqb k 1) refl
+      where
+        go : (b : Bool) → eqb k 1 ≡ b → b ≡ eqb (k - 1) 0
+        go true e = let q = eqb-true k 1 e in sym (eq-eqb (k - 1) 0 (omega arith))
+        go false e = let q = eqb-false k 1 e in sym (ne-eqb (k - 1) 0 (λ z. q (omega arith)))
+
+-- with words due it waits
+waits-on : (f : Format) (u : Unpacking) → 1 ≤ u .due → unpackWaits f u ≡ UnpackDue f u
+unfolding unpackWaits if
+waits-on f u h = rw (ne-eqb (u .due) 0 (λ e. omega arith))
+
+-- with none due it doesn't
+waits-no-more : (f : Format) (u : Unpacking) → u .due ≡ 0 → unpackWaits f u ≡ Nothing
+unfolding unpackWaits if
+waits-no-more f u h = rw (eq-eqb (u .due) 0 h)
+
+-- the unit with an UNPACK that waits
+abbrev unpacks : Vif → List ℕ → Format → Unpacking → Vif
+unpacks v row f u = withWaiting (withRow v row) (unpackWaits f u)
+
+-- the unit and data memory after words
+abbrev unpackFed : Vif → Path → ℕ → List ℕ → List ℕ → Format → Unpacking → Written → Fed
+unpackFed v p used code log f u x = fed (unpacks v (x .row) f u) p used (lent (x .mem) code log)
+
+module _ (v : Vif) (p : Path) (used : ℕ) (code log : List ℕ) (f : Format) where
+  unpack-word : (u : Unpacking) (n : Incoming) (x : Written) → u .interrupt ≡ false → 1 ≤ u .due
+      → vifStep (unpacks v (x .row) f u) p n used (lent (x .mem) code log)
+      ≡ leaves (Word false) (unpacks v (unpackWord 1024 f u (writeRegisters v) (wordIn n) x .row) f (holds u (wordIn n))) p used
+      (lent (unpackWord 1024 f u (writeRegisters v) (wordIn n) x .mem) code log)
+  unfolding vifStep unpackStep
+  unpack-word u n x i h =
+      sym (by-waiting (waits-on f u h) (unpacks v (x .row) f u) p n used (lent (x .mem) code log)
+      (same-left (withRow v (unpackWord 1024 f u (writeRegisters v) (wordIn n) x .row)) p used (lent (unpackWord 1024 f u (writeRegisters v) (wordIn n) x .mem) code log) (sym (ap (completes (u .due)) i ∙ quiet (u .due))) (sym (waits-next f u (wordIn n) h))))
+
+  -- payload words one after another
+  unpack-feeds : (u : Unpacking) (ns : List Incoming) (x : Written) → u .interrupt ≡ false → length ns ≤ u .due
+      → Feeds (unpackFed v p used code log f u x) ns
+      (unpackFed v p used code log f (heldAfter u (wordsIn ns)) (takeWords 1024 f u (writeRegisters v) (wordsIn ns) x))
+  unfolding takeWords heldAfter
+  unpack-feeds u [] x i h = none
+  unpack-feeds u (n ∷ ns) x i h =
+      word (unpack-word u n x i (omega arith))
+      (unpack-feeds (holds u (wordIn n)) ns (unpackWord 1024 f u (writeRegisters v) (wordIn n) x) i (omega arith))
+
+-- words as many as came
+words-length : (ns : List Incoming) → length (wordsIn ns) ≡ length ns
+words-length [] = refl
+words-length (n ∷ ns) = ap suc (words-length ns)
+
+-- an idle unit with CL and WL that UNPACK accepts takes the code, and its payload is due
+module _ (v : Vif) (p : Path) (used : ℕ) (m : Lent) (n : Incoming) (f : Format) (u : UnpackCode) (h : v .waiting ≡ Nothing)
+    (c : cycleRefused (v .cl) (v .wl) ≡ false) (d : decodeOf (wordIn n) ≡ Known (Unpack f u)) (i : interruptOf (wordIn n) ≡ false) where
+  begun-due : 1 ≤ begunUnpack f u v .due
+  unfolding unpackingOf
+  begun-due = payload-some f (countOf (u .num)) (count-range (u .num) .0)
+
+  begun-quiet : begunUnpack f u v .interrupt ≡ false
+  unfolding unpackingOf
+  begun-quiet = refl
+
+  begun-words : begunUnpack f u v .due ≡ payloadWords f (countOf (u .num))
+  unfolding unpackingOf
+  begun-words = refl
+
+  unpack-taken : vifStep v p n used m ≡ leaves (Word false) (unpacks v (v .row) f (begunUnpack f u v)) p used m
+  unfolding beginUnpack if
+  unpack-taken = code-taken v p used m n h refl d i ∙ rw (c, waits-on f (begunUnpack f u v) begun-due)
+
+  unpack-fed : (ns : List Incoming) → length ns ≤ payloadWords f (countOf (u .num))
+      → Feeds (fed v p used m) (n ∷ ns)
+      (unpackFed v p used (m .code) (m .log) f (heldAfter (begunUnpack f u v) (wordsIn ns))
+      (takeWords 1024 f (begunUnpack f u v) (writeRegisters v) (wordsIn ns) (written (v .row) (m .mem))))
+  unpack-fed ns l =
+      word unpack-taken
+      (unpack-feeds v p used (m .code) (m .log) f (begunUnpack f u v) ns (written (v .row) (m .mem)) begun-quiet (rw begun-words l))
+
+  -- UNPACK at the unit: after k payload words, exactly the vectors that lie wholly in them have been written to data memory (and ROW in MODE 2)
+  pub unit-payload : (ns : List Incoming) → Words (wordsIn ns) → length ns ≤ payloadWords f (countOf (u .num))
+      → Feeds (fed v p used m) (n ∷ ns) (unpackedFed v p used m f u (wordsIn ns) (unpackWaits f (heldAfter (begunUnpack f u v) (wordsIn ns))))
+  unit-payload ns w l =
+      rw (← payload-theorem 1024 f (addressOf u (v .tops)) (u .num) (u .usn) (u .masked) false (writeRegisters v) (wordsIn ns) (written (v .row) (m .mem)) w (rw words-length l))
+      (unpack-fed ns l)
+
+  due-left : (ns : List Incoming) → heldAfter (begunUnpack f u v) (wordsIn ns) .due ≡ payloadWords f (countOf (u .num)) - length ns
+  due-left ns = payload-due f (addressOf u (v .tops)) (u .num) (u .usn) (u .masked) false (wordsIn ns) ∙ rw (words-length ns)
+
+  -- the same of a whole payload, after which nothing waits
+  pub unit-payload-whole : (ns : List Incoming) → Words (wordsIn ns) → length ns ≡ payloadWords f (countOf (u .num))
+      → Feeds (fed v p used m) (n ∷ ns) (unpackedFed v p used m f u (wordsIn ns) Nothing)
+  unit-payload-whole ns w l =
+      let e = due-left ns in
+      rw (← waits-no-more f (heldAfter (begunUnpack f u v) (wordsIn ns)) (omega arith)) (unit-payload ns w (omega arith))
+
+  -- and of a part of one, after which the UNPACK waits on
+  pub unit-payload-part : (ns : List Incoming) → Words (wordsIn ns) → length ns < payloadWords f (countOf (u .num))
+      → Feeds (fed v p used m) (n ∷ ns) (unpackedFed v p used m f u (wordsIn ns) (UnpackDue f (heldAfter (begunUnpack f u v) (wordsIn ns))))
+  unit-payload-part ns w l =
+      let e = due-left ns in
+      rw (← waits-on f (heldAfter (begunUnpack f u v) (wordsIn ns)) (omega arith)) (unit-payload ns w (omega arith))

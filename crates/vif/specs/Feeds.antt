@@ -10,14 +10,20 @@ use Rattle.fields.specs.Fields.{if, quadword}
 use Rattle.gif.specs.declared.Path.{Path}
 use Rattle.unpack.specs.declared.Format.{Format}
 use Rattle.unpack.specs.declared.Unpacking.{Unpacking}
+use Rattle.unpack.specs.Write.{Written, written}
+use Rattle.unpack.specs.Step.{unpackingOf}
+use Rattle.unpack.specs.Whole.{unpackedBy}
 use Rattle.vif.specs.declared.Incoming.{Incoming}
 use Rattle.vif.specs.declared.Incoming.the-variants.{Word0}
 use Rattle.vif.specs.declared.VifAnswer.the-variants.{Word, Quadword}
+use Rattle.vif.specs.declared.UnpackCode.{UnpackCode}
 use Rattle.vif.specs.declared.Waiting.{Waiting}
 use Rattle.vif.specs.declared.Waiting.the-variants.{Nothing, UnpackDue}
 use Rattle.vif.specs.declared.Vif.{Vif}
-use Rattle.vif.specs.Payload.{bytesOf}
-use Rattle.vif.specs.Step.{Lent, leaves, wordIn, vifStep}
+use Rattle.vif.specs.Setters.{withRow, withWaiting}
+use Rattle.vif.specs.Execute.{addressOf}
+use Rattle.vif.specs.Payload.{quadwords, bytesOf, writeRegisters}
+use Rattle.vif.specs.Step.{Lent, lent, leaves, wordIn, vifStep}
 
 -- the unit, path 2, the entries used and the memories, between two steps
 pub record Fed : Type 0 where
@@ -69,3 +75,16 @@ copyInstructions size a ws (suc n) j code =
 -- what waits of an UNPACK: nothing once its payload is complete
 unfoldable pub unpackWaits : Format → Unpacking → Waiting
 unpackWaits f u = if (eqb (u .due) 0) Nothing (UnpackDue f u)
+
+-- the UNPACK that a code without interrupt bit begins
+abbrev pub begunUnpack : Format → UnpackCode → Vif → Unpacking
+begunUnpack f u v = unpackingOf f (addressOf u (v .tops)) (u .num) (u .usn) (u .masked) false
+
+-- ROW and data memory after payload words of it
+abbrev pub unpackedWith : Vif → List ℕ → Format → UnpackCode → List ℕ → Written
+unpackedWith v mem f u ws = unpackedBy quadwords f (begunUnpack f u v) (writeRegisters v) ws (written (v .row) mem)
+
+-- all else is as it was, but for what waits
+abbrev pub unpackedFed : Vif → Path → ℕ → Lent → Format → UnpackCode → List ℕ → Waiting → Fed
+unpackedFed v p used m f u ws w =
+    fed (withWaiting (withRow v (unpackedWith v (m .mem) f u ws .row)) w) p used (lent (unpackedWith v (m .mem) f u ws .mem) (m .code) (m .log))
