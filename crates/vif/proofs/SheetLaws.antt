@@ -32,8 +32,8 @@ use Rattle.vif.specs.declared.Waiting.{Waiting}
 use Rattle.vif.specs.declared.Waiting.the-variants.{Nothing, MpgDue, DirectDue, UnpackDue}
 use Rattle.vif.specs.declared.Vif.{Vif}
 use Rattle.vif.specs.Setters.{withCycle, withMode, withRow, withWaiting}
-use Rattle.vif.specs.Codes.{interruptOf, decodeOf, codeOf, plainCode}
-use Rattle.vif.specs.Execute.{addressOf, cycleRefused, beginUnpack, executeOf, decodedStep}
+use Rattle.vif.specs.Codes.{interruptOf, decodeOf, codeOf, plainCode, unpackCode, unpackNumbers}
+use Rattle.vif.specs.Execute.{setMode, addressOf, cycleRefused, beginUnpack, executeOf, decodedStep}
 use Rattle.vif.specs.Payload.{completes, orNothing, writeRegisters}
 use Rattle.vif.specs.Step.{Lent, lent, Left, leaves, wordIn, afterCode, codeStep, unpackStep, stepBy, vifStep}
 use Rattle.vif.specs.Feeds.{Fed, fed, Feeds, none, word, quad, wordsIn, unpackWaits, begunUnpack, unpackedFed}
@@ -52,6 +52,9 @@ pub feeds-cons : {x y : Fed} {a : ℕ} {ws : List ℕ} (ns : List Incoming) → 
     → Feeds x ns y
 feeds-cons [] e k = absurd (let z : _≡_ {A = ℕ} 0 1 = cc in omega arith)
 feeds-cons (n ∷ ms) e k = k n ms (cc) (cc)
+
+pub feeds-as : {x y z : Fed} {ns : List Incoming} → Feeds x ns y → y ≡ z → Feeds x ns z
+feeds-as f e = rw (← e) f
 
 -- ---- a code's own step
 
@@ -189,3 +192,98 @@ module _ (v : Vif) (p : Path) (used : ℕ) (m : Lent) (n : Incoming) (f : Format
   unit-payload-part ns w l =
       let e = due-left ns in
       rw (← waits-on f (heldAfter (begunUnpack f u v) (wordsIn ns)) (omega arith)) (unit-payload ns w (omega arith))
+
+-- ---- data: NOP, STCYCL 1 1, STMOD 0, UNPACK V4-32
+
+-- the count of a NUM that is not 0
+count-num : (n : ℕ) → 1 ≤ n → n ≤ 255 → countOf n ≡ n
+unfolding countOf if
+count-num n h l =
+    let e : n % 256 ≡ n = omega arith in
+    rw (e, ne-eqb n 0 (λ z. omega arith))
+
+v4-words : (n : ℕ) → payloadWords V4x32 n ≡ 4 * n
+unfolding payloadWords vectorBits
+v4-words n = omega arith
+
+-- the numbers of a record's UNPACK code
+abbrev dataCode : ℕ → ℕ → UnpackCode
+dataCode n a = record { address = a; num = n; usn = false; masked = false; tops = false }
+
+module _ (n a : ℕ) (some : 1 ≤ n) (few : n ≤ 255) (inside : a < 1024) where
+  data-decoded : decodeOf (1811939328 + n * 65536 + a) ≡ Known (Unpack V4x32 (dataCode n a))
+  unfolding decodeOf codeOf unpackCode unpackNumbers bits if
+  data-decoded =
+      let c : (1811939328 + n * 65536 + a) / 16777216 % 128 ≡ 108 = omega arith in
+      let d : (1811939328 + n * 65536 + a) / 65536 % 256 ≡ n = omega arith in
+      let e : (1811939328 + n * 65536 + a) / 1 % 65536 ≡ a = omega arith in
+      let x : a / 1 % 1024 ≡ a = omega arith in
+      let y : a / 16384 % 2 ≡ 0 = omega arith in
+      let z : a / 32768 % 2 ≡ 0 = omega arith in
+      rw (c, d, e, x, y, z)
+
+  data-quiet : interruptOf (1811939328 + n * 65536 + a) ≡ false
+  unfolding bits
+  data-quiet = ne-eqb ((1811939328 + n * 65536 + a) / 2147483648 % 2) 1 (λ e. omega arith)
+
+stcycl-decoded : decodeOf 16777473 ≡ Known (Stcycl 1 1)
+unfolding decodeOf codeOf plainCode bits if
+stcycl-decoded = refl
+
+stmod-decoded : decodeOf 83886080 ≡ Known (Stmod 0)
+unfolding decodeOf codeOf plainCode bits if
+stmod-decoded = refl
+
+-- a unit for which nothing waits is idle
+idle-same : (v : Vif) → v .waiting ≡ Nothing → withWaiting v Nothing ≡ v
+idle-same v h = ap (withWaiting v) (sym h)
+
+module _ (v : Vif) (p : Path) (used : ℕ) (m : Lent) (h : v .waiting ≡ Nothing) where
+  stcycl-taken : (n : Incoming) → wordIn n ≡ 16777473 → vifStep v p n used m ≡ leaves (Word false) (withCycle v 1 1) p used m
+  unfolding bits
+  stcycl-taken n e = code-taken v p used m n h e stcycl-decoded refl
+
+  stmod-taken : (n : Incoming) → wordIn n ≡ 83886080 → vifStep v p n used m ≡ leaves (Word false) (withMode v 0) p used m
+  unfolding bits setMode if
+  stmod-taken n e = code-taken v p used m n h e stmod-decoded refl
+
+-- an UNPACK that is over, in a unit whose ROW is as it was
+unpacked-same : (v : Vif) (p : Path) (used : ℕ) (code log : List ℕ) {x : Written} {mem : List ℕ} {w : Waiting} → x ≡ written (v .row) mem → w ≡ v .waiting
+    → fed (withWaiting (withRow v (x .row)) w) p used (lent (x .mem) code log) ≡ fed v p used (lent mem code log)
+unpacked-same v p used code log e q = rw (e, q)
+
+-- a whole V4-32 payload at CL = WL = 1 and MODE 0 is copied
+data-fed : (v : Vif) (p : Path) (used : ℕ) (m : Lent) (n a : ℕ) → v .waiting ≡ Nothing → v .cl ≡ 1 → v .wl ≡ 1 → v .mode ≡ 0 → length (v .row) ≡ 4
+    → 1 ≤ n → n ≤ 255 → a < 1024 → (k : Incoming) (ns : List Incoming) → wordIn k ≡ 1811939328 + n * 65536 + a → Words (wordsIn ns)
+    → length (wordsIn ns) ≡ 4 * n
+    → Feeds (fed v p used m) (k ∷ ns) (fed v p used (lent (copyVectors 1024 a (fourWords (wordsIn ns)) n 0 (m .mem)) (m .code) (m .log)))
+unfolding cycleRefused addressOf if
+data-fed v p used m n a h hc hw hm hr some few inside k ns e w l =
+    let c : cycleRefused (v .cl) (v .wl) ≡ false = rw (hc, hw) in
+    let d : decodeOf (wordIn k) ≡ Known (Unpack V4x32 (dataCode n a)) = rw e (data-decoded n a some few inside) in
+    let i : interruptOf (wordIn k) ≡ false = rw e (data-quiet n a some few inside) in
+    let g : countOf n ≡ n = count-num n some few in
+    let b : a % 1024 ≡ a = omega arith in
+    let t : length ns ≡ payloadWords V4x32 (countOf n) = rw (g, v4-words n, ← words-length ns) l in
+    let o = due-left v p used m k V4x32 (dataCode n a) h c d i ns in
+    feeds-as (unpack-fed v p used m k V4x32 (dataCode n a) h c d i ns (omega arith))
+    (unpacked-same v p used (m .code) (m .log) (v4-payload 1024 a n false false (writeRegisters v) (wordsIn ns) (written (v .row) (m .mem)) w (rw g l) hc hw hm hr ∙ rw (g, b)) (waits-no-more V4x32 _ (omega arith) ∙ sym h))
+
+-- NOP, STCYCL 1 1, STMOD 0 and UNPACK V4-32 copy their payload, word 4j to 4j + 3 to quadword a + j modulo 1,024
+pub feeds-data : (v : Vif) (p : Path) (used : ℕ) (m : Lent) (n a : ℕ) (ws : List ℕ) (ns : List Incoming) → v .waiting ≡ Nothing → length (v .row) ≡ 4
+    → 1 ≤ n → n ≤ 255 → a < 1024 → wordsIn ns ≡ 0 ∷ 16777473 ∷ 83886080 ∷ (1811939328 + n * 65536 + a) ∷ ws → Words ws → length ws ≡ 4 * n
+    → Feeds (fed v p used m) ns
+    (fed (withMode (withCycle v 1 1) 0) p used (lent (copyVectors 1024 a (fourWords ws) n 0 (m .mem)) (m .code) (m .log)))
+feeds-data v p used m n a ws ns h hr some few inside q w l =
+    feeds-cons ns q
+    (λ n0 ns0 e0 q0.
+    feeds-nop h e0
+    (feeds-cons ns0 q0
+    (λ n1 ns1 e1 q1.
+    word (stcycl-taken v p used m h n1 e1)
+    (feeds-cons ns1 q1
+    (λ n2 ns2 e2 q2.
+    word (stmod-taken (withCycle v 1 1) p used m h n2 e2)
+    (feeds-cons ns2 q2
+    (λ n3 ns3 e3 q3.
+    rw (← q3) (data-fed (withMode (withCycle v 1 1) 0) p used m n a h refl refl refl hr some few inside n3 ns3 e3 (rw q3 w) (rw q3 l)))))))))
