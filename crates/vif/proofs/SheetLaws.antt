@@ -4,12 +4,13 @@ use mathlib.Core.Bool.{Bool, true, false}
 use mathlib.Core.List.{List, [], _∷_, _++_}
 use Prim.Native.Nat.{ℕ, zero, suc, _+_, _*_, _-_, _/_, _%_, _^_, _<_, _≤_}
 use native.Mathlib.Omega.{arith}
-use borrow.Author.Tests.{eqb-true, eqb-false, eq-eqb, ne-eqb}
+use borrow.Author.Tests.{eqb-true, eqb-false, eq-eqb, ne-eqb, le-ltb}
 use lib.ListN.{length, getD}
 use lib.Dec.{eqb}
 use Rattle.fields.specs.Fields.{if, bits}
 use Rattle.fields.proofs.ChoiceLaws.{if-ind}
 use Rattle.gif.specs.declared.Path.{Path}
+use Rattle.gif.specs.Log.{entry, logged, lacksRoom}
 use Rattle.unpack.specs.declared.Format.{Format}
 use Rattle.unpack.specs.declared.Format.the-variants.{V4x32}
 use Rattle.unpack.specs.declared.Unpacking.{Unpacking}
@@ -33,7 +34,7 @@ use Rattle.vif.specs.declared.Waiting.the-variants.{Nothing, MpgDue, Dir
 use Rattle.vif.specs.declared.Vif.{Vif}
 use Rattle.vif.specs.Setters.{withCycle, withMode, withRow, withWaiting}
 use Rattle.vif.specs.Codes.{interruptOf, decodeOf, codeOf, plainCode, unpackCode, unpackNumbers}
-use Rattle.vif.specs.Execute.{setMode, addressOf, cycleRefused, beginUnpack, executeOf, decodedStep}
+use Rattle.vif.specs.Execute.{started, startProgram, setMode, addressOf, cycleRefused, beginUnpack, executeOf, decodedStep}
 use Rattle.vif.specs.Payload.{completes, orNothing, writeRegisters}
 use Rattle.vif.specs.Step.{Lent, lent, Left, leaves, wordIn, afterCode, codeStep, unpackStep, stepBy, vifStep}
 use Rattle.vif.specs.Feeds.{Fed, fed, Feeds, none, word, quad, wordsIn, unpackWaits, begunUnpack, unpackedFed}
@@ -287,3 +288,49 @@ feeds-data v p used m n a ws ns h hr some few inside q w l =
     (feeds-cons ns2 q2
     (λ n3 ns3 e3 q3.
     rw (← q3) (data-fed (withMode (withCycle v 1 1) 0) p used m n a h refl refl refl hr some few inside n3 ns3 e3 (rw q3 w) (rw q3 l)))))))))
+
+-- ---- a program start: three NOPs, MSCAL
+
+-- three words 0 before a code
+after-nops : {v : Vif} {p : Path} {used : ℕ} {m : Lent} {y : Fed} {w : ℕ} {ws : List ℕ} → v .waiting ≡ Nothing → (ns : List Incoming)
+    → wordsIn ns ≡ 0 ∷ 0 ∷ 0 ∷ w ∷ ws
+    → ((k : Incoming) (ms : List Incoming) → wordIn k ≡ w → wordsIn ms ≡ ws → Feeds (fed v p used m) (k ∷ ms) y)
+    → Feeds (fed v p used m) ns y
+after-nops h ns q f =
+    feeds-cons ns q
+    (λ n0 ns0 e0 q0.
+    feeds-nop h e0
+    (feeds-cons ns0 q0
+    (λ n1 ns1 e1 q1. feeds-nop h e1 (feeds-cons ns1 q1 (λ n2 ns2 e2 q2. feeds-nop h e2 (feeds-cons ns2 q2 f))))))
+
+module _ (a : ℕ) (inside : a < 65536) where
+  start-decoded : decodeOf (335544320 + a) ≡ Known (Mscal a)
+  unfolding decodeOf codeOf plainCode bits if
+  start-decoded =
+      let c : (335544320 + a) / 16777216 % 128 ≡ 20 = omega arith in
+      let e : (335544320 + a) / 1 % 65536 ≡ a = omega arith in
+      rw (c, e)
+
+  start-quiet : interruptOf (335544320 + a) ≡ false
+  unfolding bits
+  start-quiet = ne-eqb ((335544320 + a) / 2147483648 % 2) 1 (λ e. omega arith)
+
+-- no word left
+no-words : {x : Fed} (ns : List Incoming) → wordsIn ns ≡ [] → Feeds x ns x
+no-words [] e = none
+no-words (n ∷ ns) e = absurd (let z : _≡_ {A = ℕ} 0 1 = cc in omega arith)
+
+-- three NOPs and MSCAL start the program at a, which is one log entry
+pub feeds-start : (v : Vif) (p : Path) (used : ℕ) (m : Lent) (a : ℕ) (ns : List Incoming) → v .waiting ≡ Nothing → a < 65536
+    → 2 * (used + 1) ≤ length (m .log) → wordsIn ns ≡ 0 ∷ 0 ∷ 0 ∷ (335544320 + a) ∷ []
+    → Feeds (fed v p used m) ns (fed (started v) p (used + 1) (lent (m .mem) (m .code) (logged (m .log) used (entry 256 a ∷ []))))
+unfolding startProgram lacksRoom if
+feeds-start v p used m a ns h inside room q =
+    after-nops h ns q
+    (λ k ms e q3.
+    word (code-taken v p used m k h e (start-decoded a inside) (start-quiet a inside) ∙ rw (le-ltb (length (m .log)) (2 * (used + 1)) room))
+    (no-words ms q3))
+
+-- a program start leaves alone what waits
+pub started-waiting : (v : Vif) → started v .waiting ≡ v .waiting
+started-waiting v = refl
