@@ -3,9 +3,11 @@ use mathlib.Core.Path.{_≡_, refl, sym, ap, _∙_}
 use mathlib.Core.Bool.{Bool, true, false}
 use mathlib.Core.List.{List, [], _∷_, _++_}
 use Prim.Native.Nat.{ℕ, zero, suc, _+_, _*_, _-_, _/_, _%_, _^_, _<_, _≤_}
+use native.Mathlib.Nat.{add-zero, zero-add}
 use native.Mathlib.Omega.{arith}
 use borrow.Author.Tests.{eqb-true, eqb-false, eq-eqb, ne-eqb, le-ltb}
 use lib.ListN.{length, getD}
+use lib.Seq.{sets}
 use lib.Dec.{eqb}
 use Rattle.fields.specs.Fields.{if, bits}
 use Rattle.fields.proofs.ChoiceLaws.{if-ind}
@@ -34,10 +36,10 @@ use Rattle.vif.specs.declared.Waiting.the-variants.{Nothing, MpgDue, Dir
 use Rattle.vif.specs.declared.Vif.{Vif}
 use Rattle.vif.specs.Setters.{withCycle, withMode, withRow, withWaiting}
 use Rattle.vif.specs.Codes.{interruptOf, decodeOf, codeOf, plainCode, unpackCode, unpackNumbers}
-use Rattle.vif.specs.Execute.{started, startProgram, setMode, addressOf, cycleRefused, beginUnpack, executeOf, decodedStep}
-use Rattle.vif.specs.Payload.{completes, orNothing, writeRegisters}
+use Rattle.vif.specs.Execute.{started, startProgram, setMode, beginMpg, addressOf, cycleRefused, beginUnpack, executeOf, decodedStep}
+use Rattle.vif.specs.Payload.{completes, orNothing, bytesOf, wordPlace, mpgStored, writeRegisters}
 use Rattle.vif.specs.Step.{Lent, lent, Left, leaves, wordIn, afterCode, codeStep, unpackStep, stepBy, vifStep}
-use Rattle.vif.specs.Feeds.{Fed, fed, Feeds, none, word, quad, wordsIn, unpackWaits, begunUnpack, unpackedFed}
+use Rattle.vif.specs.Feeds.{Fed, fed, Feeds, none, word, quad, wordsIn, Zeros, no-zero, one-zero, storeInstruction, copyInstructions, unpackWaits, begunUnpack, unpackedFed}
 use Rattle.vif.proofs.StepLaws.{by-waiting}
 
 -- ---- steps one after another
@@ -334,3 +336,129 @@ feeds-start v p used m a ns h inside room q =
 -- a program start leaves alone what waits
 pub started-waiting : (v : Vif) → started v .waiting ≡ v .waiting
 started-waiting v = refl
+
+-- ---- code: three NOPs, MPG, and words 0 after its payload
+
+-- words 0 change nothing
+pub feeds-zeros : (v : Vif) (p : Path) (used : ℕ) (m : Lent) (ns : List Incoming) → v .waiting ≡ Nothing → Zeros (wordsIn ns)
+    → Feeds (fed v p used m) ns (fed v p used m)
+feeds-zeros v p used m [] h z = none
+feeds-zeros v p used m (n ∷ ns) h z = feeds-nop h (first z) (feeds-zeros v p used m ns h (rest z))
+  where
+    first : {w : ℕ} {ws : List ℕ} → Zeros (w ∷ ws) → w ≡ 0
+    first (one-zero z) = refl
+
+    rest : {w : ℕ} {ws : List ℕ} → Zeros (w ∷ ws) → Zeros ws
+    rest (one-zero z) = z
+
+-- incoming words in two parts
+words-split : (P : List Incoming → Type 0) (ws pad : List ℕ) (ns : List Incoming) → wordsIn ns ≡ ws ++ pad
+    → ((xs ys : List Incoming) → wordsIn xs ≡ ws → wordsIn ys ≡ pad → P (xs ++ ys))
+    → P ns
+words-split P [] pad ns e k = k [] ns refl e
+words-split P (w ∷ ws) pad [] e k = absurd (let z : _≡_ {A = ℕ} 0 1 = cc in omega arith)
+words-split P (w ∷ ws) pad (n ∷ ns) e k =
+    let q : wordIn n ≡ w = cc in
+    words-split (λ (l : List Incoming). P (n ∷ l)) ws pad ns (cc) (λ xs ys s t. k (n ∷ xs) ys (rw (q, s)) t)
+
+module _ (n a : ℕ) (some : 1 ≤ n) (few : n ≤ 255) (inside : a < 2048) where
+  code-decoded : decodeOf (1241513984 + n * 65536 + a) ≡ Known (Mpg a n)
+  unfolding decodeOf codeOf plainCode bits if
+  code-decoded =
+      let c : (1241513984 + n * 65536 + a) / 16777216 % 128 ≡ 74 = omega arith in
+      let d : (1241513984 + n * 65536 + a) / 65536 % 256 ≡ n = omega arith in
+      let e : (1241513984 + n * 65536 + a) / 1 % 65536 ≡ a = omega arith in
+      let x : a % 2048 ≡ a = omega arith in
+      rw (c, d, e, x)
+
+  code-quiet : interruptOf (1241513984 + n * 65536 + a) ≡ false
+  unfolding bits
+  code-quiet = ne-eqb ((1241513984 + n * 65536 + a) / 2147483648 % 2) 1 (λ e. omega arith)
+
+-- what waits with r instructions due
+abbrev mpgWaits : ℕ → ℕ → ℕ → Waiting
+mpgWaits a n zero = Nothing
+mpgWaits a n (suc r) = MpgDue a n (suc r + suc r) false
+
+-- where the two words of instruction j go
+first-place : (a j : ℕ) → wordPlace 2048 a (j + j) ≡ 8 * ((a + j) % 2048)
+unfolding wordPlace
+first-place a j =
+    let e : (j + j) / 2 ≡ j = omega arith in
+    let q : (j + j) % 2 ≡ 0 = omega arith in
+    rw (e, q) (omega arith)
+
+second-place : (a j : ℕ) → wordPlace 2048 a (j + j + 1) ≡ 8 * ((a + j) % 2048) + 4
+unfolding wordPlace
+second-place a j =
+    let e : (j + j + 1) / 2 ≡ j = omega arith in
+    let q : (j + j + 1) % 2 ≡ 1 = omega arith in
+    rw (e, q) (omega arith)
+
+-- and what they make
+two-words : (code : List ℕ) (q x y : ℕ) → sets (sets code (8 * q) (bytesOf x)) (8 * q + 4) (bytesOf y) ≡ storeInstruction code q x y
+unfolding storeInstruction
+two-words code q x y =
+    let e : 8 * q + 4 ≡ suc (suc (suc (suc (8 * q)))) = omega arith in
+    rw e
+
+first-waits : (a n r : ℕ) → orNothing (suc r + suc r) (MpgDue a n (suc r + suc r - 1) false) ≡ MpgDue a n (r + r + 1) false
+unfolding orNothing if
+first-waits a n r =
+    let e : suc r + suc r - 1 ≡ r + r + 1 = omega arith in
+    rw (ne-eqb (suc r + suc r) 1 (λ z. omega arith), e)
+
+second-waits : (a n r : ℕ) → orNothing (r + r + 1) (MpgDue a n (r + r + 1 - 1) false) ≡ mpgWaits a n r
+unfolding orNothing if
+second-waits a n zero = refl
+second-waits a n (suc r) =
+    let e : suc r + suc r + 1 - 1 ≡ suc r + suc r = omega arith in
+    rw (ne-eqb (suc r + suc r + 1) 1 (λ z. omega arith), e)
+
+module _ (v : Vif) (p : Path) (used : ℕ) (mem log : List ℕ) (a n : ℕ) where
+  mpg-word : (due at : ℕ) (k : Incoming) (code : List ℕ) {w : Waiting} → orNothing due (MpgDue a n (due - 1) false) ≡ w
+      → wordPlace 2048 a (n + n - due) ≡ at
+      → vifStep (withWaiting v (MpgDue a n due false)) p k used (lent mem code log)
+      ≡ leaves (Word false) (withWaiting v w) p used (lent mem (sets code at (bytesOf (wordIn k))) log)
+  unfolding vifStep mpgStored
+  mpg-word due at k code e q = rw (quiet due, e, q)
+
+  -- instructions one after another
+  mpg-feeds : (ws : List ℕ) (r j : ℕ) (ns : List Incoming) (code : List ℕ) → j + r ≡ n → length ns ≡ 2 * r
+      → ((i : ℕ) → getD ws (2 * j + i) 0 ≡ getD (wordsIn ns) i 0)
+      → Feeds (fed (withWaiting v (mpgWaits a n r)) p used (lent mem code log)) ns
+      (fed (withWaiting v Nothing) p used (lent mem (copyInstructions 2048 a ws r j code) log))
+  unfolding copyInstructions
+  mpg-feeds ws zero j [] code e l g = none
+  mpg-feeds ws zero j (x ∷ ns) code e l g = absurd (omega arith)
+  mpg-feeds ws (suc r) j [] code e l g = absurd (omega arith)
+  mpg-feeds ws (suc r) j (x ∷ []) code e l g = absurd (omega arith)
+  mpg-feeds ws (suc r) j (x ∷ y ∷ ns) code e l g =
+      let c : n + n - (suc r + suc r) ≡ j + j = omega arith in
+      let d : n + n - (r + r + 1) ≡ j + j + 1 = omega arith in
+      let s : getD ws (2 * j) 0 ≡ wordIn x = rw add-zero at (g 0) in
+      let t : getD ws (2 * j + 1) 0 ≡ wordIn y = g 1 in
+      let q = (a + j) % 2048 in
+      rw (s, t, ← two-words code q (wordIn x) (wordIn y))
+      (word (mpg-word (suc r + suc r) (8 * q) x code (first-waits a n r) (rw c (first-place a j)))
+      (word (mpg-word (r + r + 1) (8 * q + 4) y (sets code (8 * q) (bytesOf (wordIn x))) (second-waits a n r) (rw d (second-place a j)))
+      (mpg-feeds ws r (suc j) ns (sets (sets code (8 * q) (bytesOf (wordIn x))) (8 * q + 4) (bytesOf (wordIn y))) (omega arith) (omega arith)
+      (λ i. let z : 2 * suc j + i ≡ 2 * j + suc (suc i) = omega arith in rw z (g (suc (suc i)))))))
+
+-- three NOPs, MPG with its payload and words 0 after it copy the instructions: instruction j to a + j modulo 2,048
+pub feeds-code : (v : Vif) (p : Path) (used : ℕ) (m : Lent) (n a : ℕ) (ws pad : List ℕ) (ns : List Incoming) → v .waiting ≡ Nothing → 1 ≤ n → n ≤ 255
+    → a < 2048 → wordsIn ns ≡ 0 ∷ 0 ∷ 0 ∷ (1241513984 + n * 65536 + a) ∷ ws ++ pad → length ws ≡ 2 * n → Zeros pad
+    → Feeds (fed v p used m) ns (fed v p used (lent (m .mem) (copyInstructions 2048 a ws n 0 (m .code)) (m .log)))
+unfolding beginMpg
+feeds-code v p used m n a ws pad ns h some few inside q l z =
+    after-nops h ns q
+    (λ k ms e q3.
+    words-split (λ (l : List Incoming). Feeds (fed v p used m) (k ∷ l) (fed v p used (lent (m .mem) (copyInstructions 2048 a ws n 0 (m .code)) (m .log)))) ws pad ms q3
+    (λ xs ys s t.
+    word (code-taken v p used m k h e (code-decoded n a some few inside) (code-quiet n a some few inside) ∙ rw (count-num n some few, begins n some))
+    (feeds-join (mpg-feeds v p used (m .mem) (m .log) a n ws n 0 xs (m .code) (omega arith) (sym (words-length xs) ∙ rw s l) (λ i. rw (zero-add, s)))
+    (rw (idle-same v h) (feeds-zeros v p used _ ys h (rw t z))))))
+  where
+    begins : (n : ℕ) → 1 ≤ n → MpgDue a n (n + n) false ≡ mpgWaits a n n
+    begins zero l = absurd (omega arith)
+    begins (suc r) l = refl
