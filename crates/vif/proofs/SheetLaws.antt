@@ -4,22 +4,29 @@ use mathlib.Core.Bool.{Bool, true, false}
 use mathlib.Core.List.{List, [], _∷_, _++_}
 use Prim.Native.Nat.{ℕ, zero, suc, _+_, _*_, _-_, _/_, _%_, _^_, _<_, _≤_}
 use native.Mathlib.Nat.{add-zero, zero-add}
+use native.Mathlib.Numerals.{add-one}
 use native.Mathlib.Omega.{arith}
 use borrow.Author.Tests.{eqb-true, eqb-false, eq-eqb, ne-eqb, le-ltb}
 use lib.ListN.{length, getD}
 use lib.Seq.{sets}
 use lib.Dec.{eqb}
-use Rattle.fields.specs.Fields.{if, bits}
+use Rattle.fields.specs.Fields.{if, bits, quadword}
 use Rattle.fields.proofs.ChoiceLaws.{if-ind}
 use Rattle.gif.specs.declared.Path.{Path}
+use Rattle.gif.specs.declared.Place.the-variants.{Idle}
 use Rattle.gif.specs.Log.{entry, logged, lacksRoom}
+use Rattle.gif.specs.Tag.{pathOf, tagQ}
+use Rattle.gif.specs.Step.{gifStep}
+use Rattle.gif.specs.Run.{sheetTag, addressData, addressDatas}
+use Rattle.gif.proofs.LogLaws.{logged-then, logged-length}
+use Rattle.gif.proofs.SheetLaws.{sheetPlace, took, sheet-tag, sheet-data}
 use Rattle.unpack.specs.declared.Format.{Format}
 use Rattle.unpack.specs.declared.Format.the-variants.{V4x32}
 use Rattle.unpack.specs.declared.Unpacking.{Unpacking}
 use Rattle.unpack.specs.Payload.{payloadWords, vectorBits}
 use Rattle.unpack.specs.Write.{Written, written}
 use Rattle.unpack.specs.Step.{countOf, unpackingOf, holds, unpackWord}
-use Rattle.unpack.specs.Whole.{takeWords, heldAfter, unpackedBy, copyVectors, fourWords}
+use Rattle.unpack.specs.Whole.{takeWords, heldAfter, copyVectors, fourWords}
 use Rattle.unpack.proofs.PayloadLaws.{payload-some}
 use Rattle.unpack.proofs.StepLaws.{count-range}
 use Rattle.unpack.proofs.VectorLaws.{Words}
@@ -29,17 +36,17 @@ use Rattle.vif.specs.declared.Code.the-variants.{Nop, Stcycl, Stmod, Msc
 use Rattle.vif.specs.declared.UnpackCode.{UnpackCode}
 use Rattle.vif.specs.declared.Decoded.the-variants.{Known}
 use Rattle.vif.specs.declared.Incoming.{Incoming}
-use Rattle.vif.specs.declared.Incoming.the-variants.{Word0, Word1, Word2, Word3}
+use Rattle.vif.specs.declared.Incoming.the-variants.{Word0}
 use Rattle.vif.specs.declared.VifAnswer.the-variants.{Word, Quadword}
 use Rattle.vif.specs.declared.Waiting.{Waiting}
 use Rattle.vif.specs.declared.Waiting.the-variants.{Nothing, MpgDue, DirectDue, UnpackDue}
 use Rattle.vif.specs.declared.Vif.{Vif}
 use Rattle.vif.specs.Setters.{withCycle, withMode, withRow, withWaiting}
-use Rattle.vif.specs.Codes.{interruptOf, decodeOf, codeOf, plainCode, unpackCode, unpackNumbers}
-use Rattle.vif.specs.Execute.{started, startProgram, setMode, beginMpg, addressOf, cycleRefused, beginUnpack, executeOf, decodedStep}
+use Rattle.vif.specs.Codes.{quadwordsOf, interruptOf, decodeOf, codeOf, plainCode, unpackCode, unpackNumbers}
+use Rattle.vif.specs.Execute.{started, startProgram, setMode, beginMpg, addressOf, cycleRefused, beginUnpack, executeOf}
 use Rattle.vif.specs.Payload.{completes, orNothing, bytesOf, wordPlace, mpgStored, writeRegisters}
-use Rattle.vif.specs.Step.{Lent, lent, Left, leaves, wordIn, afterCode, codeStep, unpackStep, stepBy, vifStep}
-use Rattle.vif.specs.Feeds.{Fed, fed, Feeds, none, word, quad, wordsIn, Zeros, no-zero, one-zero, storeInstruction, copyInstructions, unpackWaits, begunUnpack, unpackedFed}
+use Rattle.vif.specs.Step.{Lent, lent, leaves, wordIn, afterCode, codeStep, giveQuadword, unpackStep, vifStep}
+use Rattle.vif.specs.Feeds.{Fed, fed, Feeds, none, word, quad, wordsIn, QuadwordsIn, no-quadword, one-quadword, Zeros, one-zero, storeInstruction, copyInstructions, unpackWaits, begunUnpack, unpackedFed}
 use Rattle.vif.proofs.StepLaws.{by-waiting}
 
 -- ---- steps one after another
@@ -84,6 +91,7 @@ quiet : (due : ℕ) → completes due false ≡ false
 unfolding completes
 quiet due = if-ind (λ (b : Bool). b ≡ false) (eqb due 1) refl refl
 
+-- the same answer and what waits leave the same
 same-left : {b c : Bool} (v : Vif) (p : Path) (used : ℕ) (m : Lent) {w x : Waiting} → b ≡ c → w ≡ x
     → leaves (Word b) (withWaiting v w) p used m ≡ leaves (Word c) (withWaiting v x) p used m
 same-left v p used m e q = rw (e, q)
@@ -172,7 +180,7 @@ module _ (v : Vif) (p : Path) (used : ℕ) (m : Lent) (n : Incoming) (f : Format
       word unpack-taken
       (unpack-feeds v p used (m .code) (m .log) f (begunUnpack f u v) ns (written (v .row) (m .mem)) begun-quiet (rw begun-words l))
 
-  -- UNPACK at the unit: after k payload words, exactly the vectors that lie wholly in them have been written to data memory (and ROW in MODE 2)
+  -- "After k payload words, exactly the vectors lying wholly in them have been written": the unit's ROW and data memory, all else as it was
   pub unit-payload : (ns : List Incoming) → Words (wordsIn ns) → length ns ≤ payloadWords f (countOf (u .num))
       → Feeds (fed v p used m) (n ∷ ns) (unpackedFed v p used m f u (wordsIn ns) (unpackWaits f (heldAfter (begunUnpack f u v) (wordsIn ns))))
   unit-payload ns w l =
@@ -272,7 +280,7 @@ data-fed v p used m n a h hc hw hm hr some few inside k ns e w l =
     feeds-as (unpack-fed v p used m k V4x32 (dataCode n a) h c d i ns (omega arith))
     (unpacked-same v p used (m .code) (m .log) (v4-payload 1024 a n false false (writeRegisters v) (wordsIn ns) (written (v .row) (m .mem)) w (rw g l) hc hw hm hr ∙ rw (g, b)) (waits-no-more V4x32 _ (omega arith) ∙ sym h))
 
--- NOP, STCYCL 1 1, STMOD 0 and UNPACK V4-32 copy their payload, word 4j to 4j + 3 to quadword a + j modulo 1,024
+-- NOP, STCYCL 1 1, STMOD 0 and UNPACK V4-32 copy the payload: words 4j to 4j + 3 to quadword a + j modulo 1,024
 pub feeds-data : (v : Vif) (p : Path) (used : ℕ) (m : Lent) (n a : ℕ) (ws : List ℕ) (ns : List Incoming) → v .waiting ≡ Nothing → length (v .row) ≡ 4
     → 1 ≤ n → n ≤ 255 → a < 1024 → wordsIn ns ≡ 0 ∷ 16777473 ∷ 83886080 ∷ (1811939328 + n * 65536 + a) ∷ ws → Words ws → length ws ≡ 4 * n
     → Feeds (fed v p used m) ns
@@ -290,6 +298,10 @@ feeds-data v p used m n a ws ns h hr some few inside q w l =
     (feeds-cons ns2 q2
     (λ n3 ns3 e3 q3.
     rw (← q3) (data-fed (withMode (withCycle v 1 1) 0) p used m n a h refl refl refl hr some few inside n3 ns3 e3 (rw q3 w) (rw q3 l)))))))))
+
+-- afterwards what waited before waits, and ROW is as it was
+pub data-unit : (v : Vif) → (withMode (withCycle v 1 1) 0 .waiting ≡ v .waiting) × (withMode (withCycle v 1 1) 0 .row ≡ v .row)
+data-unit v = (refl, refl)
 
 -- ---- a program start: three NOPs, MSCAL
 
@@ -462,3 +474,64 @@ feeds-code v p used m n a ws pad ns h some few inside q l z =
     begins : (n : ℕ) → 1 ≤ n → MpgDue a n (n + n) false ≡ mpgWaits a n n
     begins zero l = absurd (omega arith)
     begins (suc r) l = refl
+
+-- ---- graphics: three NOPs, DIRECT, a GIF tag and its A+D quadwords
+
+module _ (n : ℕ) (few : n ≤ 255) where
+  direct-decoded : decodeOf (1342177280 + n + 1) ≡ Known (Direct (n + 1))
+  unfolding decodeOf codeOf plainCode quadwordsOf bits if
+  direct-decoded =
+      let c : (1342177280 + n + 1) / 16777216 % 128 ≡ 80 = omega arith in
+      let e : (1342177280 + n + 1) / 1 % 65536 ≡ n + 1 = omega arith in
+      rw (c, e, ne-eqb (n + 1) 0 (λ z. omega arith))
+
+  direct-quiet : interruptOf (1342177280 + n + 1) ≡ false
+  unfolding bits
+  direct-quiet = ne-eqb ((1342177280 + n + 1) / 2147483648 % 2) 1 (λ e. omega arith)
+
+-- what waits with k quadwords due
+abbrev directWaits : ℕ → Waiting
+directWaits zero = Nothing
+directWaits (suc k) = DirectDue (suc k) false
+
+direct-next : (k : ℕ) → orNothing (suc k) (DirectDue (suc k - 1) false) ≡ directWaits k
+unfolding orNothing if
+direct-next zero = refl
+direct-next (suc k) =
+    let e : suc (suc k) - 1 ≡ suc k = omega arith in
+    rw (ne-eqb (suc (suc k)) 1 (λ z. omega arith), e)
+
+module _ (v : Vif) (mem code : List ℕ) where
+  -- a quadword that the GIF takes
+  direct-quadword : (k : ℕ) (p p′ : Path) (used used′ a b c d x : ℕ) (log log′ : List ℕ) → quadword (a + b * 2 ^ 32) (c + d * 2 ^ 32) ≡ x
+      → gifStep p x used log ≡ took p′ used′ log′
+      → vifStep (withWaiting v (directWaits (suc k))) p (Word0 a b c d) used (lent mem code log)
+      ≡ leaves (Quadword false) (withWaiting v (directWaits k)) p′ used′ (lent mem code log′)
+  unfolding vifStep giveQuadword
+  direct-quadword k p p′ used used′ a b c d x log log′ e g = rw (e, g, quiet (suc k), direct-next k)
+
+  -- A+D quadwords one after another
+  direct-feeds : (n : ℕ) → 0 < n → n < 32768 → (q used : ℕ) (log : List ℕ) {ns : List Incoming} {xs : List ℕ} → QuadwordsIn ns xs
+      → 2 * (used + length xs) ≤ length log
+      → Feeds (fed (withWaiting v (directWaits (length xs))) (pathOf q (sheetPlace n (length xs))) used (lent mem code log)) ns
+      (fed (withWaiting v Nothing) (pathOf q Idle) (used + length xs) (lent mem code (logged log used (addressDatas xs))))
+  unfolding logged
+  direct-feeds n some few q used log no-quadword h = rw add-zero none
+  direct-feeds n some few q used log (one-quadword {a} {b} {c} {d} {x} {ns} {xs} e r) h =
+      let s : used + suc (length xs) ≡ used + 1 + length xs = omega arith in
+      rw (s, ← logged-then log used (addressData x ∷ []) (addressDatas xs))
+      (quad (direct-quadword (length xs) _ _ used (used + 1) a b c d x log _ e (sheet-data n some few (length xs) q x used log (omega arith)))
+      (direct-feeds n some few q (used + 1) (logged log used (addressData x ∷ [])) r (rw (logged-length log used (addressData x ∷ [])) (omega arith))))
+
+-- three NOPs, DIRECT, a GIF tag and n A+D quadwords write n log entries, and path 2 is idle again
+pub feeds-direct : (v : Vif) (q used : ℕ) (m : Lent) (n : ℕ) (quads : List ℕ) (ns ms : List Incoming) → v .waiting ≡ Nothing → length quads ≡ n → 1 ≤ n
+    → n ≤ 255 → 2 * (used + n) ≤ length (m .log) → wordsIn ns ≡ 0 ∷ 0 ∷ 0 ∷ (1342177280 + n + 1) ∷ [] → QuadwordsIn ms (sheetTag n ∷ quads)
+    → Feeds (fed v (pathOf q Idle) used m) (ns ++ ms)
+    (fed v (pathOf tagQ Idle) (used + n) (lent (m .mem) (m .code) (logged (m .log) used (addressDatas quads))))
+feeds-direct v q used m n quads ns ms h e some few room w (one-quadword {a} {b} {c} {d} t r) =
+    feeds-join
+    (after-nops {y = fed (withWaiting v (directWaits (suc n))) (pathOf q Idle) used m} h ns w
+    (λ k ls f z.
+    word (code-taken v (pathOf q Idle) used m k h f (direct-decoded n few) (direct-quiet n few) ∙ rw (add-one n)) (no-words ls z)))
+    (quad (direct-quadword v (m .mem) (m .code) n _ _ used used a b c d _ (m .log) _ t (sheet-tag n some (omega arith) q used (m .log) (omega arith)))
+    (feeds-as (rw e at (direct-feeds v (m .mem) (m .code) n some (omega arith) tagQ used (m .log) r (rw e room))) (rw (idle-same v h))))
