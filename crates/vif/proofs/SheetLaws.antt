@@ -51,6 +51,7 @@ use Rattle.vif.proofs.StepLaws.{by-waiting}
 
 -- ---- steps one after another
 
+-- steps, and then more of them
 pub feeds-join : {x y z : Fed} {ns ms : List Incoming} → Feeds x ns y → Feeds y ms z → Feeds x (ns ++ ms) z
 feeds-join none q = q
 feeds-join (word e p) q = word e (feeds-join p q)
@@ -63,6 +64,7 @@ pub feeds-cons : {x y : Fed} {a : ℕ} {ws : List ℕ} (ns : List Incoming) → 
 feeds-cons [] e k = absurd (let z : _≡_ {A = ℕ} 0 1 = cc in omega arith)
 feeds-cons (n ∷ ms) e k = k n ms (cc) (cc)
 
+-- what is left may be written in another way
 pub feeds-as : {x y z : Fed} {ns : List Incoming} → Feeds x ns y → y ≡ z → Feeds x ns z
 feeds-as f e = rw (← e) f
 
@@ -129,6 +131,7 @@ abbrev unpackFed : Vif → Path → ℕ → List ℕ → List ℕ → Format →
 unpackFed v p used code log f u x = fed (unpacks v (x .row) f u) p used (lent (x .mem) code log)
 
 module _ (v : Vif) (p : Path) (used : ℕ) (code log : List ℕ) (f : Format) where
+  -- a payload word's step
   unpack-word : (u : Unpacking) (n : Incoming) (x : Written) → u .interrupt ≡ false → 1 ≤ u .due
       → vifStep (unpacks v (x .row) f u) p n used (lent (x .mem) code log)
       ≡ leaves (Word false) (unpacks v (unpackWord 1024 f u (writeRegisters v) (wordIn n) x .row) f (holds u (wordIn n))) p used
@@ -168,10 +171,12 @@ module _ (v : Vif) (p : Path) (used : ℕ) (m : Lent) (n : Incoming) (f : Format
   unfolding unpackingOf
   begun-words = refl
 
+  -- the code's own step
   unpack-taken : vifStep v p n used m ≡ leaves (Word false) (unpacks v (v .row) f (begunUnpack f u v)) p used m
   unfolding beginUnpack if
   unpack-taken = code-taken v p used m n h refl d i ∙ rw (c, waits-on f (begunUnpack f u v) begun-due)
 
+  -- the code and payload words, step by step
   unpack-fed : (ns : List Incoming) → length ns ≤ payloadWords f (countOf (u .num))
       → Feeds (fed v p used m) (n ∷ ns)
       (unpackFed v p used (m .code) (m .log) f (heldAfter (begunUnpack f u v) (wordsIn ns))
@@ -187,6 +192,7 @@ module _ (v : Vif) (p : Path) (used : ℕ) (m : Lent) (n : Incoming) (f : Format
       rw (← payload-theorem 1024 f (addressOf u (v .tops)) (u .num) (u .usn) (u .masked) false (writeRegisters v) (wordsIn ns) (written (v .row) (m .mem)) w (rw words-length l))
       (unpack-fed ns l)
 
+  -- the payload words that are left
   due-left : (ns : List Incoming) → heldAfter (begunUnpack f u v) (wordsIn ns) .due ≡ payloadWords f (countOf (u .num)) - length ns
   due-left ns = payload-due f (addressOf u (v .tops)) (u .num) (u .usn) (u .masked) false (wordsIn ns) ∙ rw (words-length ns)
 
@@ -428,6 +434,7 @@ second-waits a n (suc r) =
     rw (ne-eqb (suc r + suc r + 1) 1 (λ z. omega arith), e)
 
 module _ (v : Vif) (p : Path) (used : ℕ) (mem log : List ℕ) (a n : ℕ) where
+  -- a payload word's step
   mpg-word : (due at : ℕ) (k : Incoming) (code : List ℕ) {w : Waiting} → orNothing due (MpgDue a n (due - 1) false) ≡ w
       → wordPlace 2048 a (n + n - due) ≡ at
       → vifStep (withWaiting v (MpgDue a n due false)) p k used (lent mem code log)
