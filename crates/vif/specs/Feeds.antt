@@ -47,7 +47,7 @@ pub data Feeds : Fed → List Incoming → Fed → Type 0 where
       → Feeds y ns z
       → Feeds x (n ∷ ns) z
 
--- the words of them
+-- incoming words as numbers
 abbrev pub wordsIn : List Incoming → List ℕ
 wordsIn [] = []
 wordsIn (n ∷ ns) = wordIn n ∷ wordsIn ns
