@@ -5,3 +5,4 @@ pub mod StepLaws
 pub mod MpgLaws
 pub mod KeepLaws
 pub mod RangeKept
+pub mod SheetLaws

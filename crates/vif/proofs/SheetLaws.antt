@@ -1,0 +1,544 @@
+-- What the records of a test sheet do to the unit, over their sizes, and an UNPACK's payload at the unit.
+use mathlib.Core.Path.{_≡_, refl, sym, ap, _∙_}
+use mathlib.Core.Bool.{Bool, true, false}
+use mathlib.Core.List.{List, [], _∷_, _++_}
+use Prim.Native.Nat.{ℕ, zero, suc, _+_, _*_, _-_, _/_, _%_, _^_, _<_, _≤_}
+use native.Mathlib.Nat.{add-zero, zero-add}
+use native.Mathlib.Numerals.{add-one}
+use native.Mathlib.Omega.{arith}
+use borrow.Author.Tests.{eqb-true, eqb-false, eq-eqb, ne-eqb, le-ltb}
+use lib.ListN.{length, getD}
+use lib.Seq.{sets}
+use lib.Dec.{eqb}
+use Rattle.fields.specs.Fields.{if, bits, quadword}
+use Rattle.fields.proofs.ChoiceLaws.{if-ind}
+use Rattle.gif.specs.declared.Path.{Path}
+use Rattle.gif.specs.declared.Place.the-variants.{Idle}
+use Rattle.gif.specs.Log.{entry, logged, lacksRoom}
+use Rattle.gif.specs.Tag.{pathOf, tagQ}
+use Rattle.gif.specs.Step.{gifStep}
+use Rattle.gif.specs.Run.{sheetTag, addressData, addressDatas}
+use Rattle.gif.proofs.LogLaws.{logged-then, logged-length}
+use Rattle.gif.proofs.SheetLaws.{sheetPlace, took, sheet-tag, sheet-data}
+use Rattle.unpack.specs.declared.Format.{Format}
+use Rattle.unpack.specs.declared.Format.the-variants.{V4x32}
+use Rattle.unpack.specs.declared.Unpacking.{Unpacking}
+use Rattle.unpack.specs.Payload.{payloadWords, vectorBits}
+use Rattle.unpack.specs.Write.{Written, written}
+use Rattle.unpack.specs.Step.{countOf, unpackingOf, holds, unpackWord}
+use Rattle.unpack.specs.Whole.{takeWords, heldAfter, copyVectors, fourWords}
+use Rattle.unpack.proofs.PayloadLaws.{payload-some}
+use Rattle.unpack.proofs.StepLaws.{count-range}
+use Rattle.unpack.proofs.VectorLaws.{Words}
+use Rattle.unpack.proofs.WholeLaws.{payload-theorem, payload-due, v4-payload}
+use Rattle.vif.specs.declared.Code.{Code}
+use Rattle.vif.specs.declared.Code.the-variants.{Nop, Stcycl, Stmod, Mscal, Mpg, Direct, Unpack}
+use Rattle.vif.specs.declared.UnpackCode.{UnpackCode}
+use Rattle.vif.specs.declared.Decoded.the-variants.{Known}
+use Rattle.vif.specs.declared.Incoming.{Incoming}
+use Rattle.vif.specs.declared.Incoming.the-variants.{Word0}
+use Rattle.vif.specs.declared.VifAnswer.the-variants.{Word, Quadword}
+use Rattle.vif.specs.declared.Waiting.{Waiting}
+use Rattle.vif.specs.declared.Waiting.the-variants.{Nothing, MpgDue, DirectDue, UnpackDue}
+use Rattle.vif.specs.declared.Vif.{Vif}
+use Rattle.vif.specs.Setters.{withCycle, withMode, withRow, withWaiting}
+use Rattle.vif.specs.Codes.{quadwordsOf, interruptOf, decodeOf, codeOf, plainCode, unpackCode, unpackNumbers}
+use Rattle.vif.specs.Execute.{started, startProgram, setMode, beginMpg, addressOf, cycleRefused, beginUnpack, executeOf}
+use Rattle.vif.specs.Payload.{completes, orNothing, bytesOf, wordPlace, mpgStored, writeRegisters}
+use Rattle.vif.specs.Step.{Lent, lent, leaves, wordIn, afterCode, codeStep, giveQuadword, unpackStep, vifStep}
+use Rattle.vif.specs.Feeds.{Fed, fed, Feeds, none, word, quad, wordsIn, QuadwordsIn, no-quadword, one-quadword, Zeros, one-zero, storeInstruction, copyInstructions, unpackWaits, begunUnpack, unpackedFed}
+use Rattle.vif.proofs.StepLaws.{by-waiting}
+
+-- ---- steps one after another
+
+-- steps, and then more of them
+pub feeds-join : {x y z : Fed} {ns ms : List Incoming} → Feeds x ns y → Feeds y ms z → Feeds x (ns ++ ms) z
+feeds-join none q = q
+feeds-join (word e p) q = word e (feeds-join p q)
+feeds-join (quad e p) q = quad e (feeds-join p q)
+
+-- a list of incoming words by its first one
+pub feeds-cons : {x y : Fed} {a : ℕ} {ws : List ℕ} (ns : List Incoming) → wordsIn ns ≡ a ∷ ws
+    → ((n : Incoming) (ms : List Incoming) → wordIn n ≡ a → wordsIn ms ≡ ws → Feeds x (n ∷ ms) y)
+    → Feeds x ns y
+feeds-cons [] e k = absurd (let z : _≡_ {A = ℕ} 0 1 = cc in omega arith)
+feeds-cons (n ∷ ms) e k = k n ms (cc) (cc)
+
+-- what is left may be written in another way
+pub feeds-as : {x y z : Fed} {ns : List Incoming} → Feeds x ns y → y ≡ z → Feeds x ns z
+feeds-as f e = rw (← e) f
+
+-- ---- a code's own step
+
+-- an idle unit reads the next word as a code
+pub code-taken : (v : Vif) (p : Path) (used : ℕ) (m : Lent) (n : Incoming) {w : ℕ} {c : Code} → v .waiting ≡ Nothing → wordIn n ≡ w → decodeOf w ≡ Known c
+    → interruptOf w ≡ false → vifStep v p n used m ≡ afterCode (executeOf c v false used (m .log)) p m
+unfolding vifStep codeStep
+code-taken v p used m n h e d i = sym (by-waiting h v p n used m (rw (e, d, i)))
+
+nop-decoded : decodeOf 0 ≡ Known Nop
+unfolding decodeOf codeOf plainCode bits if
+nop-decoded = refl
+
+-- a word 0 is taken and changes nothing
+pub feeds-nop : {v : Vif} {p : Path} {used : ℕ} {m : Lent} → v .waiting ≡ Nothing → {y : Fed} {n : Incoming} {ns : List Incoming} → wordIn n ≡ 0
+    → Feeds (fed v p used m) ns y → Feeds (fed v p used m) (n ∷ ns) y
+unfolding bits
+feeds-nop {v} {p} {used} {m} h {y} {n} e f = word (code-taken v p used m n h e nop-decoded refl) f
+
+-- ---- the payload of UNPACK
+
+-- without the interrupt bit nothing completes an interrupt
+quiet : (due : ℕ) → completes due false ≡ false
+unfolding completes
+quiet due = if-ind (λ (b : Bool). b ≡ false) (eqb due 1) refl refl
+
+-- the same answer and what waits leave the same
+same-left : {b c : Bool} (v : Vif) (p : Path) (used : ℕ) (m : Lent) {w x : Waiting} → b ≡ c → w ≡ x
+    → leaves (Word b) (withWaiting v w) p used m ≡ leaves (Word c) (withWaiting v x) p used m
+same-left v p used m e q = rw (e, q)
+
+-- a payload word more
+waits-next : (f : Format) (u : Unpacking) (x : ℕ) → 1 ≤ u .due → orNothing (u .due) (UnpackDue f (holds u x)) ≡ unpackWaits f (holds u x)
+unfolding orNothing unpackWaits
+waits-next f u x h =
+    let e : eqb (u .due) 1 ≡ eqb (u .due - 1) 0 = same (u .due) h in
+    rw e
+  where
+    same : (k : ℕ) → 1 ≤ k → eqb k 1 ≡ eqb (k - 1) 0
+    same k l = go (eqb k 1) refl
+      where
+        go : (b : Bool) → eqb k 1 ≡ b → b ≡ eqb (k - 1) 0
+        go true e = let q = eqb-true k 1 e in sym (eq-eqb (k - 1) 0 (omega arith))
+        go false e = let q = eqb-false k 1 e in sym (ne-eqb (k - 1) 0 (λ z. q (omega arith)))
+
+-- with words due it waits
+waits-on : (f : Format) (u : Unpacking) → 1 ≤ u .due → unpackWaits f u ≡ UnpackDue f u
+unfolding unpackWaits if
+waits-on f u h = rw (ne-eqb (u .due) 0 (λ e. omega arith))
+
+-- with none due it doesn't
+waits-no-more : (f : Format) (u : Unpacking) → u .due ≡ 0 → unpackWaits f u ≡ Nothing
+unfolding unpackWaits if
+waits-no-more f u h = rw (eq-eqb (u .due) 0 h)
+
+-- the unit with an UNPACK that waits
+abbrev unpacks : Vif → List ℕ → Format → Unpacking → Vif
+unpacks v row f u = withWaiting (withRow v row) (unpackWaits f u)
+
+-- the unit and data memory after words
+abbrev unpackFed : Vif → Path → ℕ → List ℕ → List ℕ → Format → Unpacking → Written → Fed
+unpackFed v p used code log f u x = fed (unpacks v (x .row) f u) p used (lent (x .mem) code log)
+
+module _ (v : Vif) (p : Path) (used : ℕ) (code log : List ℕ) (f : Format) where
+  -- a payload word's step
+  unpack-word : (u : Unpacking) (n : Incoming) (x : Written) → u .interrupt ≡ false → 1 ≤ u .due
+      → vifStep (unpacks v (x .row) f u) p n used (lent (x .mem) code log)
+      ≡ leaves (Word false) (unpacks v (unpackWord 1024 f u (writeRegisters v) (wordIn n) x .row) f (holds u (wordIn n))) p used
+      (lent (unpackWord 1024 f u (writeRegisters v) (wordIn n) x .mem) code log)
+  unfolding vifStep unpackStep
+  unpack-word u n x i h =
+      sym (by-waiting (waits-on f u h) (unpacks v (x .row) f u) p n used (lent (x .mem) code log)
+      (same-left (withRow v (unpackWord 1024 f u (writeRegisters v) (wordIn n) x .row)) p used (lent (unpackWord 1024 f u (writeRegisters v) (wordIn n) x .mem) code log) (sym (ap (completes (u .due)) i ∙ quiet (u .due))) (sym (waits-next f u (wordIn n) h))))
+
+  -- payload words one after another
+  unpack-feeds : (u : Unpacking) (ns : List Incoming) (x : Written) → u .interrupt ≡ false → length ns ≤ u .due
+      → Feeds (unpackFed v p used code log f u x) ns
+      (unpackFed v p used code log f (heldAfter u (wordsIn ns)) (takeWords 1024 f u (writeRegisters v) (wordsIn ns) x))
+  unfolding takeWords heldAfter
+  unpack-feeds u [] x i h = none
+  unpack-feeds u (n ∷ ns) x i h =
+      word (unpack-word u n x i (omega arith))
+      (unpack-feeds (holds u (wordIn n)) ns (unpackWord 1024 f u (writeRegisters v) (wordIn n) x) i (omega arith))
+
+-- words as many as came
+words-length : (ns : List Incoming) → length (wordsIn ns) ≡ length ns
+words-length [] = refl
+words-length (n ∷ ns) = ap suc (words-length ns)
+
+-- an idle unit with CL and WL that UNPACK accepts takes the code, and its payload is due
+module _ (v : Vif) (p : Path) (used : ℕ) (m : Lent) (n : Incoming) (f : Format) (u : UnpackCode) (h : v .waiting ≡ Nothing)
+    (c : cycleRefused (v .cl) (v .wl) ≡ false) (d : decodeOf (wordIn n) ≡ Known (Unpack f u)) (i : interruptOf (wordIn n) ≡ false) where
+  begun-due : 1 ≤ begunUnpack f u v .due
+  unfolding unpackingOf
+  begun-due = payload-some f (countOf (u .num)) (count-range (u .num) .0)
+
+  begun-quiet : begunUnpack f u v .interrupt ≡ false
+  unfolding unpackingOf
+  begun-quiet = refl
+
+  begun-words : begunUnpack f u v .due ≡ payloadWords f (countOf (u .num))
+  unfolding unpackingOf
+  begun-words = refl
+
+  -- the code's own step
+  unpack-taken : vifStep v p n used m ≡ leaves (Word false) (unpacks v (v .row) f (begunUnpack f u v)) p used m
+  unfolding beginUnpack if
+  unpack-taken = code-taken v p used m n h refl d i ∙ rw (c, waits-on f (begunUnpack f u v) begun-due)
+
+  -- the code and payload words, step by step
+  unpack-fed : (ns : List Incoming) → length ns ≤ payloadWords f (countOf (u .num))
+      → Feeds (fed v p used m) (n ∷ ns)
+      (unpackFed v p used (m .code) (m .log) f (heldAfter (begunUnpack f u v) (wordsIn ns))
+      (takeWords 1024 f (begunUnpack f u v) (writeRegisters v) (wordsIn ns) (written (v .row) (m .mem))))
+  unpack-fed ns l =
+      word unpack-taken
+      (unpack-feeds v p used (m .code) (m .log) f (begunUnpack f u v) ns (written (v .row) (m .mem)) begun-quiet (rw begun-words l))
+
+  -- "After k payload words, exactly the vectors lying wholly in them have been written": the unit's ROW and data memory, all else as it was
+  pub unit-payload : (ns : List Incoming) → Words (wordsIn ns) → length ns ≤ payloadWords f (countOf (u .num))
+      → Feeds (fed v p used m) (n ∷ ns) (unpackedFed v p used m f u (wordsIn ns) (unpackWaits f (heldAfter (begunUnpack f u v) (wordsIn ns))))
+  unit-payload ns w l =
+      rw (← payload-theorem 1024 f (addressOf u (v .tops)) (u .num) (u .usn) (u .masked) false (writeRegisters v) (wordsIn ns) (written (v .row) (m .mem)) w (rw words-length l))
+      (unpack-fed ns l)
+
+  -- the payload words that are left
+  due-left : (ns : List Incoming) → heldAfter (begunUnpack f u v) (wordsIn ns) .due ≡ payloadWords f (countOf (u .num)) - length ns
+  due-left ns = payload-due f (addressOf u (v .tops)) (u .num) (u .usn) (u .masked) false (wordsIn ns) ∙ rw (words-length ns)
+
+  -- the same of a whole payload, after which nothing waits
+  pub unit-payload-whole : (ns : List Incoming) → Words (wordsIn ns) → length ns ≡ payloadWords f (countOf (u .num))
+      → Feeds (fed v p used m) (n ∷ ns) (unpackedFed v p used m f u (wordsIn ns) Nothing)
+  unit-payload-whole ns w l =
+      let e = due-left ns in
+      rw (← waits-no-more f (heldAfter (begunUnpack f u v) (wordsIn ns)) (omega arith)) (unit-payload ns w (omega arith))
+
+  -- and of a part of one, after which the UNPACK waits on
+  pub unit-payload-part : (ns : List Incoming) → Words (wordsIn ns) → length ns < payloadWords f (countOf (u .num))
+      → Feeds (fed v p used m) (n ∷ ns) (unpackedFed v p used m f u (wordsIn ns) (UnpackDue f (heldAfter (begunUnpack f u v) (wordsIn ns))))
+  unit-payload-part ns w l =
+      let e = due-left ns in
+      rw (← waits-on f (heldAfter (begunUnpack f u v) (wordsIn ns)) (omega arith)) (unit-payload ns w (omega arith))
+
+-- ---- data: NOP, STCYCL 1 1, STMOD 0, UNPACK V4-32
+
+-- the count of a NUM that is not 0
+count-num : (n : ℕ) → 1 ≤ n → n ≤ 255 → countOf n ≡ n
+unfolding countOf if
+count-num n h l =
+    let e : n % 256 ≡ n = omega arith in
+    rw (e, ne-eqb n 0 (λ z. omega arith))
+
+v4-words : (n : ℕ) → payloadWords V4x32 n ≡ 4 * n
+unfolding payloadWords vectorBits
+v4-words n = omega arith
+
+-- the numbers of a record's UNPACK code
+abbrev dataCode : ℕ → ℕ → UnpackCode
+dataCode n a = record { address = a; num = n; usn = false; masked = false; tops = false }
+
+module _ (n a : ℕ) (some : 1 ≤ n) (few : n ≤ 255) (inside : a < 1024) where
+  data-decoded : decodeOf (1811939328 + n * 65536 + a) ≡ Known (Unpack V4x32 (dataCode n a))
+  unfolding decodeOf codeOf unpackCode unpackNumbers bits if
+  data-decoded =
+      let c : (1811939328 + n * 65536 + a) / 16777216 % 128 ≡ 108 = omega arith in
+      let d : (1811939328 + n * 65536 + a) / 65536 % 256 ≡ n = omega arith in
+      let e : (1811939328 + n * 65536 + a) / 1 % 65536 ≡ a = omega arith in
+      let x : a / 1 % 1024 ≡ a = omega arith in
+      let y : a / 16384 % 2 ≡ 0 = omega arith in
+      let z : a / 32768 % 2 ≡ 0 = omega arith in
+      rw (c, d, e, x, y, z)
+
+  data-quiet : interruptOf (1811939328 + n * 65536 + a) ≡ false
+  unfolding bits
+  data-quiet = ne-eqb ((1811939328 + n * 65536 + a) / 2147483648 % 2) 1 (λ e. omega arith)
+
+stcycl-decoded : decodeOf 16777473 ≡ Known (Stcycl 1 1)
+unfolding decodeOf codeOf plainCode bits if
+stcycl-decoded = refl
+
+stmod-decoded : decodeOf 83886080 ≡ Known (Stmod 0)
+unfolding decodeOf codeOf plainCode bits if
+stmod-decoded = refl
+
+-- a unit for which nothing waits is idle
+idle-same : (v : Vif) → v .waiting ≡ Nothing → withWaiting v Nothing ≡ v
+idle-same v h = ap (withWaiting v) (sym h)
+
+module _ (v : Vif) (p : Path) (used : ℕ) (m : Lent) (h : v .waiting ≡ Nothing) where
+  stcycl-taken : (n : Incoming) → wordIn n ≡ 16777473 → vifStep v p n used m ≡ leaves (Word false) (withCycle v 1 1) p used m
+  unfolding bits
+  stcycl-taken n e = code-taken v p used m n h e stcycl-decoded refl
+
+  stmod-taken : (n : Incoming) → wordIn n ≡ 83886080 → vifStep v p n used m ≡ leaves (Word false) (withMode v 0) p used m
+  unfolding bits setMode if
+  stmod-taken n e = code-taken v p used m n h e stmod-decoded refl
+
+-- an UNPACK that is over, in a unit whose ROW is as it was
+unpacked-same : (v : Vif) (p : Path) (used : ℕ) (code log : List ℕ) {x : Written} {mem : List ℕ} {w : Waiting} → x ≡ written (v .row) mem → w ≡ v .waiting
+    → fed (withWaiting (withRow v (x .row)) w) p used (lent (x .mem) code log) ≡ fed v p used (lent mem code log)
+unpacked-same v p used code log e q = rw (e, q)
+
+-- a whole V4-32 payload at CL = WL = 1 and MODE 0 is copied
+data-fed : (v : Vif) (p : Path) (used : ℕ) (m : Lent) (n a : ℕ) → v .waiting ≡ Nothing → v .cl ≡ 1 → v .wl ≡ 1 → v .mode ≡ 0 → length (v .row) ≡ 4
+    → 1 ≤ n → n ≤ 255 → a < 1024 → (k : Incoming) (ns : List Incoming) → wordIn k ≡ 1811939328 + n * 65536 + a → Words (wordsIn ns)
+    → length (wordsIn ns) ≡ 4 * n
+    → Feeds (fed v p used m) (k ∷ ns) (fed v p used (lent (copyVectors 1024 a (fourWords (wordsIn ns)) n 0 (m .mem)) (m .code) (m .log)))
+unfolding cycleRefused addressOf if
+data-fed v p used m n a h hc hw hm hr some few inside k ns e w l =
+    let c : cycleRefused (v .cl) (v .wl) ≡ false = rw (hc, hw) in
+    let d : decodeOf (wordIn k) ≡ Known (Unpack V4x32 (dataCode n a)) = rw e (data-decoded n a some few inside) in
+    let i : interruptOf (wordIn k) ≡ false = rw e (data-quiet n a some few inside) in
+    let g : countOf n ≡ n = count-num n some few in
+    let b : a % 1024 ≡ a = omega arith in
+    let t : length ns ≡ payloadWords V4x32 (countOf n) = rw (g, v4-words n, ← words-length ns) l in
+    let o = due-left v p used m k V4x32 (dataCode n a) h c d i ns in
+    feeds-as (unpack-fed v p used m k V4x32 (dataCode n a) h c d i ns (omega arith))
+    (unpacked-same v p used (m .code) (m .log) (v4-payload 1024 a n false false (writeRegisters v) (wordsIn ns) (written (v .row) (m .mem)) w (rw g l) hc hw hm hr ∙ rw (g, b)) (waits-no-more V4x32 _ (omega arith) ∙ sym h))
+
+-- NOP, STCYCL 1 1, STMOD 0 and UNPACK V4-32 copy the payload: words 4j to 4j + 3 to quadword a + j modulo 1,024
+pub feeds-data : (v : Vif) (p : Path) (used : ℕ) (m : Lent) (n a : ℕ) (ws : List ℕ) (ns : List Incoming) → v .waiting ≡ Nothing → length (v .row) ≡ 4
+    → 1 ≤ n → n ≤ 255 → a < 1024 → wordsIn ns ≡ 0 ∷ 16777473 ∷ 83886080 ∷ (1811939328 + n * 65536 + a) ∷ ws → Words ws → length ws ≡ 4 * n
+    → Feeds (fed v p used m) ns
+    (fed (withMode (withCycle v 1 1) 0) p used (lent (copyVectors 1024 a (fourWords ws) n 0 (m .mem)) (m .code) (m .log)))
+feeds-data v p used m n a ws ns h hr some few inside q w l =
+    feeds-cons ns q
+    (λ n0 ns0 e0 q0.
+    feeds-nop h e0
+    (feeds-cons ns0 q0
+    (λ n1 ns1 e1 q1.
+    word (stcycl-taken v p used m h n1 e1)
+    (feeds-cons ns1 q1
+    (λ n2 ns2 e2 q2.
+    word (stmod-taken (withCycle v 1 1) p used m h n2 e2)
+    (feeds-cons ns2 q2
+    (λ n3 ns3 e3 q3.
+    rw (← q3) (data-fed (withMode (withCycle v 1 1) 0) p used m n a h refl refl refl hr some few inside n3 ns3 e3 (rw q3 w) (rw q3 l)))))))))
+
+-- afterwards what waited before waits, and ROW is as it was
+pub data-unit : (v : Vif) → (withMode (withCycle v 1 1) 0 .waiting ≡ v .waiting) × (withMode (withCycle v 1 1) 0 .row ≡ v .row)
+data-unit v = (refl, refl)
+
+-- ---- a program start: three NOPs, MSCAL
+
+-- three words 0 before a code
+after-nops : {v : Vif} {p : Path} {used : ℕ} {m : Lent} {y : Fed} {w : ℕ} {ws : List ℕ} → v .waiting ≡ Nothing → (ns : List Incoming)
+    → wordsIn ns ≡ 0 ∷ 0 ∷ 0 ∷ w ∷ ws
+    → ((k : Incoming) (ms : List Incoming) → wordIn k ≡ w → wordsIn ms ≡ ws → Feeds (fed v p used m) (k ∷ ms) y)
+    → Feeds (fed v p used m) ns y
+after-nops h ns q f =
+    feeds-cons ns q
+    (λ n0 ns0 e0 q0.
+    feeds-nop h e0
+    (feeds-cons ns0 q0
+    (λ n1 ns1 e1 q1. feeds-nop h e1 (feeds-cons ns1 q1 (λ n2 ns2 e2 q2. feeds-nop h e2 (feeds-cons ns2 q2 f))))))
+
+module _ (a : ℕ) (inside : a < 65536) where
+  start-decoded : decodeOf (335544320 + a) ≡ Known (Mscal a)
+  unfolding decodeOf codeOf plainCode bits if
+  start-decoded =
+      let c : (335544320 + a) / 16777216 % 128 ≡ 20 = omega arith in
+      let e : (335544320 + a) / 1 % 65536 ≡ a = omega arith in
+      rw (c, e)
+
+  start-quiet : interruptOf (335544320 + a) ≡ false
+  unfolding bits
+  start-quiet = ne-eqb ((335544320 + a) / 2147483648 % 2) 1 (λ e. omega arith)
+
+-- no word left
+no-words : {x : Fed} (ns : List Incoming) → wordsIn ns ≡ [] → Feeds x ns x
+no-words [] e = none
+no-words (n ∷ ns) e = absurd (let z : _≡_ {A = ℕ} 0 1 = cc in omega arith)
+
+-- three NOPs and MSCAL start the program at a, which is one log entry
+pub feeds-start : (v : Vif) (p : Path) (used : ℕ) (m : Lent) (a : ℕ) (ns : List Incoming) → v .waiting ≡ Nothing → a < 65536
+    → 2 * (used + 1) ≤ length (m .log) → wordsIn ns ≡ 0 ∷ 0 ∷ 0 ∷ (335544320 + a) ∷ []
+    → Feeds (fed v p used m) ns (fed (started v) p (used + 1) (lent (m .mem) (m .code) (logged (m .log) used (entry 256 a ∷ []))))
+unfolding startProgram lacksRoom if
+feeds-start v p used m a ns h inside room q =
+    after-nops h ns q
+    (λ k ms e q3.
+    word (code-taken v p used m k h e (start-decoded a inside) (start-quiet a inside) ∙ rw (le-ltb (length (m .log)) (2 * (used + 1)) room))
+    (no-words ms q3))
+
+-- a program start leaves alone what waits
+pub started-waiting : (v : Vif) → started v .waiting ≡ v .waiting
+started-waiting v = refl
+
+-- ---- code: three NOPs, MPG, and words 0 after its payload
+
+-- words 0 change nothing
+pub feeds-zeros : (v : Vif) (p : Path) (used : ℕ) (m : Lent) (ns : List Incoming) → v .waiting ≡ Nothing → Zeros (wordsIn ns)
+    → Feeds (fed v p used m) ns (fed v p used m)
+feeds-zeros v p used m [] h z = none
+feeds-zeros v p used m (n ∷ ns) h z = feeds-nop h (first z) (feeds-zeros v p used m ns h (rest z))
+  where
+    first : {w : ℕ} {ws : List ℕ} → Zeros (w ∷ ws) → w ≡ 0
+    first (one-zero z) = refl
+
+    rest : {w : ℕ} {ws : List ℕ} → Zeros (w ∷ ws) → Zeros ws
+    rest (one-zero z) = z
+
+-- incoming words in two parts
+words-split : (P : List Incoming → Type 0) (ws pad : List ℕ) (ns : List Incoming) → wordsIn ns ≡ ws ++ pad
+    → ((xs ys : List Incoming) → wordsIn xs ≡ ws → wordsIn ys ≡ pad → P (xs ++ ys))
+    → P ns
+words-split P [] pad ns e k = k [] ns refl e
+words-split P (w ∷ ws) pad [] e k = absurd (let z : _≡_ {A = ℕ} 0 1 = cc in omega arith)
+words-split P (w ∷ ws) pad (n ∷ ns) e k =
+    let q : wordIn n ≡ w = cc in
+    words-split (λ (l : List Incoming). P (n ∷ l)) ws pad ns (cc) (λ xs ys s t. k (n ∷ xs) ys (rw (q, s)) t)
+
+module _ (n a : ℕ) (some : 1 ≤ n) (few : n ≤ 255) (inside : a < 2048) where
+  code-decoded : decodeOf (1241513984 + n * 65536 + a) ≡ Known (Mpg a n)
+  unfolding decodeOf codeOf plainCode bits if
+  code-decoded =
+      let c : (1241513984 + n * 65536 + a) / 16777216 % 128 ≡ 74 = omega arith in
+      let d : (1241513984 + n * 65536 + a) / 65536 % 256 ≡ n = omega arith in
+      let e : (1241513984 + n * 65536 + a) / 1 % 65536 ≡ a = omega arith in
+      let x : a % 2048 ≡ a = omega arith in
+      rw (c, d, e, x)
+
+  code-quiet : interruptOf (1241513984 + n * 65536 + a) ≡ false
+  unfolding bits
+  code-quiet = ne-eqb ((1241513984 + n * 65536 + a) / 2147483648 % 2) 1 (λ e. omega arith)
+
+-- what waits with r instructions due
+abbrev mpgWaits : ℕ → ℕ → ℕ → Waiting
+mpgWaits a n zero = Nothing
+mpgWaits a n (suc r) = MpgDue a n (suc r + suc r) false
+
+-- where the two words of instruction j go
+first-place : (a j : ℕ) → wordPlace 2048 a (j + j) ≡ 8 * ((a + j) % 2048)
+unfolding wordPlace
+first-place a j =
+    let e : (j + j) / 2 ≡ j = omega arith in
+    let q : (j + j) % 2 ≡ 0 = omega arith in
+    rw (e, q) (omega arith)
+
+second-place : (a j : ℕ) → wordPlace 2048 a (j + j + 1) ≡ 8 * ((a + j) % 2048) + 4
+unfolding wordPlace
+second-place a j =
+    let e : (j + j + 1) / 2 ≡ j = omega arith in
+    let q : (j + j + 1) % 2 ≡ 1 = omega arith in
+    rw (e, q) (omega arith)
+
+-- and what they make
+two-words : (code : List ℕ) (q x y : ℕ) → sets (sets code (8 * q) (bytesOf x)) (8 * q + 4) (bytesOf y) ≡ storeInstruction code q x y
+unfolding storeInstruction
+two-words code q x y =
+    let e : 8 * q + 4 ≡ suc (suc (suc (suc (8 * q)))) = omega arith in
+    rw e
+
+first-waits : (a n r : ℕ) → orNothing (suc r + suc r) (MpgDue a n (suc r + suc r - 1) false) ≡ MpgDue a n (r + r + 1) false
+unfolding orNothing if
+first-waits a n r =
+    let e : suc r + suc r - 1 ≡ r + r + 1 = omega arith in
+    rw (ne-eqb (suc r + suc r) 1 (λ z. omega arith), e)
+
+second-waits : (a n r : ℕ) → orNothing (r + r + 1) (MpgDue a n (r + r + 1 - 1) false) ≡ mpgWaits a n r
+unfolding orNothing if
+second-waits a n zero = refl
+second-waits a n (suc r) =
+    let e : suc r + suc r + 1 - 1 ≡ suc r + suc r = omega arith in
+    rw (ne-eqb (suc r + suc r + 1) 1 (λ z. omega arith), e)
+
+module _ (v : Vif) (p : Path) (used : ℕ) (mem log : List ℕ) (a n : ℕ) where
+  -- a payload word's step
+  mpg-word : (due at : ℕ) (k : Incoming) (code : List ℕ) {w : Waiting} → orNothing due (MpgDue a n (due - 1) false) ≡ w
+      → wordPlace 2048 a (n + n - due) ≡ at
+      → vifStep (withWaiting v (MpgDue a n due false)) p k used (lent mem code log)
+      ≡ leaves (Word false) (withWaiting v w) p used (lent mem (sets code at (bytesOf (wordIn k))) log)
+  unfolding vifStep mpgStored
+  mpg-word due at k code e q = rw (quiet due, e, q)
+
+  -- instructions one after another
+  mpg-feeds : (ws : List ℕ) (r j : ℕ) (ns : List Incoming) (code : List ℕ) → j + r ≡ n → length ns ≡ 2 * r
+      → ((i : ℕ) → getD ws (2 * j + i) 0 ≡ getD (wordsIn ns) i 0)
+      → Feeds (fed (withWaiting v (mpgWaits a n r)) p used (lent mem code log)) ns
+      (fed (withWaiting v Nothing) p used (lent mem (copyInstructions 2048 a ws r j code) log))
+  unfolding copyInstructions
+  mpg-feeds ws zero j [] code e l g = none
+  mpg-feeds ws zero j (x ∷ ns) code e l g = absurd (omega arith)
+  mpg-feeds ws (suc r) j [] code e l g = absurd (omega arith)
+  mpg-feeds ws (suc r) j (x ∷ []) code e l g = absurd (omega arith)
+  mpg-feeds ws (suc r) j (x ∷ y ∷ ns) code e l g =
+      let c : n + n - (suc r + suc r) ≡ j + j = omega arith in
+      let d : n + n - (r + r + 1) ≡ j + j + 1 = omega arith in
+      let s : getD ws (2 * j) 0 ≡ wordIn x = rw add-zero at (g 0) in
+      let t : getD ws (2 * j + 1) 0 ≡ wordIn y = g 1 in
+      let q = (a + j) % 2048 in
+      rw (s, t, ← two-words code q (wordIn x) (wordIn y))
+      (word (mpg-word (suc r + suc r) (8 * q) x code (first-waits a n r) (rw c (first-place a j)))
+      (word (mpg-word (r + r + 1) (8 * q + 4) y (sets code (8 * q) (bytesOf (wordIn x))) (second-waits a n r) (rw d (second-place a j)))
+      (mpg-feeds ws r (suc j) ns (sets (sets code (8 * q) (bytesOf (wordIn x))) (8 * q + 4) (bytesOf (wordIn y))) (omega arith) (omega arith)
+      (λ i. let z : 2 * suc j + i ≡ 2 * j + suc (suc i) = omega arith in rw z (g (suc (suc i)))))))
+
+-- three NOPs, MPG with its payload and words 0 after it copy the instructions: instruction j to a + j modulo 2,048
+pub feeds-code : (v : Vif) (p : Path) (used : ℕ) (m : Lent) (n a : ℕ) (ws pad : List ℕ) (ns : List Incoming) → v .waiting ≡ Nothing → 1 ≤ n → n ≤ 255
+    → a < 2048 → wordsIn ns ≡ 0 ∷ 0 ∷ 0 ∷ (1241513984 + n * 65536 + a) ∷ ws ++ pad → length ws ≡ 2 * n → Zeros pad
+    → Feeds (fed v p used m) ns (fed v p used (lent (m .mem) (copyInstructions 2048 a ws n 0 (m .code)) (m .log)))
+unfolding beginMpg
+feeds-code v p used m n a ws pad ns h some few inside q l z =
+    after-nops h ns q
+    (λ k ms e q3.
+    words-split (λ (l : List Incoming). Feeds (fed v p used m) (k ∷ l) (fed v p used (lent (m .mem) (copyInstructions 2048 a ws n 0 (m .code)) (m .log)))) ws pad ms q3
+    (λ xs ys s t.
+    word (code-taken v p used m k h e (code-decoded n a some few inside) (code-quiet n a some few inside) ∙ rw (count-num n some few, begins n some))
+    (feeds-join (mpg-feeds v p used (m .mem) (m .log) a n ws n 0 xs (m .code) (omega arith) (sym (words-length xs) ∙ rw s l) (λ i. rw (zero-add, s)))
+    (rw (idle-same v h) (feeds-zeros v p used _ ys h (rw t z))))))
+  where
+    begins : (n : ℕ) → 1 ≤ n → MpgDue a n (n + n) false ≡ mpgWaits a n n
+    begins zero l = absurd (omega arith)
+    begins (suc r) l = refl
+
+-- ---- graphics: three NOPs, DIRECT, a GIF tag and its A+D quadwords
+
+module _ (n : ℕ) (few : n ≤ 255) where
+  direct-decoded : decodeOf (1342177280 + n + 1) ≡ Known (Direct (n + 1))
+  unfolding decodeOf codeOf plainCode quadwordsOf bits if
+  direct-decoded =
+      let c : (1342177280 + n + 1) / 16777216 % 128 ≡ 80 = omega arith in
+      let e : (1342177280 + n + 1) / 1 % 65536 ≡ n + 1 = omega arith in
+      rw (c, e, ne-eqb (n + 1) 0 (λ z. omega arith))
+
+  direct-quiet : interruptOf (1342177280 + n + 1) ≡ false
+  unfolding bits
+  direct-quiet = ne-eqb ((1342177280 + n + 1) / 2147483648 % 2) 1 (λ e. omega arith)
+
+-- what waits with k quadwords due
+abbrev directWaits : ℕ → Waiting
+directWaits zero = Nothing
+directWaits (suc k) = DirectDue (suc k) false
+
+direct-next : (k : ℕ) → orNothing (suc k) (DirectDue (suc k - 1) false) ≡ directWaits k
+unfolding orNothing if
+direct-next zero = refl
+direct-next (suc k) =
+    let e : suc (suc k) - 1 ≡ suc k = omega arith in
+    rw (ne-eqb (suc (suc k)) 1 (λ z. omega arith), e)
+
+module _ (v : Vif) (mem code : List ℕ) where
+  -- a quadword that the GIF takes
+  direct-quadword : (k : ℕ) (p p′ : Path) (used used′ a b c d x : ℕ) (log log′ : List ℕ) → quadword (a + b * 2 ^ 32) (c + d * 2 ^ 32) ≡ x
+      → gifStep p x used log ≡ took p′ used′ log′
+      → vifStep (withWaiting v (directWaits (suc k))) p (Word0 a b c d) used (lent mem code log)
+      ≡ leaves (Quadword false) (withWaiting v (directWaits k)) p′ used′ (lent mem code log′)
+  unfolding vifStep giveQuadword
+  direct-quadword k p p′ used used′ a b c d x log log′ e g = rw (e, g, quiet (suc k), direct-next k)
+
+  -- A+D quadwords one after another
+  direct-feeds : (n : ℕ) → 0 < n → n < 32768 → (q used : ℕ) (log : List ℕ) {ns : List Incoming} {xs : List ℕ} → QuadwordsIn ns xs
+      → 2 * (used + length xs) ≤ length log
+      → Feeds (fed (withWaiting v (directWaits (length xs))) (pathOf q (sheetPlace n (length xs))) used (lent mem code log)) ns
+      (fed (withWaiting v Nothing) (pathOf q Idle) (used + length xs) (lent mem code (logged log used (addressDatas xs))))
+  unfolding logged
+  direct-feeds n some few q used log no-quadword h = rw add-zero none
+  direct-feeds n some few q used log (one-quadword {a} {b} {c} {d} {x} {ns} {xs} e r) h =
+      let s : used + suc (length xs) ≡ used + 1 + length xs = omega arith in
+      rw (s, ← logged-then log used (addressData x ∷ []) (addressDatas xs))
+      (quad (direct-quadword (length xs) _ _ used (used + 1) a b c d x log _ e (sheet-data n some few (length xs) q x used log (omega arith)))
+      (direct-feeds n some few q (used + 1) (logged log used (addressData x ∷ [])) r (rw (logged-length log used (addressData x ∷ [])) (omega arith))))
+
+-- three NOPs, DIRECT, a GIF tag and n A+D quadwords write n log entries, and path 2 is idle again
+pub feeds-direct : (v : Vif) (q used : ℕ) (m : Lent) (n : ℕ) (quads : List ℕ) (ns ms : List Incoming) → v .waiting ≡ Nothing → length quads ≡ n → 1 ≤ n
+    → n ≤ 255 → 2 * (used + n) ≤ length (m .log) → wordsIn ns ≡ 0 ∷ 0 ∷ 0 ∷ (1342177280 + n + 1) ∷ [] → QuadwordsIn ms (sheetTag n ∷ quads)
+    → Feeds (fed v (pathOf q Idle) used m) (ns ++ ms)
+    (fed v (pathOf tagQ Idle) (used + n) (lent (m .mem) (m .code) (logged (m .log) used (addressDatas quads))))
+feeds-direct v q used m n quads ns ms h e some few room w (one-quadword {a} {b} {c} {d} t r) =
+    feeds-join
+    (after-nops {y = fed (withWaiting v (directWaits (suc n))) (pathOf q Idle) used m} h ns w
+    (λ k ls f z.
+    word (code-taken v (pathOf q Idle) used m k h f (direct-decoded n few) (direct-quiet n few) ∙ rw (add-one n)) (no-words ls z)))
+    (quad (direct-quadword v (m .mem) (m .code) n _ _ used used a b c d _ (m .log) _ t (sheet-tag n some (omega arith) q used (m .log) (omega arith)))
+    (feeds-as (rw e at (direct-feeds v (m .mem) (m .code) n some (omega arith) tagQ used (m .log) r (rw e room))) (rw (idle-same v h))))

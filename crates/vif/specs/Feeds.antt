@@ -1,0 +1,91 @@
+-- Words and quadwords given to the unit one after another.
+use Prim.Native.Nat.{ℕ, zero, suc, _+_, _*_, _%_, _^_}
+use mathlib.Core.Bool.{false}
+use mathlib.Core.List.{List, [], _∷_, _++_}
+use mathlib.Core.Path.{_≡_}
+use lib.ListN.{getD}
+use lib.Seq.{sets}
+use lib.Dec.{eqb}
+use Rattle.fields.specs.Fields.{if, quadword}
+use Rattle.gif.specs.declared.Path.{Path}
+use Rattle.unpack.specs.declared.Format.{Format}
+use Rattle.unpack.specs.declared.Unpacking.{Unpacking}
+use Rattle.unpack.specs.Write.{Written, written}
+use Rattle.unpack.specs.Step.{unpackingOf}
+use Rattle.unpack.specs.Whole.{unpackedBy}
+use Rattle.vif.specs.declared.Incoming.{Incoming}
+use Rattle.vif.specs.declared.Incoming.the-variants.{Word0}
+use Rattle.vif.specs.declared.VifAnswer.the-variants.{Word, Quadword}
+use Rattle.vif.specs.declared.UnpackCode.{UnpackCode}
+use Rattle.vif.specs.declared.Waiting.{Waiting}
+use Rattle.vif.specs.declared.Waiting.the-variants.{Nothing, UnpackDue}
+use Rattle.vif.specs.declared.Vif.{Vif}
+use Rattle.vif.specs.Setters.{withRow, withWaiting}
+use Rattle.vif.specs.Execute.{addressOf}
+use Rattle.vif.specs.Payload.{quadwords, bytesOf, writeRegisters}
+use Rattle.vif.specs.Step.{Lent, lent, leaves, wordIn, vifStep}
+
+-- the unit, path 2, the entries used and the memories, between two steps
+pub record Fed : Type 0 where
+  pub unit : Vif
+  pub path2 : Path
+  pub used : ℕ
+  pub memories : Lent
+
+abbrev pub fed : Vif → Path → ℕ → Lent → Fed
+fed v p used m = record { unit = v; path2 = p; used = used; memories = m }
+
+-- steps one after another, each taken and none completing an interrupt
+pub data Feeds : Fed → List Incoming → Fed → Type 0 where
+  none : {x : Fed} → Feeds x [] x
+  word : {x y z : Fed} {n : Incoming} {ns : List Incoming}
+      → vifStep (x .unit) (x .path2) n (x .used) (x .memories) ≡ leaves (Word false) (y .unit) (y .path2) (y .used) (y .memories)
+      → Feeds y ns z
+      → Feeds x (n ∷ ns) z
+  quad : {x y z : Fed} {n : Incoming} {ns : List Incoming}
+      → vifStep (x .unit) (x .path2) n (x .used) (x .memories) ≡ leaves (Quadword false) (y .unit) (y .path2) (y .used) (y .memories)
+      → Feeds y ns z
+      → Feeds x (n ∷ ns) z
+
+-- incoming words as numbers
+abbrev pub wordsIn : List Incoming → List ℕ
+wordsIn [] = []
+wordsIn (n ∷ ns) = wordIn n ∷ wordsIn ns
+
+-- quadwords that lie ready, as numbers
+pub data QuadwordsIn : List Incoming → List ℕ → Type 0 where
+  no-quadword : QuadwordsIn [] []
+  one-quadword : {a b c d x : ℕ} {ns : List Incoming} {xs : List ℕ} → quadword (a + b * 2 ^ 32) (c + d * 2 ^ 32) ≡ x → QuadwordsIn ns xs
+      → QuadwordsIn (Word0 a b c d ∷ ns) (x ∷ xs)
+
+-- words that are all 0
+pub data Zeros : List ℕ → Type 0 where
+  no-zero : Zeros []
+  one-zero : {ws : List ℕ} → Zeros ws → Zeros (0 ∷ ws)
+
+-- the code memory with an instruction of two words stored
+unfoldable pub storeInstruction : List ℕ → ℕ → ℕ → ℕ → List ℕ
+storeInstruction code q x y = sets code (8 * q) (bytesOf x ++ bytesOf y)
+
+-- "instruction j to (IMM+j) modulo 2,048": n instructions from number j on, instruction j from words 2j and 2j + 1
+unfoldable pub copyInstructions : ℕ → ℕ → List ℕ → ℕ → ℕ → List ℕ → List ℕ
+copyInstructions size a ws zero j code = code
+copyInstructions size a ws (suc n) j code =
+    copyInstructions size a ws n (suc j) (storeInstruction code ((a + j) % size) (getD ws (2 * j) 0) (getD ws (2 * j + 1) 0))
+
+-- what waits of an UNPACK: nothing once its payload is complete
+unfoldable pub unpackWaits : Format → Unpacking → Waiting
+unpackWaits f u = if (eqb (u .due) 0) Nothing (UnpackDue f u)
+
+-- the UNPACK that a code without interrupt bit begins
+abbrev pub begunUnpack : Format → UnpackCode → Vif → Unpacking
+begunUnpack f u v = unpackingOf f (addressOf u (v .tops)) (u .num) (u .usn) (u .masked) false
+
+-- ROW and data memory after payload words of it
+abbrev pub unpackedWith : Vif → List ℕ → Format → UnpackCode → List ℕ → Written
+unpackedWith v mem f u ws = unpackedBy quadwords f (begunUnpack f u v) (writeRegisters v) ws (written (v .row) mem)
+
+-- all else is as it was, but for what waits
+abbrev pub unpackedFed : Vif → Path → ℕ → Lent → Format → UnpackCode → List ℕ → Waiting → Fed
+unpackedFed v p used m f u ws w =
+    fed (withWaiting (withRow v (unpackedWith v (m .mem) f u ws .row)) w) p used (lent (unpackedWith v (m .mem) f u ws .mem) (m .code) (m .log))
