@@ -2,3 +2,4 @@
 pub mod TagLaws
 pub mod ReadyLaws
 pub mod StepLaws
+pub mod AfterLaws

@@ -156,6 +156,7 @@ module _ {main : List ℕ} {s : State} {m : Lent} (r : Ready main s m) where
       let w2 = and-right (eqb (s .channel) 1 || eqb (at % 16) 0) _ w1 in
       record {
         some = omega arith;
+        few = leb-true n 262140 (and-left _ _ w2);
         aligned = eqb-true (at % 4) 0 (and-left _ _ w);
         whole = eqb-true ((at / 4 + n) % 4) 0 (and-right (leb n 262140) _ w2);
         inside = leb-true (at + 4 * n) (length main) i;

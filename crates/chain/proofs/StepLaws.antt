@@ -21,12 +21,15 @@ use Rattle.vif.proofs.StepLaws.{vif-tested}
 use Rattle.vif.proofs.KeepLaws.{step-kept}
 use Rattle.chain.specs.declared.TagWords.{TagWords}
 use Rattle.chain.specs.declared.Payload.{Payload}
+use Rattle.chain.specs.declared.StepAnswer.the-variants.{Completed, Refused}
+use Rattle.chain.specs.declared.StepResult.{StepResult}
 use Rattle.chain.specs.declared.State.{State}
 use Rattle.chain.specs.Memory.{longAt}
+use Rattle.chain.specs.Tags.{stepResult}
 use Rattle.chain.specs.Pending.{incomingAt}
-use Rattle.chain.specs.Inner.{Ready, QuadwordReady, byTaken}
-use Rattle.chain.specs.Step.{Stepped, stepped, afterVif, givenVif, vifGiven, afterGif, givenGif, gifGiven, payloadOrTag, pendingOrTag}
-use Rattle.chain.proofs.ReadyLaws.{unit-ready}
+use Rattle.chain.specs.Inner.{Ready, WordInside, PayloadInside, QuadwordReady, byTaken}
+use Rattle.chain.specs.Step.{Stepped, stepped, steppedBy, afterVif, givenVif, vifGiven, afterGif, givenGif, gifGiven, payloadOrTag, pendingOrTag}
+use Rattle.chain.proofs.ReadyLaws.{unit-ready, facts-of}
 
 -- what holds at the case that an arm knows holds at the value itself
 pub by-vif : {a b : VifAnswer} → a ≡ b → (o : VifLeft) (t : TagWords) (p : ℕ → Payload) (s : State) (m : Lent) {x : Stepped}
@@ -86,3 +89,31 @@ module _ {main : List ℕ} {s : State} {log : List ℕ} {a : ℕ} (r : QuadwordR
   gif-same {k} q =
       let w = step-wrote (s .path3) (s .used) log (log-fits log (s .used) (r .logged) .holds) (quadword (longAt main a) (longAt main (a + 8))) in
       ap (λ (o : GifLeft). o .log) (given-as ∙ w .same k (ap (λ (o : GifLeft). o .answer) (sym given-as) ∙ q))
+
+-- a pending quadword on channel 2
+pub quadword-ready : {main : List ℕ} {s : State} {m : Lent} {at n : ℕ} → Ready main s m → PayloadInside main s at n → s .channel ≡ 2
+    → QuadwordReady main at s (m .log)
+quadword-ready {main} {s} {m} {at} {n} r p c =
+    let f = facts-of r in
+    let i = p .inside in
+    let w = p .whole in
+    let q = p .quadwords c in
+    let k = p .some in
+    record { inside = omega arith; most = p .most; logged = f .logged; ranged = f .fields .path3 }
+
+-- a pending word and what follows it in its quadword
+pub word-inside : {main : List ℕ} {s : State} {at n : ℕ} → PayloadInside main s at n → WordInside main at
+word-inside p =
+    let i = p .inside in
+    let w = p .whole in
+    let a = p .aligned in
+    let k = p .some in
+    record { inside = omega arith; most = p .most }
+
+-- a word that VIF1 refused
+pub vif-refuses : {main : List ℕ} {s : State} {m : Lent} → Ready main s m → (a : ℕ) (t : TagWords) (p : ℕ → Payload) {n : Incoming} → n ≡ incomingAt main a
+    → {v : VifResult} {m′ : Lent} → vifLeft v m′ ≡ vifTakeOf (s .vif) (s .path2) n (s .used) m → {k : ℕ} → v .answer ≡ VifRefused k
+    → {r : StepResult} → r ≡ stepResult (Refused k) s → steppedBy r m′ ≡ vifGiven main a t p s m
+vif-refuses {main} {s} {m} r a t p en {v} {m′} e {k} q er =
+    vif-gave r a t p en e
+    (by-vif q (vifLeft v m′) t p s m (rw er (ap (λ (x : Lent). stepped (Refused k) s x) (vif-same r a t p en e q))))

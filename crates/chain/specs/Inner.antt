@@ -25,6 +25,7 @@ pub record WordInside (main : List ℕ) (a : ℕ) : Type 0 where
 -- pending payload lies inside
 pub record PayloadInside (main : List ℕ) (s : State) (at n : ℕ) : Type 0 where
   pub some : 1 ≤ n
+  pub few : n ≤ 262140
   pub aligned : at % 4 ≡ 0
   pub whole : (at / 4 + n) % 4 ≡ 0
   pub inside : at + 4 * n ≤ length main

@@ -1,3 +1,5 @@
+use Rattle.chain.proofs.StepLaws.{gif-gave, gif-same, by-gif}
+use mathlib.Core.Path.{_∙_, sym}
 use borrow.Author.Needs.{needs}
 use Rattle.chain.proofs.step.give_gif.Statement.{statement}
 use Rattle.chain.proofs.step.give_gif.Tie as tie
@@ -55,7 +57,7 @@ same-length c = search needs
 
 -- src/step.rt:60:1
 returns : tie.Need-returns
-returns c = ?
+returns c = λ mem code. gif-gave (c .before .before .before .before .before .before .before .before .before .before .before .before .before .before .before .pre) _ mem code (c .before .before .before .before .before .before .before .before .before .before .before .long-at .ensures) (c .before .before .before .before .before .before .before .before .before .before .long-at2 .ensures) (c .before .before .before .before .before .before .before .before .take-quadword .ensures) (by-gif (c .before .before .before .enum-told .given .1) _ _ _ _ (rw (c .answered .ensures, c .before .with-pending .ensures, c .before .before .with-path3 .ensures)))
 
 -- src/step.rt:60:1
 same-length-2 : tie.Need-same-length-2
@@ -63,7 +65,7 @@ same-length-2 c = search needs
 
 -- src/step.rt:60:1
 returns-2 : tie.Need-returns-2
-returns-2 c = ?
+returns-2 c = λ mem code. gif-gave (c .before .before .before .before .before .before .before .before .before .before .before .before .before .before .pre) _ mem code (c .before .before .before .before .before .before .before .before .before .before .long-at .ensures) (c .before .before .before .before .before .before .before .before .before .long-at2 .ensures) (c .before .before .before .before .before .before .before .take-quadword .ensures) (by-gif (c .before .before .answer .given .1) _ _ _ _ (rw (c .answered2 .ensures, gif-same (c .before .before .before .before .before .before .before .before .before .before .before .before .before .before .pre) (c .answered2 .result .state .payload) mem code (c .before .before .before .before .before .before .before .before .before .before .long-at .ensures) (c .before .before .before .before .before .before .before .before .before .long-at2 .ensures) (c .before .before .before .before .before .before .before .take-quadword .ensures) (c .before .before .answer .given .1))))
 
 pub give-gif-spec : {M : Type 1} → statement M
 give-gif-spec =

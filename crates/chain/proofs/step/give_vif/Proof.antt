@@ -1,3 +1,8 @@
+use Rattle.chain.proofs.StepLaws.{vif-refuses}
+use Rattle.chain.proofs.StepLaws.{vif-gave, vif-same, by-vif}
+use Rattle.chain.specs.Inner.{byTaken}
+use Rattle.fields.specs.Fields.{if}
+use mathlib.Core.Path.{_∙_, sym, ap}
 use borrow.Author.Needs.{needs}
 use Rattle.chain.proofs.step.give_vif.Statement.{statement}
 use Rattle.chain.proofs.step.give_vif.Tie as tie
@@ -59,7 +64,7 @@ answered-requires-3 c κs = search needs
 
 -- src/step.rt:26:1
 same-length : tie.Need-same-length
-same-length c = ?
+same-length c = c .before .before .before .before .before .before .before .before .before .before .before .before .before .before .take .kept .1 .1 .1 .0
 
 -- src/step.rt:26:1
 same-length-2 : tie.Need-same-length-2
@@ -71,11 +76,12 @@ same-length-3 c = search needs
 
 -- src/step.rt:26:1
 returns : tie.Need-returns
-returns c = ?
+unfolding if
+returns c = vif-gave (c .before .before .before .before .before .before .before .before .before .before .before .before .before .before .before .before .before .before .before .before .before .before .before .before .before .pre .0) (c .before .before .before .before .before .before .before .before .before .before .before .before .before .before .before .before .before .before .before .before .before .before .before .before .before .args .a) (c .before .before .before .before .before .before .before .before .before .before .before .before .before .before .before .before .before .before .before .before .before .before .before .before .before .args .tags) (byTaken (c .before .before .before .before .before .before .before .before .before .before .before .before .before .before .before .before .before .before .before .before .before .before .before .before .before .args .one) (c .before .before .before .before .before .before .before .before .before .before .before .before .before .before .before .before .before .before .before .before .before .before .before .before .before .args .four)) (c .before .before .before .before .before .before .before .before .before .before .before .before .before .before .before .before .before .before .incoming-at .ensures) (c .before .before .before .before .before .before .before .before .before .before .before .before .before .before .take .ensures) (by-vif (c .before .before .before .before .answer .given .1) _ _ _ _ _ (rw (c .answered .ensures, c .before .with-pending .ensures, c .before .before .with-unit .ensures)))
 
 -- src/step.rt:26:1
 same-length-4 : tie.Need-same-length-4
-same-length-4 c = ?
+same-length-4 c = c .before .before .before .before .before .before .before .before .before .before .before .before .before .before .take .kept .1 .1 .1 .0
 
 -- src/step.rt:26:1
 same-length-5 : tie.Need-same-length-5
@@ -87,7 +93,8 @@ same-length-6 c = search needs
 
 -- src/step.rt:26:1
 returns-2 : tie.Need-returns-2
-returns-2 c = ?
+unfolding if
+returns-2 c = vif-gave (c .before .before .before .before .before .before .before .before .before .before .before .before .before .before .before .before .before .before .before .before .before .before .before .before .before .pre .0) (c .before .before .before .before .before .before .before .before .before .before .before .before .before .before .before .before .before .before .before .before .before .before .before .before .before .args .a) (c .before .before .before .before .before .before .before .before .before .before .before .before .before .before .before .before .before .before .before .before .before .before .before .before .before .args .tags) (byTaken (c .before .before .before .before .before .before .before .before .before .before .before .before .before .before .before .before .before .before .before .before .before .before .before .before .before .args .one) (c .before .before .before .before .before .before .before .before .before .before .before .before .before .before .before .before .before .before .before .before .before .before .before .before .before .args .four)) (c .before .before .before .before .before .before .before .before .before .before .before .before .before .before .before .before .before .before .incoming-at .ensures) (c .before .before .before .before .before .before .before .before .before .before .before .before .before .before .take .ensures) (by-vif (c .before .before .before .before .answer2 .given .1) _ _ _ _ _ (rw (c .answered2 .ensures, c .before .with-pending2 .ensures, c .before .before .with-unit2 .ensures)))
 
 -- src/step.rt:26:1
 same-length-7 : tie.Need-same-length-7
@@ -103,7 +110,7 @@ same-length-9 c = search needs
 
 -- src/step.rt:26:1
 returns-3 : tie.Need-returns-3
-returns-3 c = ?
+returns-3 c = vif-refuses (c .before .before .before .before .before .before .before .before .before .before .before .before .before .before .before .before .before .before .before .before .before .before .before .pre .0) _ _ _ (c .before .before .before .before .before .before .before .before .before .before .before .before .before .before .before .before .incoming-at .ensures) (c .before .before .before .before .before .before .before .before .before .before .before .before .take .ensures) (c .before .before .answer3 .given .1) (c .answered3 .ensures)
 
 pub give-vif-spec : {M : Type 1} → statement M
 give-vif-spec =

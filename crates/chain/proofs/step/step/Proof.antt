@@ -1,3 +1,8 @@
+use Rattle.chain.proofs.StepLaws.{by-tags, same-pending}
+use Rattle.chain.proofs.ReadyLaws.{tag-word-inside}
+use Rattle.chain.specs.Step.{stepOf}
+use native.Mathlib.Omega.{arith}
+use mathlib.Core.Path.{_∙_, sym, refl}
 use borrow.Author.Needs.{needs}
 use Rattle.chain.proofs.step.step.Statement.{statement}
 use Rattle.chain.proofs.step.step.Tie as tie
@@ -21,11 +26,11 @@ enum-known-tags c = search needs
 
 -- src/step.rt:148:48
 tags-after-requires : tie.Need-tags-after-requires
-tags-after-requires c κs = ?
+tags-after-requires c κs = let w = tag-word-inside (c .before .before .before .before .before .before .before .pre) (c .before .tags .given .1) in let i = w .inside in let n = w .most in omega arith
 
 -- src/step.rt:148:30
 give-vif-requires : tie.Need-give-vif-requires
-give-vif-requires c κs = ?
+give-vif-requires c κs = (c .before .before .before .before .before .before .before .before .before .before .before .pre, tag-word-inside (c .before .before .before .before .before .before .before .before .before .before .before .pre) (c .before .before .before .before .before .tags .given .1))
 
 -- src/step.rt:134:1
 same-length : tie.Need-same-length
@@ -41,7 +46,8 @@ same-length-3 c = search needs
 
 -- src/step.rt:134:1
 returns : tie.Need-returns
-returns c = ?
+unfolding stepOf
+returns c = by-tags (c .before .before .before .before .before .before .before .before .before .before .enum-told .given .1) _ _ _ _ (c .before .before .before .before .before .before .take-payload-or-tag .ensures)
 
 -- src/step.rt:134:1
 same-length-4 : tie.Need-same-length-4
@@ -57,7 +63,8 @@ same-length-6 c = search needs
 
 -- src/step.rt:134:1
 returns-2 : tie.Need-returns-2
-returns-2 c = ?
+unfolding stepOf
+returns-2 c = by-tags (c .before .before .before .before .before .before .before .before .before .before .before .before .tags .given .1) _ _ _ _ (c .before .before .before .before .before .before .give-vif .ensures ∙ rw (c .before .before .before .before .before .before .before .before .before .before .tags-after .ensures) (same-pending _ _ _ (λ k. c .before .before .before .before .before .before .before .before .before .before .before .before .before .before .before .before .before .before .args .s .payload) _ _))
 
 pub step-spec : {M : Type 1} → statement M
 step-spec =

@@ -1,3 +1,10 @@
+use Rattle.chain.proofs.StepLaws.{same-pending, quadword-ready, word-inside}
+use Rattle.chain.specs.Pending.{payloadAfter}
+use Rattle.chain.specs.Step.{payloadStep}
+use Rattle.fields.specs.Fields.{if}
+use borrow.Author.Tests.{eq-eqb, ne-eqb}
+use native.Mathlib.Omega.{arith}
+use mathlib.Core.Path.{_∙_, sym}
 use borrow.Author.Needs.{needs}
 use Rattle.chain.proofs.step.take_payload.Statement.{statement}
 use Rattle.chain.proofs.step.take_payload.Tie as tie
@@ -13,7 +20,7 @@ payload-after-requires c κs = search needs
 
 -- src/step.rt:93:9
 give-gif-requires : tie.Need-give-gif-requires
-give-gif-requires c κs = ?
+give-gif-requires c κs = quadword-ready (c .before .before .before .before .before .before .before .before .pre .0) (c .before .before .before .before .before .before .before .before .pre .1) (c .before .if1 .taken)
 
 -- src/step.rt:93:9
 same-length : tie.Need-same-length
@@ -21,7 +28,8 @@ same-length c = search needs
 
 -- src/step.rt:93:9
 returns : tie.Need-returns
-returns c = ?
+unfolding payloadStep if
+returns c = rw (eq-eqb _ _ (c .before .before .before .before .if1 .taken), ← c .before .before .before .before .before .before .payload-after .ensures) (c .before .before .give-gif .ensures _ _)
 
 -- src/step.rt:100:9
 payload-after-requires-2 : tie.Need-payload-after-requires-2
@@ -45,7 +53,8 @@ same-length-4 c = search needs
 
 -- src/step.rt:79:1
 returns-2 : tie.Need-returns-2
-returns-2 c = ?
+unfolding payloadStep if
+returns-2 c = rw (ne-eqb _ _ (c .before .before .before .before .before .before .before .before .before .before .before .if1 .left)) (c .before .before .before .before .before .before .give-vif .ensures ∙ rw (c .before .before .before .before .before .before .before .before .before .before .payload-after2 .ensures, c .before .before .before .before .before .before .before .before .before .before .before .before .before .payload-after .ensures) (same-pending _ _ _ (payloadAfter (c .before .before .before .before .before .before .before .before .before .before .before .before .before .before .before .before .before .before .args .at) (c .before .before .before .before .before .before .before .before .before .before .before .before .before .before .before .before .before .before .args .n)) _ _))
 
 pub take-payload-spec : {M : Type 1} → statement M
 take-payload-spec =

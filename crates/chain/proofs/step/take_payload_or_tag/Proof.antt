@@ -1,3 +1,8 @@
+use Rattle.chain.proofs.StepLaws.{by-payload}
+use Rattle.chain.proofs.ReadyLaws.{tadr-below, main-most, payload-ready}
+use Rattle.fields.specs.Fields.{if}
+use borrow.Author.Tests.{eq-eqb, ne-eqb}
+use mathlib.Core.Path.{_∙_, sym}
 use borrow.Author.Needs.{needs}
 use Rattle.chain.proofs.step.take_payload_or_tag.Statement.{statement}
 use Rattle.chain.proofs.step.take_payload_or_tag.Tie as tie
@@ -12,7 +17,7 @@ enum-told c = search needs
 
 -- src/step.rt:122:29
 take-tag-requires : tie.Need-take-tag-requires
-take-tag-requires c κs = ?
+take-tag-requires c κs = (tadr-below (c .before .before .before .before .before .before .pre .0), main-most (c .before .before .before .before .before .before .pre .0))
 
 -- src/step.rt:123:26
 enum-known-payload : tie.Need-enum-known-payload
@@ -20,19 +25,20 @@ enum-known-payload c = search needs
 
 -- src/step.rt:125:17
 take-tag-requires-2 : tie.Need-take-tag-requires-2
-take-tag-requires-2 c κs = ?
+take-tag-requires-2 c κs = (tadr-below (c .before .before .before .before .before .before .before .before .pre .0), main-most (c .before .before .before .before .before .before .before .before .pre .0))
 
 -- src/step.rt:127:17
 take-payload-requires : tie.Need-take-payload-requires
-take-payload-requires c κs = ?
+take-payload-requires c κs = (c .before .before .before .before .before .before .before .before .before .before .before .pre .0, payload-ready (c .before .before .before .before .before .before .before .before .before .before .before .pre .0) (c .before .before .before .before .before .before .before .before .before .before .before .pre .1 ∙ c .before .before .before .before .before .payload .given .1) (c .before .before .before .if1 .left))
 
 -- src/step.rt:110:1
 returns : tie.Need-returns
-returns c = ?
+returns c = by-payload (c .before .enum-told .given .1) _ _ _ (rw (c .take-tag .ensures))
 
 -- src/step.rt:110:1
 returns-2 : tie.Need-returns-2
-returns-2 c = ?
+unfolding if
+returns-2 c = by-payload (c .before .before .before .payload .given .1) _ _ _ (rw (eq-eqb _ _ (c .before .if1 .taken), c .take-tag2 .ensures))
 
 -- src/step.rt:110:1
 same-length : tie.Need-same-length
@@ -48,7 +54,8 @@ same-length-3 c = search needs
 
 -- src/step.rt:110:1
 returns-3 : tie.Need-returns-3
-returns-3 c = ?
+unfolding if
+returns-3 c = by-payload (c .before .before .before .before .before .before .before .before .before .before .before .before .payload .given .1) _ _ _ (rw (ne-eqb _ _ (c .before .before .before .before .before .before .before .before .before .before .if1 .left)) (c .before .before .before .before .before .before .take-payload .ensures))
 
 pub take-payload-or-tag-spec : {M : Type 1} → statement M
 take-payload-or-tag-spec =
