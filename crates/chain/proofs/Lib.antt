@@ -3,3 +3,4 @@ pub mod TagLaws
 pub mod ReadyLaws
 pub mod StepLaws
 pub mod AfterLaws
+pub mod RunLaws

@@ -62,13 +62,13 @@ turn true f main s m = ran Done s 0 m
 turn false f main s m = onStep f (stepOf main s m) s m
 
 -- the steps of a run, by its allowance
-unfoldable pub steps : List ℕ → ℕ → State → Lent → Ran
-steps main zero s m = orStop (done s) Allowance s m
-steps main (suc n) s m = turn (done s) (steps main n) main s m
+unfoldable pub stepsOf : List ℕ → ℕ → State → Lent → Ran
+stepsOf main zero s m = orStop (done s) Allowance s m
+stepsOf main (suc n) s m = turn (done s) (stepsOf main n) main s m
 
 -- a run: the entry tests, then the steps
 abbrev pub entered : ℕ → List ℕ → ℕ → State → Lent → Ran
-entered n main allowance s m = if (eqb n 0) (steps main allowance s m) (ran (Refused n) s 0 m)
+entered n main allowance s m = if (eqb n 0) (stepsOf main allowance s m) (ran (Refused n) s 0 m)
 
 unfoldable pub runOf : List ℕ → ℕ → State → Lent → Ran
 runOf main allowance s m = entered (entryRefusal main m s) main allowance s m

@@ -1,0 +1,93 @@
+-- One turn of a run.
+use mathlib.Core.Path.{_≡_, refl, sym, ap, _∙_}
+use mathlib.Core.Bool.{Bool, true, false}
+use mathlib.Core.List.{List}
+use Prim.Native.Nat.{ℕ, zero, suc, _+_, _-_, _<_, _≤_}
+use native.Mathlib.Nat.{zero-add, add-zero, sub-zero}
+use native.Mathlib.Omega.{arith}
+use borrow.Author.Tests.{eq-eqb, ne-eqb}
+use lib.ListN.{length}
+use Rattle.fields.specs.Fields.{if}
+use Rattle.vif.specs.Step.{Lent, lent}
+use Rattle.chain.specs.declared.Answer.{Answer}
+use Rattle.chain.specs.declared.Answer.the-variants.{Done, Allowance, Interrupt, Refused}
+use Rattle.chain.specs.declared.StepAnswer.{StepAnswer}
+use Rattle.chain.specs.declared.StepAnswer.the-variants.{Completed, Refused as StepRefused}
+use Rattle.chain.specs.declared.State.{State}
+use Rattle.chain.specs.Range.{entryRefusal}
+use Rattle.chain.specs.Step.{Stepped, stepped, stepOf}
+use Rattle.chain.specs.Run.{Ran, ran, done, oneMore, afterStep, onStep, stepsOf, runOf}
+use Rattle.chain.proofs.AfterLaws.{step-same}
+
+-- a run with k steps before it
+abbrev pub plus : ℕ → Ran → Ran
+plus k r = record { answer = r .answer; after = r .after; steps = k + r .steps }
+
+by-answer : {a b : StepAnswer} → a ≡ b → (f : State → Lent → Ran) (x : Stepped) (s : State) (m : Lent) {y : Ran} → afterStep f b x s m ≡ y → afterStep f a x s m ≡ y
+by-answer q f x s m h = rw q h
+
+module _ (main : List ℕ) (s : State) (m : Lent) where
+  pub run-done : (n : ℕ) → done s ≡ true → stepsOf main n s m ≡ ran Done s 0 m
+  unfolding stepsOf
+  run-done zero h = rw h
+  run-done (suc n) h = rw h
+
+  pub run-out : (n : ℕ) → n ≡ 0 → done s ≡ false → stepsOf main n s m ≡ ran Allowance s 0 m
+  unfolding stepsOf
+  run-out n z h = rw (z, h)
+
+  module _ (n n′ : ℕ) (z : n ≡ suc n′) (h : done s ≡ false) {x : Stepped} (e : x ≡ stepOf main s m) where
+    one-turn : stepsOf main n s m ≡ onStep (stepsOf main n′) x s m
+    unfolding stepsOf
+    one-turn = rw (z, h, ← e)
+
+    pub run-goes : x .answer ≡ Completed false → stepsOf main n s m ≡ oneMore (stepsOf main n′ (x .after .state) (x .after .memories))
+    run-goes q = one-turn ∙ by-answer q (stepsOf main n′) x s m refl
+
+    pub run-interrupts : x .answer ≡ Completed true → stepsOf main n s m ≡ ran Interrupt (x .after .state) 1 (x .after .memories)
+    run-interrupts q = one-turn ∙ by-answer q (stepsOf main n′) x s m refl
+
+    pub run-refuses : {k : ℕ} → x .answer ≡ StepRefused k → stepsOf main n s m ≡ ran (Refused k) s 0 m
+    run-refuses q = one-turn ∙ by-answer q (stepsOf main n′) x s m refl
+
+-- ---- the loop's turns, with the steps before them
+
+module _ (main : List ℕ) (s : State) (m : Lent) (k allowance : ℕ) {w : Ran} (i : plus k (stepsOf main (allowance - k) s m) ≡ w) where
+  pub ends-done : done s ≡ true → ran Done s k m ≡ w
+  ends-done h = sym (ap (plus k) (run-done main s m (allowance - k) h) ∙ rw add-zero) ∙ i
+
+  pub ends-out : allowance ≤ k → done s ≡ false → ran Allowance s k m ≡ w
+  ends-out l h =
+      let z : allowance - k ≡ 0 = omega arith in
+      sym (ap (plus k) (run-out main s m (allowance - k) z h) ∙ rw add-zero) ∙ i
+
+  module _ (l : k < allowance) (h : done s ≡ false) {x : Stepped} (e : x ≡ stepOf main s m) where
+    left : allowance - k ≡ suc (allowance - (k + 1))
+    left = omega arith
+
+    pub goes-on : x .answer ≡ Completed false → plus (k + 1) (stepsOf main (allowance - (k + 1)) (x .after .state) (x .after .memories)) ≡ w
+    goes-on q =
+        let j = run-goes main s m (allowance - k) (allowance - (k + 1)) left h e q in
+        let t = stepsOf main (allowance - (k + 1)) (x .after .state) (x .after .memories) .steps in
+        let c : k + suc t ≡ k + 1 + t = omega arith in
+        sym (ap (plus k) j ∙ rw c) ∙ i
+
+    pub ends-interrupt : x .answer ≡ Completed true → ran Interrupt (x .after .state) (k + 1) (x .after .memories) ≡ w
+    ends-interrupt q = sym (ap (plus k) (run-interrupts main s m (allowance - k) (allowance - (k + 1)) left h e q)) ∙ i
+
+    pub ends-refused : {n : ℕ} → x .answer ≡ StepRefused n → ran (Refused n) s k (x .after .memories) ≡ w
+    ends-refused {n} q =
+        let same = step-same main s m x e n q in
+        rw (ap (λ (y : Stepped). y .after .memories) same)
+        (sym (ap (plus k) (run-refuses main s m (allowance - k) (allowance - (k + 1)) left h e q) ∙ rw add-zero) ∙ i)
+
+-- ---- the entry tests
+
+module _ (main : List ℕ) (allowance : ℕ) (s : State) (m : Lent) where
+  pub run-refused : {n : ℕ} → n ≡ entryRefusal main m s → (n ≡ 0 → ⊥) → ran (Refused n) s 0 m ≡ runOf main allowance s m
+  unfolding runOf if
+  run-refused {n} e z = rw (← e, ne-eqb n 0 z)
+
+  pub run-entered : entryRefusal main m s ≡ 0 → plus 0 (stepsOf main (allowance - 0) s m) ≡ runOf main allowance s m
+  unfolding runOf if
+  run-entered e = rw (e, sub-zero, zero-add)
