@@ -5,4 +5,5 @@ pub mod Execute
 pub mod Payload
 pub mod Range
 pub mod Step
+pub mod Block
 pub mod Inner

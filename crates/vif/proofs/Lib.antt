@@ -1,0 +1,2 @@
+-- Laws of the definitions, by subject; the crates above cite them.
+pub mod BlockLaws
