@@ -169,6 +169,9 @@ fn waiting_exists(block: [u32; 32]) -> bool
     if 1 < block[22] {
         return false;
     }
+    if block[21] == 1 {
+        return block[23] == 1;
+    }
     if block[21] == 7 {
         return unpack_exists(block);
     }

@@ -39,19 +39,32 @@ returns-3 c = rw (ne-eqb _ _ (c .before .before .if1 .left), le-leb _ _ (c .befo
 array-read-if4 : tie.Need-array-read-if4
 array-read-if4 c = search needs
 
--- src/block.rt:173:9
-unpack-exists-requires : tie.Need-unpack-exists-requires
-unpack-exists-requires c κs = search needs
+-- src/block.rt:173:16
+array-read-result : tie.Need-array-read-result
+array-read-result c = search needs
 
 -- src/block.rt:173:9
 returns-4 : tie.Need-returns-4
 unfolding waitingExists if
-returns-4 c = rw (ne-eqb _ _ (c .before .before .before .before .if1 .left), le-leb _ _ (c .before .before .before .if2 .left), le-leb _ _ (c .before .before .if3 .left), eq-eqb _ _ (c .before .if4 .taken), c .unpack-exists .ensures)
+returns-4 c = rw (ne-eqb _ _ (c .before .before .before .if1 .left), le-leb _ _ (c .before .before .if2 .left), le-leb _ _ (c .before .if3 .left), eq-eqb _ _ (c .if4 .taken))
 
--- src/block.rt:160:1
+-- src/block.rt:175:8
+array-read-if5 : tie.Need-array-read-if5
+array-read-if5 c = search needs
+
+-- src/block.rt:176:9
+unpack-exists-requires : tie.Need-unpack-exists-requires
+unpack-exists-requires c κs = search needs
+
+-- src/block.rt:176:9
 returns-5 : tie.Need-returns-5
 unfolding waitingExists if
-returns-5 c = rw (ne-eqb _ _ (c .before .before .before .if1 .left), le-leb _ _ (c .before .before .if2 .left), le-leb _ _ (c .before .if3 .left), ne-eqb _ _ (c .if4 .left))
+returns-5 c = rw (ne-eqb _ _ (c .before .before .before .before .before .if1 .left), le-leb _ _ (c .before .before .before .before .if2 .left), le-leb _ _ (c .before .before .before .if3 .left), ne-eqb _ _ (c .before .before .if4 .left), eq-eqb _ _ (c .before .if5 .taken), c .unpack-exists .ensures)
+
+-- src/block.rt:160:1
+returns-6 : tie.Need-returns-6
+unfolding waitingExists if
+returns-6 c = rw (ne-eqb _ _ (c .before .before .before .before .if1 .left), le-leb _ _ (c .before .before .before .if2 .left), le-leb _ _ (c .before .before .if3 .left), ne-eqb _ _ (c .before .if4 .left), ne-eqb _ _ (c .if5 .left))
 
 pub waiting-exists-spec : {M : Type 1} → statement M
 waiting-exists-spec =
@@ -64,6 +77,9 @@ waiting-exists-spec =
     array-read-if3
     returns-3
     array-read-if4
-    unpack-exists-requires
+    array-read-result
     returns-4
-    returns-5)
+    array-read-if5
+    unpack-exists-requires
+    returns-5
+    returns-6)
