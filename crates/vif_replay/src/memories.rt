@@ -32,16 +32,18 @@ pub(crate) fn fill_log(memory: &mut [u64], first: u64) {
     }
 }
 
+fn wide(x: u8) -> u32
+    ensures { λ r. ⌜ r < 256 ⌝ }
+{
+    x as u32
+}
+
 // Byte j of word k, 0 beyond the end.
 fn byte_of_word(memory: &[u8], k: u32, j: u32) -> u32
     ensures { λ r. ⌜ r < 256 ⌝ }
 {
     let i = k as usize * 4 + j as usize;
-    if i < memory.len() {
-        memory[i] as u32
-    } else {
-        0
-    }
+    if i < memory.len() { wide(memory[i]) } else { 0 }
 }
 
 // Word k of a byte memory; a last part of less than four bytes is filled up with zero.

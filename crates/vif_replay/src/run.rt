@@ -4,6 +4,7 @@ use super::Running;
 use super::changes::tell_code;
 use super::changes::tell_data;
 use super::changes::tell_log;
+use super::input::nth;
 use gif::Path;
 use gif::ReadPath;
 use vif::Incoming;
@@ -12,26 +13,20 @@ use vif::VifAnswer;
 use wire::emit;
 use wire::emit_all;
 use wire::emit_long;
-use wire::word_at;
 
-// Word i of a buffer.
-pub(crate) fn nth(words: &[u8], i: u32) -> u32 {
-    word_at(words, i as usize * 4)
-}
-
-fn after(words: &[u8], i: u32, k: u32) -> u32 {
-    nth(words, std::num::wrapping_add_u32(i, k))
+fn after(input: &[u64], i: u32, k: u32) -> u32 {
+    nth(input, std::num::wrapping_add_u32(i, k))
 }
 
 // The next word, with its number in its quadword.
-fn incoming(words: &[u8], i: u32, number: u32) -> Incoming {
-    let word = nth(words, i);
+fn incoming(input: &[u64], i: u32, number: u32) -> Incoming {
+    let word = nth(input, i);
     match number % 4 {
         0 => Incoming::Word0(
             word,
-            after(words, i, 1),
-            after(words, i, 2),
-            after(words, i, 3),
+            after(input, i, 1),
+            after(input, i, 2),
+            after(input, i, 3),
         ),
         1 => Incoming::Word1(word),
         2 => Incoming::Word2(word),
@@ -66,16 +61,17 @@ fn passed(answer: VifAnswer) -> u32 {
 fn call(
     out: &mut [u8; 65536],
     s: Running,
-    number: u32,
-    words: &[u8],
+    case: Case,
+    input: &[u64],
     data: &mut [u32],
     code: &mut [u8],
     log: &mut [u64],
 ) -> Running {
     let unit = s.unit;
     let path = s.path;
-    let place = std::num::wrapping_add_u32(number, s.next);
-    let next = incoming(words, s.next, place);
+    let i = std::num::wrapping_add_u32(case.groups, s.next);
+    let number = std::num::wrapping_add_u32(case.number, s.next);
+    let next = incoming(input, i, number);
     let r = vif::take(unit, path, next, data, code, log, s.used);
     let answer = r.answer;
     let unit2 = r.unit;
@@ -96,7 +92,7 @@ fn calls(
     start: Running,
     case: Case,
     count: u32,
-    words: &[u8],
+    input: &[u64],
     data: &mut [u32],
     code: &mut [u8],
     log: &mut [u64],
@@ -107,7 +103,7 @@ fn calls(
         if case.count <= s.next {
             return s;
         }
-        s = call(out, s, case.number, words, data, code, log);
+        s = call(out, s, case, input, data, code, log);
         left = left - 1;
     }
     s
@@ -161,13 +157,57 @@ fn read_back(s: Running, at: usize) -> Running {
     }
 }
 
+// What a group changed in the memories.
+fn tell_memories(
+    out: &mut [u8; 65536],
+    at: usize,
+    data: &[u32],
+    code: &[u8],
+    log: &[u64],
+    data_before: &mut [u32],
+    code_before: &mut [u8],
+    log_before: &mut [u64],
+) -> usize {
+    let a = tell_data(out, at, data, data_before);
+    let b = tell_code(out, a, code, code_before);
+    tell_log(out, b, log, log_before)
+}
+
+// One group: its calls, and its result.
+fn group(
+    out: &mut [u8; 65536],
+    s: Running,
+    case: Case,
+    k: u32,
+    input: &[u64],
+    data: &mut [u32],
+    code: &mut [u8],
+    log: &mut [u64],
+    data_before: &mut [u32],
+    code_before: &mut [u8],
+    log_before: &mut [u64],
+) -> Running {
+    let t = calls(out, s, case, nth(input, k), input, data, code, log);
+    let first = tell_state(out, t, case);
+    let at = tell_memories(
+        out,
+        first,
+        data,
+        code,
+        log,
+        data_before,
+        code_before,
+        log_before,
+    );
+    read_back(t, at)
+}
+
 // All groups of a case.
 pub(crate) fn run_groups(
     out: &mut [u8; 65536],
     start: Running,
     case: Case,
-    groups: &[u8],
-    words: &[u8],
+    input: &[u64],
     data: &mut [u32],
     code: &mut [u8],
     log: &mut [u64],
@@ -178,12 +218,19 @@ pub(crate) fn run_groups(
     let mut s = start;
     let mut k = 0;
     while k < case.groups {
-        let t = calls(out, s, case, nth(groups, k), words, data, code, log);
-        let a = tell_state(out, t, case);
-        let b = tell_data(out, a, data, data_before);
-        let c = tell_code(out, b, code, code_before);
-        let d = tell_log(out, c, log, log_before);
-        s = read_back(t, d);
+        s = group(
+            out,
+            s,
+            case,
+            k,
+            input,
+            data,
+            code,
+            log,
+            data_before,
+            code_before,
+            log_before,
+        );
         k += 1;
     }
     s.at
