@@ -6,3 +6,4 @@ pub mod MpgLaws
 pub mod KeepLaws
 pub mod RangeKept
 pub mod SheetLaws
+pub mod BlockLaws

@@ -6,4 +6,5 @@ pub mod Payload
 pub mod Range
 pub mod Step
 pub mod Feeds
+pub mod Block
 pub mod Inner

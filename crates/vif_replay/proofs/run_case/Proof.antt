@@ -1,0 +1,74 @@
+use borrow.Author.Needs.{needs}
+use Rattle.vif_replay.proofs.run_case.Statement.{statement}
+use Rattle.vif_replay.proofs.run_case.Tie as tie
+use Rattle.vif_replay.proofs.run_case.Reads as reads
+use Rattle.vif_replay.proofs.run_case.Lts as lts
+use Rattle.vif_replay.proofs.fill_all.Reads as fill-all-reads
+use Rattle.vif_replay.proofs.run.run_groups.Reads as run-groups-reads
+use Rattle.vif_replay.proofs.start.case_of.Reads as case-of-reads
+use Rattle.vif_replay.proofs.start.running_of.Reads as running-of-reads
+
+-- src/main.rt:120:5
+fill-all-requires : tie.Need-fill-all-requires
+fill-all-requires c κs = search needs
+
+-- src/main.rt:121:5
+fill-all-requires-2 : tie.Need-fill-all-requires-2
+fill-all-requires-2 c κs = search needs
+
+-- src/main.rt:124:9
+running-of-requires : tie.Need-running-of-requires
+running-of-requires c κs = search needs
+
+-- src/main.rt:125:9
+case-of-requires : tie.Need-case-of-requires
+case-of-requires c κs = search needs
+
+-- src/main.rt:122:9
+run-groups-requires : tie.Need-run-groups-requires
+run-groups-requires c κs = search needs
+
+-- src/main.rt:108:1
+same-length : tie.Need-same-length
+same-length c = let k = c .before .before .before .before .before .before .before .before .before .before .before .before .before .before .before .before .before .before .before .before .before .before .before .before .before .before .before .before .before .before .before .before .before .before .before .before .before .before .fill-all .kept in let j = c .before .before .before .before .before .before .before .before .before .before .before .before .run-groups .kept in search needs
+
+-- src/main.rt:108:1
+same-length-2 : tie.Need-same-length-2
+same-length-2 c = let k = c .before .before .before .before .before .before .before .before .before .before .before .before .before .before .before .before .before .before .before .before .before .before .before .before .before .before .before .before .before .before .before .before .before .before .before .before .before .before .fill-all .kept in let j = c .before .before .before .before .before .before .before .before .before .before .before .before .run-groups .kept in search needs
+
+-- src/main.rt:108:1
+same-length-3 : tie.Need-same-length-3
+same-length-3 c = let k = c .before .before .before .before .before .before .before .before .before .before .before .before .before .before .before .before .before .before .before .before .before .before .before .before .before .before .before .before .before .before .before .before .before .before .before .before .before .before .fill-all .kept in let j = c .before .before .before .before .before .before .before .before .before .before .before .before .run-groups .kept in search needs
+
+-- src/main.rt:108:1
+same-length-4 : tie.Need-same-length-4
+same-length-4 c = search needs
+
+-- src/main.rt:108:1
+same-length-5 : tie.Need-same-length-5
+same-length-5 c = search needs
+
+-- src/main.rt:108:1
+same-length-6 : tie.Need-same-length-6
+same-length-6 c = search needs
+
+-- src/main.rt:108:1
+returns : tie.Need-returns
+returns c = search needs
+
+pub run-case-spec : {M : Type 1} → statement M
+run-case-spec =
+    tie.close
+    (tie.spec
+    fill-all-requires
+    fill-all-requires-2
+    running-of-requires
+    case-of-requires
+    run-groups-requires
+    same-length
+    same-length-2
+    same-length-3
+    same-length-4
+    same-length-5
+    same-length-6
+    returns)

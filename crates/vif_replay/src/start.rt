@@ -1,0 +1,137 @@
+// What a case starts from, by its header.
+use super::Case;
+use super::Running;
+use gif::HeldTag;
+use gif::Path;
+use gif::Place;
+use gif::ReadPath;
+use gif::TagFormat;
+use wire::joined;
+use wire::word_at;
+
+// A path, and whether a block had it.
+struct FoundPath {
+    known: bool,
+    path: Path,
+}
+
+fn header_word(header: &[u8], k: u32) -> u32 {
+    word_at(header, k as usize * 4)
+}
+
+// Words of a header, from word `first` on.
+fn read_block(header: &[u8], first: u32, block: &mut [u32]) {
+    let mut k = first;
+    let mut i = 0;
+    while i < block.len() {
+        block[i] = header_word(header, k);
+        k = std::num::wrapping_add_u32(k, 1);
+        i += 1;
+    }
+}
+
+fn unit_words(header: &[u8]) -> [u32; 32] {
+    let mut block = [0u32; 32];
+    read_block(header, 8, &mut block);
+    block
+}
+
+fn path_words(header: &[u8]) -> [u32; 9] {
+    let mut block = [0u32; 9];
+    read_block(header, 40, &mut block);
+    block
+}
+
+// Stands for the path of a block that is no path's.
+fn out_of_range() -> Path {
+    Path {
+        q: 0,
+        place: Place::Data(HeldTag {
+            nloop: 0,
+            eop: false,
+            format: TagFormat::Image,
+            nreg: 0,
+            descriptors: 0,
+            due: 0,
+        }),
+    }
+}
+
+fn path_of(block: [u32; 9]) -> FoundPath {
+    match gif::path_in_block(block) {
+        ReadPath::Whole(path) => FoundPath { known: true, path },
+        ReadPath::Unknown => FoundPath {
+            known: false,
+            path: out_of_range(),
+        },
+    }
+}
+
+fn both(a: bool, b: bool) -> bool {
+    if a {
+        return b;
+    }
+    false
+}
+
+// A block that would be a unit's if its STMASK had one word due. It is out of range and no unit holds it, but it is shown like a unit's.
+fn other_stmask(block: [u32; 32]) -> bool {
+    if block[21] != 1 {
+        return false;
+    }
+    let mut one = block;
+    one[23] = 1;
+    let r = vif::unit_in_block(one);
+    r.known
+}
+
+// The words that mean nothing for an STMASK, as zero.
+fn cleared(block: [u32; 32]) -> [u32; 32] {
+    let mut b = block;
+    b[24] = 0;
+    b[25] = 0;
+    b[26] = 0;
+    b[27] = 0;
+    b[28] = 0;
+    b[29] = 0;
+    b[30] = 0;
+    b[31] = 0;
+    b
+}
+
+fn case_with(header: &[u8], known: bool, unit: [u32; 32], path: [u32; 9]) -> Case {
+    Case {
+        number: word_at(header, 196),
+        groups: word_at(header, 200),
+        count: word_at(header, 204),
+        known,
+        unit,
+        path,
+    }
+}
+
+pub(crate) fn case_of(header: &[u8]) -> Case {
+    let unit = unit_words(header);
+    let path = path_words(header);
+    let r = vif::unit_in_block(unit);
+    let p = path_of(path);
+    if both(other_stmask(unit), p.known) {
+        let found = p.path;
+        return case_with(header, r.known, cleared(unit), gif::path_block(found));
+    }
+    case_with(header, both(r.known, p.known), unit, path)
+}
+
+pub(crate) fn running_of(header: &[u8], at: usize) -> Running {
+    let r = vif::unit_in_block(unit_words(header));
+    let p = path_of(path_words(header));
+    let unit = r.unit;
+    let path = p.path;
+    Running {
+        at,
+        next: 0,
+        unit,
+        path,
+        used: joined(word_at(header, 16), word_at(header, 20)),
+    }
+}
