@@ -1,0 +1,82 @@
+-- Theorems about whole runs.
+use mathlib.Core.Path.{_≡_, refl, sym, ap, _∙_}
+use mathlib.Core.Bool.{Bool, true, false}
+use mathlib.Core.List.{List}
+use Prim.Native.Nat.{ℕ, zero, suc, _+_, _≤_}
+use native.Mathlib.Nat.{zero-add, suc-add}
+use native.Mathlib.Omega.{arith}
+use Rattle.vif.specs.Step.{Lent}
+use Rattle.chain.specs.declared.Answer.the-variants.{Done, Allowance, Interrupt, Refused}
+use Rattle.chain.specs.declared.StepAnswer.{StepAnswer}
+use Rattle.chain.specs.declared.StepAnswer.the-variants.{Completed, Refused as StepRefused}
+use Rattle.chain.specs.declared.State.{State}
+use Rattle.chain.specs.Range.{entryRefusal}
+use Rattle.chain.specs.Inner.{Ready}
+use Rattle.chain.specs.Step.{Machine, machine, Stepped, stepOf}
+use Rattle.chain.specs.Run.{Ran, ran, done, oneMore, afterStep, onStep, orStop, turn, stepsOf, runOf}
+use Rattle.chain.specs.Stops.{stepFrom, Reaches, here, step, Stops, at-end, at-allowance, at-interrupt, at-refusal}
+use Rattle.chain.proofs.AfterLaws.{step-stays}
+use Rattle.chain.proofs.RunLaws.{plus, run-goes}
+
+abbrev runFrom : List ℕ → ℕ → Machine → Ran
+runFrom main n x = stepsOf main n (x .state) (x .memories)
+
+-- ---- how a run stops
+
+one-more : (main : List ℕ) (n : ℕ) (x : Machine) (r : Ran) → done (x .state) ≡ false → stepFrom main x .answer ≡ Completed false
+    → Stops main n (stepFrom main x .after) r → Stops main (suc n) x (oneMore r)
+one-more main n x r d a (at-end e p h) = at-end e (step d a p) h
+one-more main n x r d a (at-allowance e c p h) = at-allowance e (ap suc c) (step d a p) h
+one-more main n x r d a (at-interrupt k y e c p h b q) = at-interrupt (suc k) y e (ap suc c) (step d a p) h b q
+one-more main n x r d a (at-refusal c e p h b) = at-refusal c e (step d a p) h b
+
+stop-now : (main : List ℕ) (x : Machine) (b : Bool) → done (x .state) ≡ b → Stops main 0 x (orStop b Allowance (x .state) (x .memories))
+stop-now main x true h = at-end refl here h
+stop-now main x false h = at-allowance refl refl here h
+
+turn-stops : (main : List ℕ) (n : ℕ) (x : Machine) (a : StepAnswer) → done (x .state) ≡ false → stepFrom main x .answer ≡ a
+    → ((y : Machine) → Stops main n y (runFrom main n y)) → Stops main (suc n) x (afterStep (stepsOf main n) a (stepFrom main x) (x .state) (x .memories))
+turn-stops main n x (Completed true) d e f = at-interrupt 0 x refl refl here d e refl
+turn-stops main n x (Completed false) d e f = one-more main n x _ d e (f (stepFrom main x .after))
+turn-stops main n x (StepRefused c) d e f = at-refusal c refl here d e
+
+-- a run stops only at the end, at an interrupt mark, at a refusal or at the end of the allowance
+pub run-stops : (main : List ℕ) (n : ℕ) (x : Machine) → Stops main n x (runFrom main n x)
+unfolding stepsOf
+run-stops main zero x = stop-now main x (done (x .state)) refl
+run-stops main (suc n) x = go (run-stops main n) (done (x .state)) refl
+  where
+    go : ((y : Machine) → Stops main n y (runFrom main n y)) → (b : Bool) → done (x .state) ≡ b
+        → Stops main (suc n) x (turn b (stepsOf main n) main (x .state) (x .memories))
+    go f true h = at-end refl here h
+    go f false h = turn-stops main n x (stepFrom main x .answer) h refl f
+
+-- ---- steps compose
+
+pub reaches-join : {main : List ℕ} {i j : ℕ} {x y z : Machine} → Reaches main i x y → Reaches main j y z → Reaches main (i + j) x z
+reaches-join {main} {i} {j} here q = rw (zero-add j) q
+reaches-join {main} {i} {j} (step {k} d a p) q = rw (suc-add k j) (step d a (reaches-join p q))
+
+-- a run goes on from where some of its steps led
+pub run-from : {main : List ℕ} {k : ℕ} {x y : Machine} → Reaches main k x y → (n : ℕ) → runFrom main (k + n) x ≡ plus k (runFrom main n y)
+run-from {main} here n = rw (zero-add n, zero-add (runFrom main n _ .steps))
+run-from {main} (step {k} {x} {z} d a p) n =
+    run-goes main (x .state) (x .memories) (suc k + n) (k + n) (suc-add k n) d refl a
+    ∙ ap oneMore (run-from p n)
+    ∙ rw (suc-add k (runFrom main n z .steps))
+
+-- ---- what a run leaves is accepted by the next run with the same memories
+
+ready-along : {main : List ℕ} {k : ℕ} {x y : Machine} → Reaches main k x y → Ready main (x .state) (x .memories) → Ready main (y .state) (y .memories)
+ready-along here r = r
+ready-along {main} (step {k} {x} d a p) r = ready-along p (step-stays r (stepFrom main x) refl false a)
+
+ready-after : (main : List ℕ) (n : ℕ) (x : Machine) (o : Ran) → Stops main n x o → Ready main (x .state) (x .memories) → Ready main (o .after .state) (o .after .memories)
+ready-after main n x o (at-end e p h) r = ready-along p r
+ready-after main n x o (at-allowance e c p h) r = ready-along p r
+ready-after main n x o (at-interrupt k y e c p h b q) r = rw q (step-stays (ready-along p r) (stepFrom main y) refl true b)
+ready-after main n x o (at-refusal c e p h b) r = ready-along p r
+
+pub run-accepted : (main : List ℕ) (n : ℕ) (s : State) (m : Lent) → entryRefusal main m s ≡ 0
+    → entryRefusal main (stepsOf main n s m .after .memories) (stepsOf main n s m .after .state) ≡ 0
+run-accepted main n s m h = ready-after main n (machine s m) (stepsOf main n s m) (run-stops main n (machine s m)) (record { passed = h }) .passed
