@@ -11,6 +11,7 @@ test:
 	{ rt ci 2>&1; echo $$? > build/ci.status; } | tee build/ci.log; test "$$(cat build/ci.status)" = 0
 	$(MAKE) second
 	$(SECOND) compare-gif target/bin/gif_replay 1,2,3 20000
+	$(SECOND) compare-vif target/bin/vif_replay 1,2,3 100000
 	@tail -n 1 build/ci.log
 
 # The proofs and the programs alone.
