@@ -8,8 +8,10 @@ use crate::random::Random;
 use crate::words::word;
 use std::time::Instant;
 
-const TRIES: usize = 3;
-const SMALL: u32 = 1;
+pub const TRIES: usize = 3;
+pub const SMALL: u32 = 1;
+/// Numbers of rounds to compare results with before any is measured.
+const FEW: [u32; 4] = [0, 1, 2, 5];
 /// Aimed at for a run with the large number of rounds, in seconds.
 const AIM: f64 = 0.7;
 
@@ -26,7 +28,12 @@ pub fn bench_gif(program: &Program) -> Result<(), String> {
         "input", "program", "second", "ratio"
     );
     for (name, data) in inputs() {
-        let (theirs, ours) = measure(program, &own, &data).map_err(|e| format!("{name}: {e}"))?;
+        let timed = Timed {
+            input: &|rounds| input(rounds, &data),
+            units: data.len() as f64,
+            refusals: 0,
+        };
+        let (theirs, ours) = measure(program, &own, &timed).map_err(|e| format!("{name}: {e}"))?;
         println!(
             "{:<14} {:>8.2} {:>8.2} {:>7.2}",
             name,
@@ -38,6 +45,15 @@ pub fn bench_gif(program: &Program) -> Result<(), String> {
     Ok(())
 }
 
+/// A timing input for any number of rounds.
+pub struct Timed<'a> {
+    pub input: &'a dyn Fn(u32) -> Vec<u8>,
+    /// What a round has of what the time is measured for.
+    pub units: f64,
+    /// The word of the result that counts refusals.
+    pub refusals: usize,
+}
+
 fn seconds(program: &Program, input: &[u8]) -> Result<(f64, Vec<u8>), String> {
     let start = Instant::now();
     let output = program.run(input)?;
@@ -45,11 +61,11 @@ fn seconds(program: &Program, input: &[u8]) -> Result<(f64, Vec<u8>), String> {
 }
 
 /// A number of rounds that takes about the time aimed at.
-fn large_rounds(program: &Program, data: &[u128]) -> Result<u32, String> {
-    let (start_up, _) = seconds(program, &input(SMALL, data))?;
+fn large_rounds(program: &Program, timed: &Timed) -> Result<u32, String> {
+    let (start_up, _) = seconds(program, &(timed.input)(SMALL))?;
     let mut rounds = 64u32;
     loop {
-        let (time, _) = seconds(program, &input(rounds, data))?;
+        let (time, _) = seconds(program, &(timed.input)(rounds))?;
         let net = time - start_up;
         if net > 0.1 {
             let wanted = rounds as f64 * AIM / net;
@@ -62,35 +78,39 @@ fn large_rounds(program: &Program, data: &[u128]) -> Result<u32, String> {
     }
 }
 
-/// Nanoseconds per quadword of both programs.
-fn measure(program: &Program, own: &Program, data: &[u128]) -> Result<(f64, f64), String> {
-    let both = [program, own];
-    let rounds = [large_rounds(program, data)?, large_rounds(own, data)?];
-    for rounds in [0, SMALL, rounds[0].min(rounds[1])] {
-        let given = input(rounds, data);
-        let (theirs, ours) = (program.run(&given)?, own.run(&given)?);
-        if theirs != ours {
-            return Err(format!(
-                "{rounds} rounds: results differ: {theirs:02X?}, ours {ours:02X?}"
-            ));
-        }
-        if word(&ours, 0) != 0 {
-            return Err(format!(
-                "{rounds} rounds: {} quadwords were refused",
-                word(&ours, 0)
-            ));
-        }
+/// Both programs give the same result, without a refusal.
+fn check_same(program: &Program, own: &Program, timed: &Timed, rounds: u32) -> Result<(), String> {
+    let given = (timed.input)(rounds);
+    let (theirs, ours) = (program.run(&given)?, own.run(&given)?);
+    if theirs != ours {
+        return Err(format!(
+            "{rounds} rounds: results differ: {theirs:02X?}, ours {ours:02X?}"
+        ));
     }
+    match word(&ours, timed.refusals) {
+        0 => Ok(()),
+        refusals => Err(format!("{rounds} rounds: {refusals} refusals")),
+    }
+}
+
+/// Nanoseconds per unit of both programs, once their results are the same.
+pub fn measure(program: &Program, own: &Program, timed: &Timed) -> Result<(f64, f64), String> {
+    for rounds in FEW {
+        check_same(program, own, timed, rounds)?;
+    }
+    let both = [program, own];
+    let rounds = [large_rounds(program, timed)?, large_rounds(own, timed)?];
+    check_same(program, own, timed, rounds[0].min(rounds[1]))?;
     let mut small = [f64::MAX; 2];
     let mut large = [f64::MAX; 2];
     for _ in 0..TRIES {
         for i in 0..2 {
-            small[i] = small[i].min(seconds(both[i], &input(SMALL, data))?.0);
-            large[i] = large[i].min(seconds(both[i], &input(rounds[i], data))?.0);
+            small[i] = small[i].min(seconds(both[i], &(timed.input)(SMALL))?.0);
+            large[i] = large[i].min(seconds(both[i], &(timed.input)(rounds[i]))?.0);
         }
     }
     let each = |i: usize| {
-        let given = (rounds[i] - SMALL) as f64 * data.len() as f64;
+        let given = (rounds[i] - SMALL) as f64 * timed.units;
         (large[i] - small[i]) / given * 1e9
     };
     Ok((each(0), each(1)))

@@ -51,7 +51,7 @@ fn tag_words(id: u32, qwc: u32, addr: u32) -> [u32; 2] {
 }
 
 /// A tag whose words 2 and 3 are zero.
-fn tag(id: u32, qwc: u32, addr: u32) -> [u32; 4] {
+pub fn tag(id: u32, qwc: u32, addr: u32) -> [u32; 4] {
     let [low, high] = tag_words(id, qwc, addr);
     [low, high, 0, 0]
 }

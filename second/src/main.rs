@@ -1,11 +1,14 @@
 //! The second program: made from the documents alone, to be compared with the proved one.
 
 mod bench;
+mod bench_chain;
+mod bench_inputs;
 mod capture_cases;
 mod capture_compare;
 mod capture_counts;
 mod capture_generate;
 mod chain;
+mod chain_time;
 mod compare;
 mod gif;
 mod gif_cases;
@@ -41,6 +44,8 @@ usage:
   second capture [--counts] < CASES > RESULTS
   second generate-capture SEED RUNS > CASES
   second compare-capture PROGRAM SEED[,SEED..] RUNS
+  second bench-chain PROGRAM
+  second time-chain < INPUT > RESULT
 PROGRAM is the path of an executable; one argument may hold a path and its arguments.
 ";
 
@@ -95,6 +100,8 @@ fn command(arguments: &[&str]) -> Option<Result<(), String>> {
             let program = compare::Program::parse(program);
             capture_compare::compare(&program, &compare::seeds(seeds)?, runs.parse().ok()?)
         }
+        ["bench-chain", program] => bench_chain::bench_chain(&compare::Program::parse(program)),
+        ["time-chain"] => time_chain(),
         _ => return None,
     };
     Some(done)
@@ -132,6 +139,13 @@ fn capture_results(with_counts: bool) -> Result<(), String> {
 
 fn time_gif() -> Result<(), String> {
     match gif_time::result(&read()?) {
+        Some(result) => write(&result),
+        None => Ok(()),
+    }
+}
+
+fn time_chain() -> Result<(), String> {
+    match chain_time::result(&read()?) {
         Some(result) => write(&result),
         None => Ok(()),
     }

@@ -1,0 +1,303 @@
+//! Chains to measure: every run of them answers 0.
+
+use crate::capture_generate::tag;
+use crate::chain::{CALL, CNT, END, NEXT, REF, RET};
+use crate::chain_time::MOST_QUADWORDS;
+use crate::gif::Tag;
+use crate::gif_generate::tag_quadword;
+use crate::random::Random;
+use crate::vif_counts::all_formats;
+use crate::vif_generate::{code_word, legal_cycle, payload_word, random_mask, stcycl};
+
+const NOP: u32 = 0;
+const STMOD: u32 = 0x05;
+const STMASK: u32 = 0x20;
+const STROW: u32 = 0x30;
+const STCOL: u32 = 0x31;
+const MPG: u32 = 0x4A;
+const DIRECT: u32 = 0x50;
+const DIRECTHL: u32 = 0x51;
+const UNPACK: u32 = 0x60;
+const MASKED: u32 = 0x10;
+const S_8: u32 = UNPACK | 0x2;
+const V3_16: u32 = UNPACK | 0x9;
+const V4_32: u32 = UNPACK | 0xC;
+/// EOP in the first word of a GIF tag.
+const EOP: u128 = 1 << 15;
+
+/// Words of payload of an input that caches are to hold.
+const SMALL_WORDS: usize = 8_192;
+/// The most quadwords of payload behind one cnt tag: four whole V4-32 with their codes.
+const CNT_QUADWORDS: usize = 1_025;
+
+/// What a time is given for.
+#[derive(Clone, Copy, PartialEq, Eq)]
+pub enum Per {
+    PayloadWord,
+    Step,
+}
+
+pub struct ChainInput {
+    pub name: &'static str,
+    pub per: Per,
+    pub channel: u32,
+    pub main: Vec<u32>,
+    /// What the chain's tags hand over in a round.
+    pub payload: Vec<u32>,
+}
+
+/// The input to set beside a copy.
+pub const LARGE: &str = "1 MiB V4-32";
+
+/// All inputs.
+pub fn inputs() -> Vec<ChainInput> {
+    let random = &mut Random::new(1);
+    let word = |name, payload| cnt_chain(name, Per::PayloadWord, 1, payload);
+    let step = |name, channel, payload| cnt_chain(name, Per::Step, channel, payload);
+    let most = 4 * most_cnt_payload();
+    vec![
+        word("V4-32", v4_32(random, SMALL_WORDS)),
+        word("V3-16 mask mode 2", v3_16_masked(random)),
+        word("S-8", s_8(random)),
+        word("MPG", mpg(random)),
+        word("DIRECT", direct(random)),
+        step(LARGE, 1, v4_32(random, most)),
+        mixed(random),
+        step("channel 2 IMAGE", 2, image(random)),
+    ]
+}
+
+/// The most quadwords of payload in the longest main memory beside their tags.
+fn most_cnt_payload() -> usize {
+    let fits = |&quadwords: &usize| quadwords + quadwords.div_ceil(CNT_QUADWORDS) < MOST_QUADWORDS;
+    (1..MOST_QUADWORDS).rev().find(fits).unwrap_or(1)
+}
+
+/// The payload behind cnt tags, then an end tag.
+fn cnt_chain(name: &'static str, per: Per, channel: u32, mut payload: Vec<u32>) -> ChainInput {
+    pad(&mut payload);
+    let mut main = Vec::new();
+    for part in payload.chunks(4 * CNT_QUADWORDS) {
+        put_tagged(&mut main, CNT, 0, part);
+    }
+    main.extend(tag(END, 0, 0));
+    ChainInput {
+        name,
+        per,
+        channel,
+        main,
+        payload,
+    }
+}
+
+/// NOPs to a whole quadword.
+fn pad(words: &mut Vec<u32>) {
+    words.resize(words.len().next_multiple_of(4), NOP);
+}
+
+/// A tag and the payload behind it.
+fn put_tagged(main: &mut Vec<u32>, id: u32, to: usize, payload: &[u32]) {
+    main.extend(tag(id, payload.len() as u32 / 4, 4 * to as u32));
+    main.extend(payload);
+}
+
+fn put_quadword(words: &mut Vec<u32>, quadword: u128) {
+    words.extend((0..4).map(|i| (quadword >> (32 * i)) as u32));
+}
+
+fn put_random(random: &mut Random, words: &mut Vec<u32>, count: usize) {
+    words.extend((0..count).map(|_| random.word()));
+}
+
+/// Exactly so many words: V4-32 of 256 vectors, the last one shorter.
+fn v4_32(random: &mut Random, count: usize) -> Vec<u32> {
+    let mut words = vec![stcycl(1, 1), code_word(STMOD, 0, 0)];
+    let mut address = 0;
+    while words.len() + 5 <= count {
+        let vectors = ((count - words.len() - 1) / 4).min(256);
+        words.push(code_word(V4_32, vectors as u32 % 256, address));
+        put_random(random, &mut words, 4 * vectors);
+        address = (address + 256) % 1_024;
+    }
+    words.resize(count, NOP);
+    words
+}
+
+fn v3_16_masked(random: &mut Random) -> Vec<u32> {
+    let mut words = vec![stcycl(4, 2), code_word(STMOD, 0, 2)];
+    // Rows 0 and 1, the only ones at WL 2, have all four codes.
+    words.extend([code_word(STMASK, 0, 0), 0x4EB1_1BE4]);
+    words.push(code_word(STROW, 0, 0));
+    put_random(random, &mut words, 4);
+    words.push(code_word(STCOL, 0, 0));
+    put_random(random, &mut words, 4);
+    while words.len() < SMALL_WORDS {
+        let address = random.below(1_024) as u32;
+        words.push(code_word(V3_16 | MASKED, 0, address));
+        put_random(random, &mut words, 256 * 48 / 32);
+    }
+    words
+}
+
+fn s_8(random: &mut Random) -> Vec<u32> {
+    let mut words = vec![stcycl(1, 1), code_word(STMOD, 0, 0)];
+    while words.len() < SMALL_WORDS {
+        let address = random.below(1_024) as u32;
+        words.push(code_word(S_8, 0, address));
+        put_random(random, &mut words, 256 * 8 / 32);
+    }
+    words
+}
+
+fn mpg(random: &mut Random) -> Vec<u32> {
+    let mut words = Vec::new();
+    while words.len() < SMALL_WORDS {
+        let address = random.below(2_048) as u32;
+        words.push(code_word(MPG, 0, address));
+        put_random(random, &mut words, 2 * 256);
+    }
+    words
+}
+
+/// DIRECT with A+D packets.
+fn direct(random: &mut Random) -> Vec<u32> {
+    let mut words = Vec::new();
+    while words.len() < SMALL_WORDS {
+        let packet = tag_quadword(255, 0, 1, 0xE) | EOP;
+        put_direct(random, &mut words, DIRECT, packet);
+    }
+    words
+}
+
+/// DIRECT or DIRECTHL with a whole GIF packet, at word 0 of a quadword.
+fn put_direct(random: &mut Random, words: &mut Vec<u32>, command: u32, packet: u128) {
+    let data = Tag::decode(packet).all_data() as usize;
+    words.resize((words.len() + 1).next_multiple_of(4) - 1, NOP);
+    words.push(code_word(command, 0, data as u32 + 1));
+    put_quadword(words, packet);
+    put_random(random, words, 4 * data);
+}
+
+/// GIF packets of IMAGE data, two log entries for each quadword: 60,000 in all.
+fn image(random: &mut Random) -> Vec<u32> {
+    let mut words = Vec::new();
+    for _ in 0..30 {
+        put_quadword(&mut words, tag_quadword(1_000, 2, 1, 0) | EOP);
+        put_random(random, &mut words, 4 * 1_000);
+    }
+    words
+}
+
+/// All tags that do not end the chain but refs, and all VIF codes.
+fn mixed(random: &mut Random) -> ChainInput {
+    let mut main = Vec::new();
+    let mut payload = Vec::new();
+    for _ in 0..12 {
+        let [a, b, c, d, e, f] = std::array::from_fn(|_| mixed_payload(random));
+        let base = main.len();
+        let referred = base + 16 + a.len() + c.len() + d.len();
+        let called = referred + b.len();
+        let end = called + 8 + e.len() + f.len();
+        put_tagged(&mut main, CNT, 0, &a);
+        main.extend(tag(REF, b.len() as u32 / 4, 4 * referred as u32));
+        put_tagged(&mut main, CALL, called, &c);
+        put_tagged(&mut main, NEXT, end, &d);
+        main.extend(&b);
+        put_tagged(&mut main, CNT, 0, &e);
+        put_tagged(&mut main, RET, 0, &f);
+        payload.extend([a, b, c, e, f, d].concat());
+    }
+    main.extend(tag(END, 0, 0));
+    ChainInput {
+        name: "mixed",
+        per: Per::Step,
+        channel: 1,
+        main,
+        payload,
+    }
+}
+
+/// Whole quadwords of VIF codes with their payload.
+fn mixed_payload(random: &mut Random) -> Vec<u32> {
+    let mut words = vec![legal_cycle(random)];
+    for _ in 0..24 {
+        match random.below(12) {
+            0..=3 => put_small_code(random, &mut words),
+            4 => put_register_words(random, &mut words),
+            5 => {
+                let count = random.within(1..=32) as u32;
+                words.push(code_word(MPG, count, random.word() & 0xFFFF));
+                put_random(random, &mut words, 2 * count as usize);
+            }
+            6 => {
+                let command = random.pick(&[DIRECT, DIRECTHL]);
+                let packet = mixed_packet(random);
+                put_direct(random, &mut words, command, packet);
+            }
+            _ => put_unpack(random, &mut words),
+        }
+    }
+    pad(&mut words);
+    words
+}
+
+/// A code without payload.
+fn put_small_code(random: &mut Random, words: &mut Vec<u32>) {
+    let commands = [
+        0x00, 0x01, 0x02, 0x03, 0x04, 0x05, 0x06, 0x07, 0x10, 0x11, 0x13, 0x14, 0x15, 0x17,
+    ];
+    words.push(match random.pick(&commands) {
+        0x01 => legal_cycle(random),
+        STMOD => code_word(STMOD, 0, random.below(3) as u32),
+        command => code_word(command, 0, random.word() & 0xFFFF),
+    });
+}
+
+/// STMASK, STROW or STCOL.
+fn put_register_words(random: &mut Random, words: &mut Vec<u32>) {
+    let command = random.pick(&[STMASK, STROW, STCOL]);
+    words.push(code_word(command, 0, 0));
+    if command == STMASK {
+        words.push(random_mask(random));
+    } else {
+        put_random(random, words, 4);
+    }
+}
+
+/// UNPACK in any format.
+fn put_unpack(random: &mut Random, words: &mut Vec<u32>) {
+    let format = random.pick(&all_formats());
+    let masked = random.pick(&[0, MASKED]);
+    let count = random.within(1..=64) as u32;
+    let imm = random.word() & 0xC3FF;
+    words.push(code_word(UNPACK | masked | format.number(), count, imm));
+    let payload = (count * format.vector_bits()).div_ceil(32);
+    words.extend((0..payload).map(|_| payload_word(random)));
+}
+
+/// A GIF tag with a little data in any format, without descriptor B.
+fn mixed_packet(random: &mut Random) -> u128 {
+    let descriptors = 0xFEDC_0A98_7654_3012;
+    let nreg = random.below(16);
+    tag_quadword(random.within(0..=4), random.below(4), nreg, descriptors) | EOP
+}
+
+#[cfg(test)]
+mod tests {
+    use super::*;
+    use crate::chain_time::{input, result};
+    use crate::words::{number, word};
+
+    #[test]
+    fn runs_answer_0_and_rounds_are_alike() {
+        for chain in inputs() {
+            let full = chain.main.len() == 4 * MOST_QUADWORDS;
+            assert_eq!(full, chain.name == LARGE);
+            let run = |rounds| result(&input(rounds, chain.channel, &chain.main)).unwrap();
+            let (one, three) = (run(1), run(3));
+            assert_eq!(word(&three, 2), 0, "{}", chain.name);
+            assert_eq!(number(&three, 0), 3 * number(&one, 0), "{}", chain.name);
+            assert_eq!(chain.payload.len() % 4, 0);
+        }
+    }
+}
