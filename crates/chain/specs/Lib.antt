@@ -7,4 +7,5 @@ pub mod Range
 pub mod Step
 pub mod Start
 pub mod Run
+pub mod Block
 pub mod Inner
