@@ -4,3 +4,4 @@ pub mod ReadyLaws
 pub mod StepLaws
 pub mod AfterLaws
 pub mod RunLaws
+pub mod BlockLaws

@@ -139,9 +139,13 @@ bitsExist b = leb (getD b 2 0) 1 && (leb (getD b 3 0) 1 && (leb (getD b 4 0) 2 &
 unfoldable pub pathsExist : List ℕ → Bool
 pathsExist b = pathKnown (pathInBlock (path2Words b)) && pathKnown (pathInBlock (path3Words b))
 
--- whether 63 words are a state's; a unit or path block must be a unit's or a path's
+-- a unit or path block must be a unit's or a path's
+unfoldable pub devicesExist : List ℕ → Bool
+devicesExist b = unitInBlock (unitWords b) .known && pathsExist b
+
+-- whether 63 words are a state's
 unfoldable pub stateExists : List ℕ → Bool
-stateExists b = bitsExist b && (unitInBlock (unitWords b) .known && pathsExist b)
+stateExists b = bitsExist b && devicesExist b
 
 -- the stack by words 4 to 6; what lies above its depth is ignored
 unfoldable pub stackInBlock : List ℕ → Stack

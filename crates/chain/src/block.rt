@@ -4,14 +4,16 @@ use super::ReadState;
 use super::Stack;
 use super::State;
 use super::TagWords;
-use super::control::reset;
 use gif::Path;
 use gif::Place;
 use gif::ReadPath;
+use vif::Vif;
+use vif::Waiting;
 ghost use mathlib.Core.Path.{_≡_};
 ghost use Prim.Native.Nat.{_+_, _*_, _^_};
 ghost use Rattle.gif.specs.Block.{bitOf};
-ghost use Rattle.chain.specs.Block.{stackWords, tagWords, payloadWords, chainWords, stateBlock, unitWords, path2Words, path3Words, pathKnown, pathHeld, bitsExist, pathsExist, stateExists, stackInBlock, tagsInBlock, payloadInBlock, usedInBlock, heldState, noState, stateInBlock};
+ghost use Rattle.chain.specs.Start.{resetPath, resetUnit};
+ghost use Rattle.chain.specs.Block.{stackWords, tagWords, payloadWords, chainWords, stateBlock, unitWords, path2Words, path3Words, pathKnown, pathHeld, bitsExist, pathsExist, devicesExist, stateExists, stackInBlock, tagsInBlock, payloadInBlock, usedInBlock, heldState, noState, stateInBlock};
 
 fn bit(b: bool) -> u32
     ensures { λ r. ⌜ r ≡ bitOf b ⌝ }
@@ -243,10 +245,7 @@ fn path_held(read: ReadPath) -> Path
 {
     match read {
         ReadPath::Whole(path) => path,
-        ReadPath::Unknown => Path {
-            q: 0,
-            place: Place::Idle,
-        },
+        ReadPath::Unknown => reset_path(),
     }
 }
 
@@ -276,18 +275,24 @@ fn paths_exist(block: [u32; 63]) -> bool
     false
 }
 
-fn state_exists(block: [u32; 63]) -> bool
-    ensures { λ r. ⌜ r ≡ stateExists block ⌝ }
+fn devices_exist(block: [u32; 63]) -> bool
+    ensures { λ r. ⌜ r ≡ devicesExist block ⌝ }
 {
     let u = vif::unit_in_block(unit_words(block));
     let known = u.known;
-    if !bits_exist(block) {
-        return false;
+    if known {
+        return paths_exist(block);
     }
-    if !known {
-        return false;
+    false
+}
+
+fn state_exists(block: [u32; 63]) -> bool
+    ensures { λ r. ⌜ r ≡ stateExists block ⌝ }
+{
+    if bits_exist(block) {
+        return devices_exist(block);
     }
-    paths_exist(block)
+    false
 }
 
 fn stack_in_block(block: [u32; 63]) -> Stack
@@ -321,10 +326,16 @@ fn payload_in_block(block: [u32; 63]) -> Payload
     }
 }
 
+fn joined(low: u32, high: u32) -> u64
+    ensures { λ r. ⌜ r ≡ low + high * 2 ^ 32 ⌝ }
+{
+    low as u64 + high as u64 * 4294967296
+}
+
 fn used_in_block(block: [u32; 63]) -> u64
     ensures { λ r. ⌜ r ≡ usedInBlock block ⌝ }
 {
-    block[11] as u64 + block[12] as u64 * 4294967296
+    joined(block[11], block[12])
 }
 
 fn held_state(block: [u32; 63]) -> State
@@ -352,15 +363,57 @@ fn held_state(block: [u32; 63]) -> State
     }
 }
 
+fn reset_path() -> Path
+    ensures { λ r. ⌜ r ≡ resetPath ⌝ }
+{
+    Path {
+        q: 0,
+        place: Place::Idle,
+    }
+}
+
+fn reset_unit() -> Vif
+    ensures { λ r. ⌜ r ≡ resetUnit ⌝ }
+{
+    Vif {
+        cl: 0,
+        wl: 0,
+        ofst: 0,
+        base: 0,
+        tops: 0,
+        top: 0,
+        itops: 0,
+        itop: 0,
+        dbf: false,
+        mode: 0,
+        mskpath3: false,
+        mark: 0,
+        mask: 0,
+        row: [0, 0, 0, 0],
+        col: [0, 0, 0, 0],
+        waiting: Waiting::Nothing,
+    }
+}
+
 // Stands for the state of words that are no state's: the reset state on channel 0, out of range, with the entries used that the words say.
 fn no_state(used: u64) -> State
     ensures { λ r. ⌜ r ≡ noState used ⌝ }
 {
-    let s = reset();
+    let vif = reset_unit();
+    let path2 = reset_path();
+    let path3 = reset_path();
     State {
         channel: 0,
+        tadr: 0,
+        tte: false,
+        ended: false,
+        stack: Stack::Empty,
+        tags: TagWords::Nothing,
+        payload: Payload::Nothing,
         used,
-        ..s
+        vif,
+        path2,
+        path3,
     }
 }
 
