@@ -14,11 +14,19 @@ fn plus(s: Sum, x: u64) -> Sum {
     }
 }
 
+fn plus_word(s: Sum, x: u32) -> Sum {
+    plus(s, x as u64)
+}
+
+fn plus_byte(s: Sum, x: u8) -> Sum {
+    plus(s, x as u64)
+}
+
 fn data_sum(memory: &[u32]) -> Sum {
     let mut s = Sum { a: 0, b: 0 };
     let mut i = 0;
     while i < memory.len() {
-        s = plus(s, memory[i] as u64);
+        s = plus_word(s, memory[i]);
         i += 1;
     }
     s
@@ -28,7 +36,7 @@ fn code_sum(memory: &[u8]) -> Sum {
     let mut s = Sum { a: 0, b: 0 };
     let mut i = 0;
     while i < memory.len() {
-        s = plus(s, memory[i] as u64);
+        s = plus_byte(s, memory[i]);
         i += 1;
     }
     s
