@@ -48,19 +48,19 @@ run-calls-requires c κs = search needs
 
 -- src/main.rt:68:1
 same-length : tie.Need-same-length
-same-length c = search needs
+same-length c = let k = c .before .before .before .before .before .before .before .before .before .before .before .before .before .before .before .before .before .before .before .before .before .before .before .before .before .before .before .before .before .before .before .before .before .before .before .before .before .before .before .before .before .before .before .before .before .clear .kept in search needs
 
 -- src/main.rt:68:1
 same-length-2 : tie.Need-same-length-2
-same-length-2 c = search needs
+same-length-2 c = let k = c .before .before .before .before .before .before .before .before .before .before .before .before .before .before .before .before .before .before .before .before .before .before .before .before .before .before .before .before .before .before .before .before .before .before .before .before .before .before .before .fill-all .kept in let j = c .before .before .before .before .before .before .before .before .before .before .before .before .run-calls .kept in search needs
 
 -- src/main.rt:68:1
 same-length-3 : tie.Need-same-length-3
-same-length-3 c = search needs
+same-length-3 c = let k = c .before .before .before .before .before .before .before .before .before .before .before .before .before .before .before .before .before .before .before .before .before .before .before .before .before .before .before .before .before .before .before .before .before .before .before .before .before .before .before .fill-all .kept in let j = c .before .before .before .before .before .before .before .before .before .before .before .before .run-calls .kept in search needs
 
 -- src/main.rt:68:1
 same-length-4 : tie.Need-same-length-4
-same-length-4 c = search needs
+same-length-4 c = let k = c .before .before .before .before .before .before .before .before .before .before .before .before .before .before .before .before .before .before .before .before .before .before .before .before .before .before .before .before .before .before .before .before .before .before .before .before .before .before .before .fill-all .kept in let j = c .before .before .before .before .before .before .before .before .before .before .before .before .run-calls .kept in search needs
 
 -- src/main.rt:68:1
 same-length-5 : tie.Need-same-length-5

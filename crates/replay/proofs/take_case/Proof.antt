@@ -1,3 +1,6 @@
+use lib.Seq.{length-take-le}
+use mathlib.Core.Path.{sym}
+use native.Mathlib.Nat.{le-trans}
 use borrow.Author.Needs.{needs}
 use Rattle.replay.proofs.take_case.Statement.{statement}
 use Rattle.replay.proofs.take_case.Tie as tie
@@ -73,7 +76,7 @@ slice-relend-prefix-run-case c = search needs
 
 -- src/main.rt:135:9
 slice-aggregate-run-case : tie.Need-slice-aggregate-run-case
-slice-aggregate-run-case c = search needs
+slice-aggregate-run-case c = sym (length-take-le _ _ (c .before .before .before .before .before .before .before .before .if1 .left))
 
 -- src/main.rt:136:9
 slice-relend-prefix-run-case-2 : tie.Need-slice-relend-prefix-run-case-2
@@ -81,7 +84,7 @@ slice-relend-prefix-run-case-2 c = search needs
 
 -- src/main.rt:136:9
 slice-aggregate-run-case-2 : tie.Need-slice-aggregate-run-case-2
-slice-aggregate-run-case-2 c = search needs
+slice-aggregate-run-case-2 c = sym (length-take-le _ _ (le-trans (c .before .before .before .before .before .before .before .if2 .left) (c .before .before .before .before .before .before .before .before .least .ensures .0)))
 
 -- src/main.rt:137:9
 slice-relend-prefix-run-case-3 : tie.Need-slice-relend-prefix-run-case-3
@@ -89,7 +92,7 @@ slice-relend-prefix-run-case-3 c = search needs
 
 -- src/main.rt:137:9
 slice-aggregate-run-case-3 : tie.Need-slice-aggregate-run-case-3
-slice-aggregate-run-case-3 c = search needs
+slice-aggregate-run-case-3 c = sym (length-take-le _ _ (le-trans (c .before .before .before .before .before .before .if3 .left) (c .before .before .before .before .before .before .before .least2 .ensures .0)))
 
 -- src/main.rt:138:9
 slice-relend-prefix-run-case-4 : tie.Need-slice-relend-prefix-run-case-4
@@ -97,7 +100,7 @@ slice-relend-prefix-run-case-4 c = search needs
 
 -- src/main.rt:138:9
 slice-aggregate-run-case-4 : tie.Need-slice-aggregate-run-case-4
-slice-aggregate-run-case-4 c = search needs
+slice-aggregate-run-case-4 c = sym (length-take-le _ _ (le-trans (c .before .before .before .before .before .if4 .left) (c .before .before .before .before .before .before .least3 .ensures .0)))
 
 -- src/main.rt:139:9
 slice-relend-prefix-run-case-5 : tie.Need-slice-relend-prefix-run-case-5
@@ -105,7 +108,7 @@ slice-relend-prefix-run-case-5 c = search needs
 
 -- src/main.rt:139:9
 slice-aggregate-run-case-5 : tie.Need-slice-aggregate-run-case-5
-slice-aggregate-run-case-5 c = search needs
+slice-aggregate-run-case-5 c = sym (length-take-le _ _ (le-trans (c .before .before .before .before .before .before .before .before .before .before .if2 .left) (c .before .before .before .before .before .before .before .before .before .before .before .least .ensures .1)))
 
 -- src/main.rt:140:9
 slice-relend-prefix-run-case-6 : tie.Need-slice-relend-prefix-run-case-6
@@ -113,7 +116,7 @@ slice-relend-prefix-run-case-6 c = search needs
 
 -- src/main.rt:140:9
 slice-aggregate-run-case-6 : tie.Need-slice-aggregate-run-case-6
-slice-aggregate-run-case-6 c = search needs
+slice-aggregate-run-case-6 c = sym (length-take-le _ _ (le-trans (c .before .before .before .before .before .before .before .before .before .if3 .left) (c .before .before .before .before .before .before .before .before .before .before .least2 .ensures .1)))
 
 -- src/main.rt:141:9
 slice-relend-prefix-run-case-7 : tie.Need-slice-relend-prefix-run-case-7
@@ -121,7 +124,7 @@ slice-relend-prefix-run-case-7 c = search needs
 
 -- src/main.rt:141:9
 slice-aggregate-run-case-7 : tie.Need-slice-aggregate-run-case-7
-slice-aggregate-run-case-7 c = search needs
+slice-aggregate-run-case-7 c = sym (length-take-le _ _ (le-trans (c .before .before .before .before .before .before .before .before .if4 .left) (c .before .before .before .before .before .before .before .before .before .least3 .ensures .1)))
 
 -- src/main.rt:130:5
 run-case-requires : tie.Need-run-case-requires

@@ -10,11 +10,11 @@ use Rattle.replay.proofs.run.call.Reads as call-reads
 
 abbrev Inv-loop : tie.InvT-loop
 Inv-loop out₀ case calls main data₀ code₀ log₀ data-before₀ code-before₀ log-before₀ s₀ k₀ out «data» code log data-before code-before log-before s k =
-    ?
+    (length «data» ≡ length data₀) × (length code ≡ length code₀) × (length log ≡ length log₀) × (length data-before ≡ length data-before₀) × (length code-before ≡ length code-before₀) × (length log-before ≡ length log-before₀)
 
 abbrev μ-loop : tie.MeasureT-loop
 μ-loop out₀ case calls main data₀ code₀ log₀ data-before₀ code-before₀ log-before₀ s₀ k₀ out «data» code log data-before code-before log-before s k =
-    ?
+    case .count - k
 
 -- src/run.rt:216:5
 loop-holds : tie.Need-loop-holds Inv-loop μ-loop
