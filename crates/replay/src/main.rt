@@ -236,6 +236,33 @@ fn run_all(
     }
 }
 
+// The two largest buffers, as slices.
+fn run_on(
+    out: &mut [u8; 65536],
+    header: &mut [u8],
+    calls: &mut [u8; 1048560],
+    main: &mut [u8; 1048608],
+    data: &mut [u32],
+    code: &mut [u8],
+    log: &mut [u64],
+    data_before: &mut [u32],
+    code_before: &mut [u8],
+    log_before: &mut [u64],
+) {
+    run_all(
+        out,
+        header,
+        calls,
+        main,
+        data,
+        code,
+        log,
+        data_before,
+        code_before,
+        log_before,
+    );
+}
+
 fn main() {
     let mut out = [0u8; 65536];
     let mut header = [0u8; 292];
@@ -247,7 +274,7 @@ fn main() {
     let mut data_before = [0u32; 4100];
     let mut code_before = [0u8; 16392];
     let mut log_before = [0u64; 131080];
-    run_all(
+    run_on(
         &mut out,
         &mut header,
         &mut calls,

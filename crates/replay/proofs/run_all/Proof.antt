@@ -124,7 +124,7 @@ loop-less c = search needs
 
 -- src/main.rt:213:5
 loop-again : tie.Need-loop-again Inv-loop μ-loop
-loop-again c = search needs
+loop-again c = let k = c .before .before .before .before .before .before .before .before .before .before .before .before .before .before .before .before .before .before .next-case .kept in let h = c .before .before .before .before .before .before .before .before .before .before .before .before .before .before .before .before .before .before .before .before .before .before .before .before .before .before .before .before .before .before .before .before .read-header .kept in let i = c .before .before .before .before .before .before .before .before .before .before .before .before .before .before .before .before .before .before .before .before .before .before .before .before .before .before .before .before .before .before .before .before .before .before .before .before .loop .inv in (search needs, search needs, search needs, search needs, search needs, search needs, search needs, search needs, search needs)
 
 -- src/main.rt:199:1
 same-length-19 : tie.Need-same-length-19 Inv-loop μ-loop
