@@ -12,6 +12,7 @@ test:
 	$(MAKE) second
 	$(SECOND) compare-gif target/bin/gif_replay 1,2,3 20000
 	$(SECOND) compare-vif target/bin/vif_replay 1,2,3 100000
+	$(SECOND) compare-capture target/bin/replay 1,2,3 2000
 	@tail -n 1 build/ci.log
 
 # The proofs and the programs alone.

@@ -5,3 +5,4 @@ pub mod StepLaws
 pub mod AfterLaws
 pub mod RunLaws
 pub mod Theorems
+pub mod BlockLaws

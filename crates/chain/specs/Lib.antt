@@ -8,4 +8,5 @@ pub mod Step
 pub mod Start
 pub mod Run
 pub mod Stops
+pub mod Block
 pub mod Inner

@@ -1,4 +1,5 @@
 // The DMA chain on channel 1 (VIF1) or 2 (GIF): state, start and run. What each function means is said by the definitions of specs/.
+mod block;
 mod control;
 mod execution;
 mod memory;
@@ -8,6 +9,8 @@ mod setters;
 mod step;
 mod tags;
 
+pub use block::state_block;
+pub use block::state_in_block;
 pub use control::reset;
 pub use control::start;
 pub use execution::run;
@@ -77,4 +80,10 @@ pub struct RunResult {
     pub answer: Answer,
     pub state: State,
     pub steps: u64,
+}
+
+// What a state block holds, and whether it is a state's.
+pub struct ReadState {
+    pub known: bool,
+    pub state: State,
 }

@@ -1,0 +1,82 @@
+use borrow.Author.Needs.{needs}
+use Rattle.replay.proofs.next_case.Statement.{statement}
+use Rattle.replay.proofs.next_case.Tie as tie
+use Rattle.replay.proofs.next_case.Reads as reads
+use Rattle.replay.proofs.next_case.Lts as lts
+use Rattle.replay.proofs.input.read_case.Reads as read-case-reads
+use Rattle.replay.proofs.take_case.Reads as take-case-reads
+
+-- src/main.rt:159:9
+read-case-requires : tie.Need-read-case-requires
+read-case-requires c κs = search needs
+
+-- src/main.rt:160:9
+same-length : tie.Need-same-length
+same-length c = search needs
+
+-- src/main.rt:160:9
+same-length-2 : tie.Need-same-length-2
+same-length-2 c = search needs
+
+-- src/main.rt:160:9
+returns : tie.Need-returns
+returns c = search needs
+
+-- src/main.rt:162:5
+take-case-requires : tie.Need-take-case-requires
+take-case-requires c κs = search needs
+
+-- src/main.rt:146:1
+same-length-3 : tie.Need-same-length-3
+same-length-3 c = search needs
+
+-- src/main.rt:146:1
+same-length-4 : tie.Need-same-length-4
+same-length-4 c = search needs
+
+-- src/main.rt:146:1
+same-length-5 : tie.Need-same-length-5
+same-length-5 c = search needs
+
+-- src/main.rt:146:1
+same-length-6 : tie.Need-same-length-6
+same-length-6 c = search needs
+
+-- src/main.rt:146:1
+same-length-7 : tie.Need-same-length-7
+same-length-7 c = search needs
+
+-- src/main.rt:146:1
+same-length-8 : tie.Need-same-length-8
+same-length-8 c = search needs
+
+-- src/main.rt:146:1
+same-length-9 : tie.Need-same-length-9
+same-length-9 c = search needs
+
+-- src/main.rt:146:1
+same-length-10 : tie.Need-same-length-10
+same-length-10 c = search needs
+
+-- src/main.rt:146:1
+returns-2 : tie.Need-returns-2
+returns-2 c = search needs
+
+pub next-case-spec : {M : Type 1} → statement M
+next-case-spec =
+    tie.close
+    (tie.spec
+    read-case-requires
+    same-length
+    same-length-2
+    returns
+    take-case-requires
+    same-length-3
+    same-length-4
+    same-length-5
+    same-length-6
+    same-length-7
+    same-length-8
+    same-length-9
+    same-length-10
+    returns-2)

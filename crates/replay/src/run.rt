@@ -1,0 +1,234 @@
+// The calls of a case, and their results.
+use super::Case;
+use super::Running;
+use super::changes::tell_code;
+use super::changes::tell_data;
+use super::changes::tell_log;
+use super::input::call_word;
+use super::sums::tell_sums;
+use super::whole::tell_whole;
+use chain::Answer;
+use chain::StartAnswer;
+use chain::StartResult;
+use chain::State;
+use wire::emit;
+use wire::emit_all;
+use wire::emit_long;
+use wire::joined;
+
+fn start_number(answer: StartAnswer) -> u32 {
+    match answer {
+        StartAnswer::Started => 0,
+        StartAnswer::Refused(n) => n,
+    }
+}
+
+fn run_number(answer: Answer) -> u32 {
+    match answer {
+        Answer::Done => 0,
+        Answer::Allowance => 90,
+        Answer::Interrupt => 91,
+        Answer::Refused(n) => n,
+    }
+}
+
+// The block that a result shows.
+fn shown(case: Case, state: State) -> [u32; 63] {
+    if case.known {
+        return chain::state_block(state);
+    }
+    case.given
+}
+
+fn tell_state(out: &mut [u8; 65536], at: usize, case: Case, state: State) -> usize {
+    let block = shown(case, state);
+    emit_all(out, at, &block)
+}
+
+// A start; a TTE above 1 is out of range.
+fn started(state: State, channel: u32, tadr: u32, tte: u32) -> StartResult {
+    if 1 < tte {
+        return StartResult {
+            answer: StartAnswer::Refused(5),
+            state,
+        };
+    }
+    chain::start(state, channel, tadr, tte == 1)
+}
+
+fn start_call(out: &mut [u8; 65536], s: Running, case: Case, calls: &[u8], k: u32) -> Running {
+    let state = s.state;
+    let r = started(
+        state,
+        call_word(calls, k, 1),
+        call_word(calls, k, 2),
+        call_word(calls, k, 3),
+    );
+    let answer = r.answer;
+    let left = r.state;
+    let n = emit(out, s.at, start_number(answer));
+    let at = tell_state(out, n, case, left);
+    Running { at, state: left }
+}
+
+// What a run changed in the memories, and their sums.
+fn tell_changes(
+    out: &mut [u8; 65536],
+    at: usize,
+    data: &[u32],
+    code: &[u8],
+    log: &[u64],
+    data_before: &mut [u32],
+    code_before: &mut [u8],
+    log_before: &mut [u64],
+) -> usize {
+    let a = tell_data(out, at, data, data_before);
+    let b = tell_code(out, a, code, code_before);
+    let c = tell_log(out, b, log, log_before);
+    tell_sums(out, c, data, code, log)
+}
+
+fn tell_memories(
+    out: &mut [u8; 65536],
+    at: usize,
+    whole: bool,
+    data: &[u32],
+    code: &[u8],
+    log: &[u64],
+    data_before: &mut [u32],
+    code_before: &mut [u8],
+    log_before: &mut [u64],
+) -> usize {
+    if whole {
+        return tell_whole(out, at, data, code, log);
+    }
+    tell_changes(
+        out,
+        at,
+        data,
+        code,
+        log,
+        data_before,
+        code_before,
+        log_before,
+    )
+}
+
+// A run, and its result but for the memories.
+fn run_chain(
+    out: &mut [u8; 65536],
+    s: Running,
+    case: Case,
+    allowance: u64,
+    main: &[u8],
+    data: &mut [u32],
+    code: &mut [u8],
+    log: &mut [u64],
+) -> Running {
+    let state = s.state;
+    let r = chain::run(main, data, code, log, state, allowance);
+    let answer = r.answer;
+    let left = r.state;
+    let a = emit(out, s.at, run_number(answer));
+    let b = emit_long(out, a, r.steps);
+    let at = tell_state(out, b, case, left);
+    Running { at, state: left }
+}
+
+fn run_call(
+    out: &mut [u8; 65536],
+    s: Running,
+    case: Case,
+    allowance: u64,
+    main: &[u8],
+    data: &mut [u32],
+    code: &mut [u8],
+    log: &mut [u64],
+    data_before: &mut [u32],
+    code_before: &mut [u8],
+    log_before: &mut [u64],
+) -> Running {
+    let r = run_chain(out, s, case, allowance, main, data, code, log);
+    let left = r.state;
+    let at = tell_memories(
+        out,
+        r.at,
+        case.whole,
+        data,
+        code,
+        log,
+        data_before,
+        code_before,
+        log_before,
+    );
+    Running { at, state: left }
+}
+
+fn call(
+    out: &mut [u8; 65536],
+    s: Running,
+    case: Case,
+    calls: &[u8],
+    k: u32,
+    main: &[u8],
+    data: &mut [u32],
+    code: &mut [u8],
+    log: &mut [u64],
+    data_before: &mut [u32],
+    code_before: &mut [u8],
+    log_before: &mut [u64],
+) -> Running {
+    if call_word(calls, k, 0) == 1 {
+        return start_call(out, s, case, calls, k);
+    }
+    let allowance = joined(call_word(calls, k, 1), call_word(calls, k, 2));
+    run_call(
+        out,
+        s,
+        case,
+        allowance,
+        main,
+        data,
+        code,
+        log,
+        data_before,
+        code_before,
+        log_before,
+    )
+}
+
+// All calls of a case.
+pub(crate) fn run_calls(
+    out: &mut [u8; 65536],
+    start: Running,
+    case: Case,
+    calls: &[u8],
+    main: &[u8],
+    data: &mut [u32],
+    code: &mut [u8],
+    log: &mut [u64],
+    data_before: &mut [u32],
+    code_before: &mut [u8],
+    log_before: &mut [u64],
+) -> usize {
+    let mut s = start;
+    let mut k = 0;
+    while k < case.count {
+        s = call(
+            out,
+            s,
+            case,
+            calls,
+            k,
+            main,
+            data,
+            code,
+            log,
+            data_before,
+            code_before,
+            log_before,
+        );
+        k += 1;
+    }
+    s.at
+}
