@@ -380,7 +380,8 @@ held-of : (b : List ℕ) (s : State)
 unfolding heldState
 held-of b s e1 e2 e3 e4 e5 e6 e7 e8 e9 e10 e11 = rw (e1, e2, e3, e4, e5, e6, e7, e8, e9, e10, e11)
 
--- writing a state and reading the block gives the state back; ROW and COL are four words in every unit, and no run leaves a payload of no words
+-- writing a state and reading the block gives the state back; ROW and COL are four words in every unit, and a payload of no words, which is read back as none,
+-- is left out
 pub state-back : (s : State)
     → length (s .vif .row) ≡ 4
     → length (s .vif .col) ≡ 4
