@@ -24,8 +24,9 @@ second:
 
 # Times beside the second program, in one run.
 bench: second
-	rt check gif_bench
+	rt check gif_bench chain_bench
 	$(SECOND) bench-gif target/bin/gif_bench
+	$(SECOND) bench-chain target/bin/chain_bench
 
 clean:
 	rm -rf build target
