@@ -37,6 +37,7 @@ use Rattle.vif.specs.declared.UnpackCode.{UnpackCode}
 use Rattle.vif.specs.declared.Decoded.the-variants.{Known}
 use Rattle.vif.specs.declared.Incoming.{Incoming}
 use Rattle.vif.specs.declared.Incoming.the-variants.{Word0}
+use Rattle.vif.specs.declared.VifAnswer.{VifAnswer}
 use Rattle.vif.specs.declared.VifAnswer.the-variants.{Word, Quadword}
 use Rattle.vif.specs.declared.Waiting.{Waiting}
 use Rattle.vif.specs.declared.Waiting.the-variants.{Nothing, MpgDue, DirectDue, UnpackDue}
@@ -46,26 +47,25 @@ use Rattle.vif.specs.Codes.{quadwordsOf, interruptOf, decodeOf, codeOf, 
 use Rattle.vif.specs.Execute.{started, startProgram, setMode, beginMpg, addressOf, cycleRefused, beginUnpack, executeOf}
 use Rattle.vif.specs.Payload.{completes, orNothing, bytesOf, wordPlace, mpgStored, writeRegisters}
 use Rattle.vif.specs.Step.{Lent, lent, leaves, wordIn, afterCode, codeStep, giveQuadword, unpackStep, vifStep}
-use Rattle.vif.specs.Feeds.{Fed, fed, Feeds, none, word, quad, wordsIn, QuadwordsIn, no-quadword, one-quadword, Zeros, one-zero, storeInstruction, copyInstructions, unpackWaits, begunUnpack, unpackedFed}
+use Rattle.vif.specs.Feeds.{Fed, fed, Feeds, none, more, aWord, aQuadword, wordsIn, QuadwordsIn, no-quadword, one-quadword, Zeros, one-zero, storeInstruction, copyInstructions, unpackWaits, begunUnpack, unpackedFed}
 use Rattle.vif.proofs.StepLaws.{by-waiting}
 
 -- ---- steps one after another
 
 -- steps, and then more of them
-pub feeds-join : {x y z : Fed} {ns ms : List Incoming} → Feeds x ns y → Feeds y ms z → Feeds x (ns ++ ms) z
+pub feeds-join : {a : VifAnswer} {x y z : Fed} {ns ms : List Incoming} → Feeds a x ns y → Feeds a y ms z → Feeds a x (ns ++ ms) z
 feeds-join none q = q
-feeds-join (word e p) q = word e (feeds-join p q)
-feeds-join (quad e p) q = quad e (feeds-join p q)
+feeds-join (more e p) q = more e (feeds-join p q)
 
 -- a list of incoming words by its first one
 pub feeds-cons : {x y : Fed} {a : ℕ} {ws : List ℕ} (ns : List Incoming) → wordsIn ns ≡ a ∷ ws
-    → ((n : Incoming) (ms : List Incoming) → wordIn n ≡ a → wordsIn ms ≡ ws → Feeds x (n ∷ ms) y)
-    → Feeds x ns y
+    → ((n : Incoming) (ms : List Incoming) → wordIn n ≡ a → wordsIn ms ≡ ws → Feeds aWord x (n ∷ ms) y)
+    → Feeds aWord x ns y
 feeds-cons [] e k = absurd (let z : _≡_ {A = ℕ} 0 1 = cc in omega arith)
 feeds-cons (n ∷ ms) e k = k n ms (cc) (cc)
 
 -- what is left may be written in another way
-pub feeds-as : {x y z : Fed} {ns : List Incoming} → Feeds x ns y → y ≡ z → Feeds x ns z
+pub feeds-as : {a : VifAnswer} {x y z : Fed} {ns : List Incoming} → Feeds a x ns y → y ≡ z → Feeds a x ns z
 feeds-as f e = rw (← e) f
 
 -- ---- a code's own step
@@ -82,9 +82,9 @@ nop-decoded = refl
 
 -- a word 0 is taken and changes nothing
 pub feeds-nop : {v : Vif} {p : Path} {used : ℕ} {m : Lent} → v .waiting ≡ Nothing → {y : Fed} {n : Incoming} {ns : List Incoming} → wordIn n ≡ 0
-    → Feeds (fed v p used m) ns y → Feeds (fed v p used m) (n ∷ ns) y
+    → Feeds aWord (fed v p used m) ns y → Feeds aWord (fed v p used m) (n ∷ ns) y
 unfolding bits
-feeds-nop {v} {p} {used} {m} h {y} {n} e f = word (code-taken v p used m n h e nop-decoded refl) f
+feeds-nop {v} {p} {used} {m} h {y} {n} e f = more (code-taken v p used m n h e nop-decoded refl) f
 
 -- ---- the payload of UNPACK
 
@@ -143,12 +143,12 @@ module _ (v : Vif) (p : Path) (used : ℕ) (code log : List ℕ) (f : Format) wh
 
   -- payload words one after another
   unpack-feeds : (u : Unpacking) (ns : List Incoming) (x : Written) → u .interrupt ≡ false → length ns ≤ u .due
-      → Feeds (unpackFed v p used code log f u x) ns
+      → Feeds aWord (unpackFed v p used code log f u x) ns
       (unpackFed v p used code log f (heldAfter u (wordsIn ns)) (takeWords 1024 f u (writeRegisters v) (wordsIn ns) x))
   unfolding takeWords heldAfter
   unpack-feeds u [] x i h = none
   unpack-feeds u (n ∷ ns) x i h =
-      word (unpack-word u n x i (omega arith))
+      more (unpack-word u n x i (omega arith))
       (unpack-feeds (holds u (wordIn n)) ns (unpackWord 1024 f u (writeRegisters v) (wordIn n) x) i (omega arith))
 
 -- words as many as came
@@ -178,16 +178,16 @@ module _ (v : Vif) (p : Path) (used : ℕ) (m : Lent) (n : Incoming) (f : Format
 
   -- the code and payload words, step by step
   unpack-fed : (ns : List Incoming) → length ns ≤ payloadWords f (countOf (u .num))
-      → Feeds (fed v p used m) (n ∷ ns)
+      → Feeds aWord (fed v p used m) (n ∷ ns)
       (unpackFed v p used (m .code) (m .log) f (heldAfter (begunUnpack f u v) (wordsIn ns))
       (takeWords 1024 f (begunUnpack f u v) (writeRegisters v) (wordsIn ns) (written (v .row) (m .mem))))
   unpack-fed ns l =
-      word unpack-taken
+      more unpack-taken
       (unpack-feeds v p used (m .code) (m .log) f (begunUnpack f u v) ns (written (v .row) (m .mem)) begun-quiet (rw begun-words l))
 
   -- "After k payload words, exactly the vectors lying wholly in them have been written": the unit's ROW and data memory, all else as it was
   pub unit-payload : (ns : List Incoming) → Words (wordsIn ns) → length ns ≤ payloadWords f (countOf (u .num))
-      → Feeds (fed v p used m) (n ∷ ns) (unpackedFed v p used m f u (wordsIn ns) (unpackWaits f (heldAfter (begunUnpack f u v) (wordsIn ns))))
+      → Feeds aWord (fed v p used m) (n ∷ ns) (unpackedFed v p used m f u (wordsIn ns) (unpackWaits f (heldAfter (begunUnpack f u v) (wordsIn ns))))
   unit-payload ns w l =
       rw (← payload-theorem 1024 f (addressOf u (v .tops)) (u .num) (u .usn) (u .masked) false (writeRegisters v) (wordsIn ns) (written (v .row) (m .mem)) w (rw words-length l))
       (unpack-fed ns l)
@@ -198,14 +198,14 @@ module _ (v : Vif) (p : Path) (used : ℕ) (m : Lent) (n : Incoming) (f : Format
 
   -- the same of a whole payload, after which nothing waits
   pub unit-payload-whole : (ns : List Incoming) → Words (wordsIn ns) → length ns ≡ payloadWords f (countOf (u .num))
-      → Feeds (fed v p used m) (n ∷ ns) (unpackedFed v p used m f u (wordsIn ns) Nothing)
+      → Feeds aWord (fed v p used m) (n ∷ ns) (unpackedFed v p used m f u (wordsIn ns) Nothing)
   unit-payload-whole ns w l =
       let e = due-left ns in
       rw (← waits-no-more f (heldAfter (begunUnpack f u v) (wordsIn ns)) (omega arith)) (unit-payload ns w (omega arith))
 
   -- and of a part of one, after which the UNPACK waits on
   pub unit-payload-part : (ns : List Incoming) → Words (wordsIn ns) → length ns < payloadWords f (countOf (u .num))
-      → Feeds (fed v p used m) (n ∷ ns) (unpackedFed v p used m f u (wordsIn ns) (UnpackDue f (heldAfter (begunUnpack f u v) (wordsIn ns))))
+      → Feeds aWord (fed v p used m) (n ∷ ns) (unpackedFed v p used m f u (wordsIn ns) (UnpackDue f (heldAfter (begunUnpack f u v) (wordsIn ns))))
   unit-payload-part ns w l =
       let e = due-left ns in
       rw (← waits-on f (heldAfter (begunUnpack f u v) (wordsIn ns)) (omega arith)) (unit-payload ns w (omega arith))
@@ -273,7 +273,7 @@ unpacked-same v p used code log e q = rw (e, q)
 data-fed : (v : Vif) (p : Path) (used : ℕ) (m : Lent) (n a : ℕ) → v .waiting ≡ Nothing → v .cl ≡ 1 → v .wl ≡ 1 → v .mode ≡ 0 → length (v .row) ≡ 4
     → 1 ≤ n → n ≤ 255 → a < 1024 → (k : Incoming) (ns : List Incoming) → wordIn k ≡ 1811939328 + n * 65536 + a → Words (wordsIn ns)
     → length (wordsIn ns) ≡ 4 * n
-    → Feeds (fed v p used m) (k ∷ ns) (fed v p used (lent (copyVectors 1024 a (fourWords (wordsIn ns)) n 0 (m .mem)) (m .code) (m .log)))
+    → Feeds aWord (fed v p used m) (k ∷ ns) (fed v p used (lent (copyVectors 1024 a (fourWords (wordsIn ns)) n 0 (m .mem)) (m .code) (m .log)))
 unfolding cycleRefused addressOf if
 data-fed v p used m n a h hc hw hm hr some few inside k ns e w l =
     let c : cycleRefused (v .cl) (v .wl) ≡ false = rw (hc, hw) in
@@ -289,7 +289,7 @@ data-fed v p used m n a h hc hw hm hr some few inside k ns e w l =
 -- NOP, STCYCL 1 1, STMOD 0 and UNPACK V4-32 copy the payload: words 4j to 4j + 3 to quadword a + j modulo 1,024
 pub feeds-data : (v : Vif) (p : Path) (used : ℕ) (m : Lent) (n a : ℕ) (ws : List ℕ) (ns : List Incoming) → v .waiting ≡ Nothing → length (v .row) ≡ 4
     → 1 ≤ n → n ≤ 255 → a < 1024 → wordsIn ns ≡ 0 ∷ 16777473 ∷ 83886080 ∷ (1811939328 + n * 65536 + a) ∷ ws → Words ws → length ws ≡ 4 * n
-    → Feeds (fed v p used m) ns
+    → Feeds aWord (fed v p used m) ns
     (fed (withMode (withCycle v 1 1) 0) p used (lent (copyVectors 1024 a (fourWords ws) n 0 (m .mem)) (m .code) (m .log)))
 feeds-data v p used m n a ws ns h hr some few inside q w l =
     feeds-cons ns q
@@ -297,10 +297,10 @@ feeds-data v p used m n a ws ns h hr some few inside q w l =
     feeds-nop h e0
     (feeds-cons ns0 q0
     (λ n1 ns1 e1 q1.
-    word (stcycl-taken v p used m h n1 e1)
+    more (stcycl-taken v p used m h n1 e1)
     (feeds-cons ns1 q1
     (λ n2 ns2 e2 q2.
-    word (stmod-taken (withCycle v 1 1) p used m h n2 e2)
+    more (stmod-taken (withCycle v 1 1) p used m h n2 e2)
     (feeds-cons ns2 q2
     (λ n3 ns3 e3 q3.
     rw (← q3) (data-fed (withMode (withCycle v 1 1) 0) p used m n a h refl refl refl hr some few inside n3 ns3 e3 (rw q3 w) (rw q3 l)))))))))
@@ -314,8 +314,8 @@ data-unit v = (refl, refl)
 -- three words 0 before a code
 after-nops : {v : Vif} {p : Path} {used : ℕ} {m : Lent} {y : Fed} {w : ℕ} {ws : List ℕ} → v .waiting ≡ Nothing → (ns : List Incoming)
     → wordsIn ns ≡ 0 ∷ 0 ∷ 0 ∷ w ∷ ws
-    → ((k : Incoming) (ms : List Incoming) → wordIn k ≡ w → wordsIn ms ≡ ws → Feeds (fed v p used m) (k ∷ ms) y)
-    → Feeds (fed v p used m) ns y
+    → ((k : Incoming) (ms : List Incoming) → wordIn k ≡ w → wordsIn ms ≡ ws → Feeds aWord (fed v p used m) (k ∷ ms) y)
+    → Feeds aWord (fed v p used m) ns y
 after-nops h ns q f =
     feeds-cons ns q
     (λ n0 ns0 e0 q0.
@@ -336,19 +336,19 @@ module _ (a : ℕ) (inside : a < 65536) where
   start-quiet = ne-eqb ((335544320 + a) / 2147483648 % 2) 1 (λ e. omega arith)
 
 -- no word left
-no-words : {x : Fed} (ns : List Incoming) → wordsIn ns ≡ [] → Feeds x ns x
+no-words : {x : Fed} (ns : List Incoming) → wordsIn ns ≡ [] → Feeds aWord x ns x
 no-words [] e = none
 no-words (n ∷ ns) e = absurd (let z : _≡_ {A = ℕ} 0 1 = cc in omega arith)
 
 -- three NOPs and MSCAL start the program at a, which is one log entry
 pub feeds-start : (v : Vif) (p : Path) (used : ℕ) (m : Lent) (a : ℕ) (ns : List Incoming) → v .waiting ≡ Nothing → a < 65536
     → 2 * (used + 1) ≤ length (m .log) → wordsIn ns ≡ 0 ∷ 0 ∷ 0 ∷ (335544320 + a) ∷ []
-    → Feeds (fed v p used m) ns (fed (started v) p (used + 1) (lent (m .mem) (m .code) (logged (m .log) used (entry 256 a ∷ []))))
+    → Feeds aWord (fed v p used m) ns (fed (started v) p (used + 1) (lent (m .mem) (m .code) (logged (m .log) used (entry 256 a ∷ []))))
 unfolding startProgram lacksRoom if
 feeds-start v p used m a ns h inside room q =
     after-nops h ns q
     (λ k ms e q3.
-    word (code-taken v p used m k h e (start-decoded a inside) (start-quiet a inside) ∙ rw (le-ltb (length (m .log)) (2 * (used + 1)) room))
+    more (code-taken v p used m k h e (start-decoded a inside) (start-quiet a inside) ∙ rw (le-ltb (length (m .log)) (2 * (used + 1)) room))
     (no-words ms q3))
 
 -- a program start leaves alone what waits
@@ -359,7 +359,7 @@ started-waiting v = refl
 
 -- words 0 change nothing
 pub feeds-zeros : (v : Vif) (p : Path) (used : ℕ) (m : Lent) (ns : List Incoming) → v .waiting ≡ Nothing → Zeros (wordsIn ns)
-    → Feeds (fed v p used m) ns (fed v p used m)
+    → Feeds aWord (fed v p used m) ns (fed v p used m)
 feeds-zeros v p used m [] h z = none
 feeds-zeros v p used m (n ∷ ns) h z = feeds-nop h (first z) (feeds-zeros v p used m ns h (rest z))
   where
@@ -445,7 +445,7 @@ module _ (v : Vif) (p : Path) (used : ℕ) (mem log : List ℕ) (a n : ℕ) wher
   -- instructions one after another
   mpg-feeds : (ws : List ℕ) (r j : ℕ) (ns : List Incoming) (code : List ℕ) → j + r ≡ n → length ns ≡ 2 * r
       → ((i : ℕ) → getD ws (2 * j + i) 0 ≡ getD (wordsIn ns) i 0)
-      → Feeds (fed (withWaiting v (mpgWaits a n r)) p used (lent mem code log)) ns
+      → Feeds aWord (fed (withWaiting v (mpgWaits a n r)) p used (lent mem code log)) ns
       (fed (withWaiting v Nothing) p used (lent mem (copyInstructions 2048 a ws r j code) log))
   unfolding copyInstructions
   mpg-feeds ws zero j [] code e l g = none
@@ -459,22 +459,22 @@ module _ (v : Vif) (p : Path) (used : ℕ) (mem log : List ℕ) (a n : ℕ) wher
       let t : getD ws (2 * j + 1) 0 ≡ wordIn y = g 1 in
       let q = (a + j) % 2048 in
       rw (s, t, ← two-words code q (wordIn x) (wordIn y))
-      (word (mpg-word (suc r + suc r) (8 * q) x code (first-waits a n r) (rw c (first-place a j)))
-      (word (mpg-word (r + r + 1) (8 * q + 4) y (sets code (8 * q) (bytesOf (wordIn x))) (second-waits a n r) (rw d (second-place a j)))
+      (more (mpg-word (suc r + suc r) (8 * q) x code (first-waits a n r) (rw c (first-place a j)))
+      (more (mpg-word (r + r + 1) (8 * q + 4) y (sets code (8 * q) (bytesOf (wordIn x))) (second-waits a n r) (rw d (second-place a j)))
       (mpg-feeds ws r (suc j) ns (sets (sets code (8 * q) (bytesOf (wordIn x))) (8 * q + 4) (bytesOf (wordIn y))) (omega arith) (omega arith)
       (λ i. let z : 2 * suc j + i ≡ 2 * j + suc (suc i) = omega arith in rw z (g (suc (suc i)))))))
 
 -- three NOPs, MPG with its payload and words 0 after it copy the instructions: instruction j to a + j modulo 2,048
 pub feeds-code : (v : Vif) (p : Path) (used : ℕ) (m : Lent) (n a : ℕ) (ws pad : List ℕ) (ns : List Incoming) → v .waiting ≡ Nothing → 1 ≤ n → n ≤ 255
     → a < 2048 → wordsIn ns ≡ 0 ∷ 0 ∷ 0 ∷ (1241513984 + n * 65536 + a) ∷ ws ++ pad → length ws ≡ 2 * n → Zeros pad
-    → Feeds (fed v p used m) ns (fed v p used (lent (m .mem) (copyInstructions 2048 a ws n 0 (m .code)) (m .log)))
+    → Feeds aWord (fed v p used m) ns (fed v p used (lent (m .mem) (copyInstructions 2048 a ws n 0 (m .code)) (m .log)))
 unfolding beginMpg
 feeds-code v p used m n a ws pad ns h some few inside q l z =
     after-nops h ns q
     (λ k ms e q3.
-    words-split (λ (l : List Incoming). Feeds (fed v p used m) (k ∷ l) (fed v p used (lent (m .mem) (copyInstructions 2048 a ws n 0 (m .code)) (m .log)))) ws pad ms q3
+    words-split (λ (l : List Incoming). Feeds aWord (fed v p used m) (k ∷ l) (fed v p used (lent (m .mem) (copyInstructions 2048 a ws n 0 (m .code)) (m .log)))) ws pad ms q3
     (λ xs ys s t.
-    word (code-taken v p used m k h e (code-decoded n a some few inside) (code-quiet n a some few inside) ∙ rw (count-num n some few, begins n some))
+    more (code-taken v p used m k h e (code-decoded n a some few inside) (code-quiet n a some few inside) ∙ rw (count-num n some few, begins n some))
     (feeds-join (mpg-feeds v p used (m .mem) (m .log) a n ws n 0 xs (m .code) (omega arith) (sym (words-length xs) ∙ rw s l) (λ i. rw (zero-add, s)))
     (rw (idle-same v h) (feeds-zeros v p used _ ys h (rw t z))))))
   where
@@ -497,7 +497,7 @@ module _ (n : ℕ) (few : n ≤ 255) where
   direct-quiet = ne-eqb ((1342177280 + n + 1) / 2147483648 % 2) 1 (λ e. omega arith)
 
 -- what waits with k quadwords due
-abbrev directWaits : ℕ → Waiting
+abbrev pub directWaits : ℕ → Waiting
 directWaits zero = Nothing
 directWaits (suc k) = DirectDue (suc k) false
 
@@ -520,25 +520,30 @@ module _ (v : Vif) (mem code : List ℕ) where
   -- A+D quadwords one after another
   direct-feeds : (n : ℕ) → 0 < n → n < 32768 → (q used : ℕ) (log : List ℕ) {ns : List Incoming} {xs : List ℕ} → QuadwordsIn ns xs
       → 2 * (used + length xs) ≤ length log
-      → Feeds (fed (withWaiting v (directWaits (length xs))) (pathOf q (sheetPlace n (length xs))) used (lent mem code log)) ns
+      → Feeds aQuadword (fed (withWaiting v (directWaits (length xs))) (pathOf q (sheetPlace n (length xs))) used (lent mem code log)) ns
       (fed (withWaiting v Nothing) (pathOf q Idle) (used + length xs) (lent mem code (logged log used (addressDatas xs))))
   unfolding logged
   direct-feeds n some few q used log no-quadword h = rw add-zero none
   direct-feeds n some few q used log (one-quadword {a} {b} {c} {d} {x} {ns} {xs} e r) h =
       let s : used + suc (length xs) ≡ used + 1 + length xs = omega arith in
       rw (s, ← logged-then log used (addressData x ∷ []) (addressDatas xs))
-      (quad (direct-quadword (length xs) _ _ used (used + 1) a b c d x log _ e (sheet-data n some few (length xs) q x used log (omega arith)))
+      (more (direct-quadword (length xs) _ _ used (used + 1) a b c d x log _ e (sheet-data n some few (length xs) q x used log (omega arith)))
       (direct-feeds n some few q (used + 1) (logged log used (addressData x ∷ [])) r (rw (logged-length log used (addressData x ∷ [])) (omega arith))))
 
--- three NOPs, DIRECT, a GIF tag and n A+D quadwords write n log entries, and path 2 is idle again
-pub feeds-direct : (v : Vif) (q used : ℕ) (m : Lent) (n : ℕ) (quads : List ℕ) (ns ms : List Incoming) → v .waiting ≡ Nothing → length quads ≡ n → 1 ≤ n
-    → n ≤ 255 → 2 * (used + n) ≤ length (m .log) → wordsIn ns ≡ 0 ∷ 0 ∷ 0 ∷ (1342177280 + n + 1) ∷ [] → QuadwordsIn ms (sheetTag n ∷ quads)
-    → Feeds (fed v (pathOf q Idle) used m) (ns ++ ms)
+-- three NOPs and DIRECT: quadwords are due
+pub feeds-direct : (v : Vif) (p : Path) (used : ℕ) (m : Lent) (n : ℕ) (ns : List Incoming) → v .waiting ≡ Nothing → n ≤ 255
+    → wordsIn ns ≡ 0 ∷ 0 ∷ 0 ∷ (1342177280 + n + 1) ∷ []
+    → Feeds aWord (fed v p used m) ns (fed (withWaiting v (directWaits (suc n))) p used m)
+feeds-direct v p used m n ns h few w =
+    after-nops h ns w
+    (λ k ls f z. more (code-taken v p used m k h f (direct-decoded n few) (direct-quiet n few) ∙ rw (add-one n)) (no-words ls z))
+
+-- a GIF tag and n A+D quadwords after them write n log entries, and path 2 is idle again
+pub feeds-entries : (v : Vif) (q used : ℕ) (m : Lent) (n : ℕ) (quads : List ℕ) (ms : List Incoming) → v .waiting ≡ Nothing → length quads ≡ n → 1 ≤ n
+    → n ≤ 255 → 2 * (used + n) ≤ length (m .log) → QuadwordsIn ms (sheetTag n ∷ quads)
+    → Feeds aQuadword (fed (withWaiting v (directWaits (suc n))) (pathOf q Idle) used m) ms
     (fed v (pathOf tagQ Idle) (used + n) (lent (m .mem) (m .code) (logged (m .log) used (addressDatas quads))))
-feeds-direct v q used m n quads ns ms h e some few room w (one-quadword {a} {b} {c} {d} t r) =
-    feeds-join
-    (after-nops {y = fed (withWaiting v (directWaits (suc n))) (pathOf q Idle) used m} h ns w
-    (λ k ls f z.
-    word (code-taken v (pathOf q Idle) used m k h f (direct-decoded n few) (direct-quiet n few) ∙ rw (add-one n)) (no-words ls z)))
-    (quad (direct-quadword v (m .mem) (m .code) n _ _ used used a b c d _ (m .log) _ t (sheet-tag n some (omega arith) q used (m .log) (omega arith)))
-    (feeds-as (rw e at (direct-feeds v (m .mem) (m .code) n some (omega arith) tagQ used (m .log) r (rw e room))) (rw (idle-same v h))))
+feeds-entries v q used m n quads ms h e some few room (one-quadword {a} {b} {c} {d} t r) =
+    more {z = fed v (pathOf tagQ Idle) (used + n) (lent (m .mem) (m .code) (logged (m .log) used (addressDatas quads)))}
+    (direct-quadword v (m .mem) (m .code) n _ _ used used a b c d _ (m .log) _ t (sheet-tag n some (omega arith) q used (m .log) (omega arith)))
+    (feeds-as (rw e at (direct-feeds v (m .mem) (m .code) n some (omega arith) tagQ used (m .log) r (rw e room))) (rw (idle-same v h)))

@@ -15,6 +15,7 @@ use Rattle.unpack.specs.Step.{unpackingOf}
 use Rattle.unpack.specs.Whole.{unpackedBy}
 use Rattle.vif.specs.declared.Incoming.{Incoming}
 use Rattle.vif.specs.declared.Incoming.the-variants.{Word0}
+use Rattle.vif.specs.declared.VifAnswer.{VifAnswer}
 use Rattle.vif.specs.declared.VifAnswer.the-variants.{Word, Quadword}
 use Rattle.vif.specs.declared.UnpackCode.{UnpackCode}
 use Rattle.vif.specs.declared.Waiting.{Waiting}
@@ -35,17 +36,19 @@ pub record Fed : Type 0 where
 abbrev pub fed : Vif → Path → ℕ → Lent → Fed
 fed v p used m = record { unit = v; path2 = p; used = used; memories = m }
 
--- steps one after another, each taken and none completing an interrupt
-pub data Feeds : Fed → List Incoming → Fed → Type 0 where
-  none : {x : Fed} → Feeds x [] x
-  word : {x y z : Fed} {n : Incoming} {ns : List Incoming}
-      → vifStep (x .unit) (x .path2) n (x .used) (x .memories) ≡ leaves (Word false) (y .unit) (y .path2) (y .used) (y .memories)
-      → Feeds y ns z
-      → Feeds x (n ∷ ns) z
-  quad : {x y z : Fed} {n : Incoming} {ns : List Incoming}
-      → vifStep (x .unit) (x .path2) n (x .used) (x .memories) ≡ leaves (Quadword false) (y .unit) (y .path2) (y .used) (y .memories)
-      → Feeds y ns z
-      → Feeds x (n ∷ ns) z
+-- steps one after another with one and the same answer: each takes a word, or each takes a quadword, and none completes an interrupt
+pub data Feeds (a : VifAnswer) : Fed → List Incoming → Fed → Type 0 where
+  none : {x : Fed} → Feeds a x [] x
+  more : {x y z : Fed} {n : Incoming} {ns : List Incoming}
+      → vifStep (x .unit) (x .path2) n (x .used) (x .memories) ≡ leaves a (y .unit) (y .path2) (y .used) (y .memories)
+      → Feeds a y ns z
+      → Feeds a x (n ∷ ns) z
+
+abbrev pub aWord : VifAnswer
+aWord = Word false
+
+abbrev pub aQuadword : VifAnswer
+aQuadword = Quadword false
 
 -- incoming words as numbers
 abbrev pub wordsIn : List Incoming → List ℕ

@@ -1,0 +1,104 @@
+-- Steps of VIF1 as steps of the chain.
+use mathlib.Core.Path.{_≡_, refl, sym, ap, _∙_}
+use mathlib.Core.Bool.{Bool, true, false, _&&_}
+use mathlib.Core.List.{List, [], _∷_, _++_}
+use Prim.Native.Nat.{ℕ, zero, suc, _+_, _*_, _-_, _/_, _%_, _^_, _<_, _≤_}
+use native.Mathlib.Nat.{add-zero, zero-add, suc-add, mul-zero}
+use native.Mathlib.Omega.{arith}
+use borrow.Author.Tests.{eq-eqb, ne-eqb, le-leb, lt-leb}
+use lib.ListN.{length}
+use lib.Dec.{eqb, leb}
+use Rattle.fields.specs.Fields.{if}
+use Rattle.gif.specs.declared.Path.{Path}
+use Rattle.vif.specs.declared.Vif.{Vif}
+use Rattle.vif.specs.declared.VifAnswer.{VifAnswer}
+use Rattle.vif.specs.declared.Incoming.{Incoming}
+use Rattle.vif.specs.Step.{Lent, Left, leaves, vifStep}
+use Rattle.vif.specs.Feeds.{Fed, fed, Feeds, none, more, aWord, aQuadword}
+use Rattle.chain.specs.declared.TagWords.the-variants.{Nothing as NoTagWords}
+use Rattle.chain.specs.declared.Payload.{Payload}
+use Rattle.chain.specs.declared.Payload.the-variants.{Nothing as NoPayload, Words as PayloadWords}
+use Rattle.chain.specs.declared.StepAnswer.the-variants.{Completed}
+use Rattle.chain.specs.declared.State.{State}
+use Rattle.chain.specs.Setters.{withPending, withUnit}
+use Rattle.chain.specs.Pending.{incomingAt, nothingPending, payloadAfter}
+use Rattle.chain.specs.Step.{Machine, machine, Stepped, stepped, givenVif, vifGiven, payloadStep, stepOf}
+use Rattle.chain.specs.Run.{done}
+use Rattle.chain.specs.Stops.{stepFrom, Reaches, here, step}
+
+-- payload words pending
+abbrev pub pending : ℕ → ℕ → Payload
+pending a zero = NoPayload
+pending a (suc n) = PayloadWords a (suc n)
+
+pub pending-some : (a n : ℕ) → 1 ≤ n → pending a n ≡ PayloadWords a n
+pending-some a zero h = absurd (omega arith)
+pending-some a (suc n) h = refl
+
+-- after w of them
+payload-next : (a n w : ℕ) → payloadAfter a (w + n) w ≡ pending (a + 4 * w) n
+unfolding payloadAfter if
+payload-next a zero w = rw (le-leb (w + 0) w (omega arith))
+payload-next a (suc n) w =
+    let e : w + suc n - w ≡ suc n = omega arith in
+    rw (lt-leb (w + suc n) w (omega arith), e)
+
+-- the machine that feeds VIF1, with payload pending
+abbrev pub feeding : State → Fed → Payload → Machine
+feeding s x p = machine (withPending (withUnit s (x .unit) (x .path2) (x .used)) NoTagWords p) (x .memories)
+
+-- what comes from an address on, w words at each step
+unfoldable pub incomings : ℕ → List ℕ → ℕ → ℕ → List Incoming
+incomings w main a zero = []
+incomings w main a (suc j) = incomingAt main a ∷ incomings w main (a + 4 * w) j
+
+-- what an answer makes of the chain: a step completed, and w words taken
+pub record Takes (b : VifAnswer) (w : ℕ) : Type 0 where
+  pub some : 1 ≤ w
+  pub given : (v : Vif) (q : Path) (used : ℕ) (m′ : Lent) (p : ℕ → Payload) (s : State) (m : Lent)
+      → givenVif (leaves b v q used m′) NoTagWords p s m ≡ stepped (Completed false) (withPending (withUnit s v q used) NoTagWords (p w)) m′
+
+pub word-takes : Takes aWord 1
+word-takes = record { some = omega arith; given = λ v q used m′ p s m. refl }
+
+pub quadword-takes : Takes aQuadword 4
+quadword-takes = record { some = omega arith; given = λ v q used m′ p s m. refl }
+
+-- a step, by what it leaves
+pub step-by : {main : List ℕ} {k : ℕ} {x z : Machine} {o : Stepped} → done (x .state) ≡ false → stepFrom main x ≡ o → o .answer ≡ Completed false
+    → Reaches main k (o .after) z → Reaches main (suc k) x z
+step-by {main} {k} {x} {z} d e q r = step {k = k} {x = x} {z = z} d (rw e q) (rw e r)
+
+module _ (main : List ℕ) (s : State) (channel : s .channel ≡ 1) {b : VifAnswer} {w : ℕ} (t : Takes b w) where
+  -- one step
+  fed-step : (x y : Fed) (a n : ℕ) → vifStep (x .unit) (x .path2) (incomingAt main a) (x .used) (x .memories) ≡ leaves b (y .unit) (y .path2) (y .used) (y .memories)
+      → stepFrom main (feeding s x (PayloadWords a (w + n)))
+      ≡ stepped (Completed false) (feeding s y (pending (a + 4 * w) n) .state) (y .memories)
+  unfolding stepOf payloadStep vifGiven if
+  fed-step x y a n e =
+      let h : 1 ≤ w = t .some in
+      rw (ne-eqb (w + n) 0 (λ z. omega arith), channel, e)
+      (t .given (y .unit) (y .path2) (y .used) (y .memories) (payloadAfter a (w + n)) _ (x .memories) ∙ rw (payload-next a n w))
+
+  not-done : (x : Fed) (a n : ℕ) → 1 ≤ n → done (feeding s x (PayloadWords a n) .state) ≡ false
+  unfolding done
+  not-done x a n h = rw (ne-eqb n 0 (λ z. omega arith)) (and-false (s .ended))
+    where
+      and-false : (c : Bool) → (c && false) ≡ false
+      and-false true = refl
+      and-false false = refl
+
+  -- steps of VIF1 are steps of the chain
+  pub feeds-reach : (j a n : ℕ) {x y : Fed} → Feeds b x (incomings w main a j) y
+      → Reaches main j (feeding s x (pending a (w * j + n))) (feeding s y (pending (a + 4 * (w * j)) n))
+  unfolding incomings
+  feeds-reach zero a n none =
+      let e : w * 0 + n ≡ n = rw mul-zero (zero-add n) in
+      let f : a + 4 * (w * 0) ≡ a = rw mul-zero (omega arith) in
+      rw (e, f) here
+  feeds-reach (suc j) a n (more {x} {y} {z} e f) =
+      let h : 1 ≤ w = t .some in
+      let c : w * suc j + n ≡ w + (w * j + n) = omega arith in
+      let g : a + 4 * (w * suc j) ≡ a + 4 * w + 4 * (w * j) = omega arith in
+      rw (c, g, pending-some a (w + (w * j + n)) (omega arith))
+      (step-by (not-done x a (w + (w * j + n)) (omega arith)) (fed-step x y a (w * j + n) e) refl (feeds-reach j (a + 4 * w) n f))

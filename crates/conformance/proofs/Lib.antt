@@ -1,0 +1,8 @@
+-- Demand 3, from words in memory up to whole sheets.
+pub mod WordLaws
+pub mod FeedLaws
+pub mod TagLaws
+pub mod MeaningLaws
+pub mod RecordLaws
+pub mod SheetLaws
+pub mod Theorem

@@ -1,0 +1,106 @@
+-- The answers of the meaning.
+use mathlib.Core.Path.{_≡_, sym, ap, _∙_}
+use mathlib.Core.List.{List}
+use Prim.Native.Nat.{ℕ, _+_, _*_, _-_, _/_, _%_, _<_, _≤_}
+use native.Mathlib.Omega.{arith}
+use borrow.Author.Tests.{ne-eqb, eqb-true, eqb-false, lt-ltb, le-ltb, ltb-false, not-false}
+use lib.ListN.{length}
+use lib.Dec.{eqb, ltb}
+use Rattle.fields.specs.Fields.{if}
+use Rattle.fields.proofs.ChoiceLaws.{or-left, or-right}
+use Rattle.sheet.specs.declared.MeaningAnswer.the-variants.{Meant, Refused}
+use Rattle.sheet.specs.declared.totals.Totals.{Totals}
+use Rattle.sheet.specs.declared.totals.Measured.{Measured}
+use Rattle.sheet.specs.declared.totals.Measured.the-variants.{Whole, Refused as MeasureRefused}
+use Rattle.sheet.specs.Reader.{contentsFrom, contentsOf}
+use Rattle.sheet.specs.Sizes.{sheetEntries}
+use Rattle.sheet.specs.Meaning.{plain, meaningOf}
+use Rattle.sheet.specs.Results.{entriesIn, left, lengthRefusal, meaningOfSheet}
+use Rattle.sheet.specs.Inner.{measuredOf}
+use Rattle.sheet.specs.Fed.{Fed, fed, fedIn, Feeds, Means}
+use Rattle.sheet.proofs.ReaderLaws.{if-zero}
+use Rattle.sheet.proofs.WholeLaws.{from-start}
+use Rattle.sheet.proofs.TotalsLaws.{measured-whole, measured-refused}
+use Rattle.sheet.proofs.MeaningLaws.{in-count, log-same}
+use Rattle.sheet.proofs.FedLaws.{fedPlain, fed-sheet}
+
+-- lengths that are accepted
+pub record Lengths (mem code log : List ℕ) (used : ℕ) : Type 0 where
+  pub words : length mem ≡ 4096
+  pub bytes : length code ≡ 16384
+  pub even : length log % 2 ≡ 1 → ⊥
+  pub most : length log ≤ 131072
+  pub held : 2 * used ≤ length log
+
+pub lengths-of : (mem code log : List ℕ) (used : ℕ) → lengthRefusal mem code log used ≡ 0 → Lengths mem code log used
+unfolding lengthRefusal
+lengths-of mem code log used h =
+    let a = if-zero _ _ _ (λ z. omega arith) h in
+    let b = if-zero _ _ _ (λ z. omega arith) (a .1) in
+    let d = if-zero _ _ _ (λ z. omega arith) (b .1) .0 in
+    let e = or-right (eqb (length log % 2) 1) _ d in
+    record {
+      words = eqb-true _ _ (not-false _ (a .0));
+      bytes = eqb-true _ _ (not-false _ (b .0));
+      even = eqb-false _ _ (or-left _ _ d);
+      most = ltb-false _ _ (or-left _ _ e);
+      held = ltb-false _ _ (or-right (ltb 131072 (length log)) _ e);
+    }
+
+-- an accepted sheet, and the room of the log
+module _ {sheet mem code log : List ℕ} {used entries : ℕ} (m : Means sheet mem code log used entries) where
+  pub means-lengths : Lengths mem code log used
+  means-lengths = lengths-of mem code log used (m .lengths)
+
+  pub mean-full : length log / 2 - used < entries → left (Refused 31 0) mem code log ≡ meaningOfSheet sheet mem code log used
+  unfolding meaningOfSheet if
+  mean-full h =
+      let l = means-lengths in
+      let s = m .sum in
+      rw (m .lengths, m .accepted, lt-ltb (length log) (2 * (used + sheetEntries (m .records))) (omega arith))
+
+  module _ (h : entries ≤ length log / 2 - used) where
+    room : 2 * (used + sheetEntries (m .records)) ≤ length log
+    room =
+        let l = means-lengths in
+        let s = m .sum in
+        omega arith
+
+    pub mean-feeds : Feeds sheet 0 mem code log used
+    mean-feeds =
+        let l = means-lengths in
+        record { records = m .records; accepted = from-start sheet (m .records) (m .accepted); words = l .words; bytes = l .bytes; room = room }
+
+    -- the whole sheet fed is its meaning
+    fed-meaning : fedIn (contentsFrom sheet 0) (fed mem code log used) ≡ fedPlain (meaningOf (m .records) (plain mem code (entriesIn log used))) log
+    fed-meaning =
+        let l = means-lengths in
+        let n = in-count log used (l .held) in
+        let s : fedPlain (plain mem code (entriesIn log used)) log ≡ fed mem code log used = rw (log-same log used (l .held), n) in
+        rw (from-start sheet (m .records) (m .accepted), ← s) (fed-sheet (m .records) (plain mem code (entriesIn log used)) log (rw n room))
+
+    pub mean-fed : {mem′ code′ log′ : List ℕ} {r : ℕ} → fed mem′ code′ log′ r ≡ fedIn (contentsFrom sheet 0) (fed mem code log used)
+        → left (Meant r) mem′ code′ log′ ≡ meaningOfSheet sheet mem code log used
+    unfolding meaningOfSheet if
+    mean-fed e =
+        rw (m .lengths, m .accepted, le-ltb (length log) (2 * (used + sheetEntries (m .records))) room)
+        (ap (λ (x : Fed). left (Meant (x .used)) (x .mem) (x .code) (x .log)) (e ∙ fed-meaning))
+
+-- ---- refusals
+
+-- of the lengths
+pub mean-lengths : (sheet mem code log : List ℕ) (used : ℕ) {n : ℕ} → n ≡ lengthRefusal mem code log used → (n ≡ 0 → ⊥)
+    → left (Refused n 0) mem code log ≡ meaningOfSheet sheet mem code log used
+unfolding meaningOfSheet if
+mean-lengths sheet mem code log used e z = rw (← e, ne-eqb _ _ z)
+
+-- of the sheet, which is measured
+module _ (sheet mem code log : List ℕ) (used : ℕ) {n : ℕ} (l : n ≡ lengthRefusal mem code log used) (z : n ≡ 0) {m : Measured} (e : m ≡ measuredOf (contentsOf sheet)) where
+  pub mean-refused : {k offset : ℕ} → m ≡ MeasureRefused k offset → left (Refused k offset) mem code log ≡ meaningOfSheet sheet mem code log used
+  unfolding meaningOfSheet if
+  mean-refused q = rw (← l, z, measured-refused (contentsOf sheet) e q)
+
+  pub mean-means : {t : Totals} → m ≡ Whole t → Means sheet mem code log used (t .entries)
+  mean-means q =
+      let a = measured-whole (contentsOf sheet) e q in
+      record { records = a .records; accepted = a .are; sum = ap (λ (t : Totals). t .entries) (a .sums); lengths = sym l ∙ z }

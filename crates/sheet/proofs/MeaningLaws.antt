@@ -1,0 +1,230 @@
+-- The plain meaning: numbers of bytes, one item after another, the entries, and the log.
+use mathlib.Core.Path.{_≡_, refl, sym, ap, _∙_}
+use mathlib.Core.List.{List, [], _∷_, _++_, append-assoc, append-nil}
+use Prim.Native.Nat.{ℕ, zero, suc, _+_, _*_, _-_, _%_, _≤_, _<_}
+use native.Mathlib.Nat.{add-zero, sub-zero}
+use native.Mathlib.Numerals.{add-one}
+use native.Mathlib.Omega.{arith}
+use lib.ListN.{length, getD, set, take, drop, length-append, length-drop, take-append-drop}
+use lib.Seq.{sets, length-sets, sets-eq, take-at, drop-append-add, drop-drop}
+use Rattle.sheet.specs.declared.Kind.{Kind}
+use Rattle.sheet.specs.declared.Kind.the-variants.{Data, Code, Gs, Start}
+use Rattle.sheet.specs.Records.{Record, bytesAt, number}
+use Rattle.sheet.specs.Sizes.{entriesOf, sheetEntries}
+use Rattle.sheet.specs.Meaning.{Entry, Plain, plain, vectorOf, putVectors, putInstructions, entriesAt, entriesBy, memBy, codeBy, fedRecord, meaningOf}
+use Rattle.sheet.specs.Results.{numbersOf, entriesIn, logWith}
+use Rattle.sheet.specs.Fed.{vectorAt}
+use Rattle.sheet.proofs.ByteLaws.{bytes-inside, bytes-more, bytes-four}
+
+-- ---- numbers in bytes
+
+number-byte : (l : List ℕ) (i : ℕ) → i < length l → number (bytesAt l i 1) ≡ getD l i 0
+number-byte l i h = rw (bytes-more l i 0 {k = i + 1} h refl) (omega arith)
+
+pub number-word : (l : List ℕ) (i : ℕ) → i + 4 ≤ length l
+    → getD l i 0 + getD l (i + 1) 0 * 256 + getD l (i + 2) 0 * 65536 + getD l (i + 3) 0 * 16777216 ≡ number (bytesAt l i 4)
+number-word l i h = rw (bytes-four l i 0 h) (omega arith)
+
+pub number-long : (l : List ℕ) (i : ℕ) → i + 8 ≤ length l
+    → number (bytesAt l i 4) + number (bytesAt l (i + 4) 4) * 4294967296 ≡ number (bytesAt l i 8)
+number-long l i h =
+    let k : i + 4 ≤ length l = omega arith in
+    rw (bytes-four l i 0 k, bytes-four l i 4 k) (omega arith)
+
+-- ---- n items from number j on: one more, none left, and what they keep
+
+pub record Turns (puts : ℕ → ℕ → List ℕ → List ℕ) (put : ℕ → List ℕ → List ℕ) : Type 0 where
+  pub none : (j : ℕ) (m : List ℕ) → puts 0 j m ≡ m
+  pub more : (n j : ℕ) (m : List ℕ) → puts (suc n) j m ≡ puts n (suc j) (put j m)
+  pub keep : (j : ℕ) (m : List ℕ) → length (put j m) ≡ length m
+
+module _ {puts : ℕ → ℕ → List ℕ → List ℕ} {put : ℕ → List ℕ → List ℕ} (t : Turns puts put) where
+  pub turns-more : (n j : ℕ) (m : List ℕ) {m′ : List ℕ} → j < n → m′ ≡ put j m → puts (n - (j + 1)) (j + 1) m′ ≡ puts (n - j) j m
+  turns-more n j m h e =
+      let k : n - j ≡ suc (n - (j + 1)) = omega arith in
+      rw (k, t .more (n - (j + 1)) j m, e, add-one)
+
+  pub turns-none : (n j : ℕ) (m : List ℕ) → n ≤ j → puts (n - j) j m ≡ m
+  turns-none n j m h =
+      let k : n - j ≡ 0 = omega arith in
+      rw k (t .none j m)
+
+  pub turns-keep : (n j : ℕ) (m : List ℕ) → length (puts n j m) ≡ length m
+  turns-keep zero j m = ap length (t .none j m)
+  turns-keep (suc n) j m = ap length (t .more n j m) ∙ turns-keep n (suc j) (put j m) ∙ t .keep j m
+
+module _ (a : ℕ) (body : List ℕ) where
+  pub vector-turns : Turns (putVectors a body) (λ (j : ℕ) (m : List ℕ). sets m (4 * ((a + j) % 1024)) (vectorOf body j))
+  unfolding putVectors
+  vector-turns = record { none = λ j m. refl; more = λ n j m. refl; keep = λ j m. length-sets m (4 * ((a + j) % 1024)) (vectorOf body j) }
+
+  pub instruction-turns : Turns (putInstructions a body) (λ (j : ℕ) (m : List ℕ). sets m (8 * ((a + j) % 2048)) (bytesAt body (8 * j) 8))
+  unfolding putInstructions
+  instruction-turns = record { none = λ j m. refl; more = λ n j m. refl; keep = λ j m. length-sets m (8 * ((a + j) % 2048)) (bytesAt body (8 * j) 8) }
+
+-- ---- the items of a body, where the body lies in the sheet
+
+pub vector-stored : (m l : List ℕ) (q i : ℕ) {x y z w : ℕ}
+    → x ≡ number (bytesAt l i 4) → y ≡ number (bytesAt l (i + 4) 4) → z ≡ number (bytesAt l (i + 8) 4) → w ≡ number (bytesAt l (i + 12) 4)
+    → set (set (set (set m (4 * q) x) (4 * q + 1) y) (4 * q + 2) z) (4 * q + 3) w ≡ sets m (4 * q) (vectorAt l i)
+vector-stored m l q i ex ey ez ew =
+    let e1 : 4 * q + 1 ≡ suc (4 * q) = omega arith in
+    let e2 : 4 * q + 2 ≡ suc (suc (4 * q)) = omega arith in
+    let e3 : 4 * q + 3 ≡ suc (suc (suc (4 * q))) = omega arith in
+    rw (ex, ey, ez, ew, e1, e2, e3)
+
+module _ (l : List ℕ) (b n j : ℕ) (h : j < n) where
+  vector-inside : vectorAt l (b + 16 * j) ≡ vectorOf (bytesAt l b (16 * n)) j
+  vector-inside =
+      rw (
+        bytes-inside l b (16 * n) (16 * j) 4 {k = b + 16 * j} (omega arith) refl,
+        bytes-inside l b (16 * n) (16 * j + 4) 4 {k = b + 16 * j + 4} (omega arith) (omega arith),
+        bytes-inside l b (16 * n) (16 * j + 8) 4 {k = b + 16 * j + 8} (omega arith) (omega arith),
+        bytes-inside l b (16 * n) (16 * j + 12) 4 {k = b + 16 * j + 12} (omega arith) (omega arith),
+      )
+
+  pub vectors-more : (a : ℕ) (m : List ℕ) {m′ : List ℕ} → m′ ≡ sets m (4 * ((a + j) % 1024)) (vectorAt l (b + 16 * j))
+      → putVectors a (bytesAt l b (16 * n)) (n - (j + 1)) (j + 1) m′ ≡ putVectors a (bytesAt l b (16 * n)) (n - j) j m
+  vectors-more a m e = turns-more (vector-turns a (bytesAt l b (16 * n))) n j m h (e ∙ ap (λ (v : List ℕ). sets m (4 * ((a + j) % 1024)) v) vector-inside)
+
+  pub instructions-more : (a : ℕ) (m : List ℕ) {m′ : List ℕ} → m′ ≡ sets m (8 * ((a + j) % 2048)) (bytesAt l (b + 8 * j) 8)
+      → putInstructions a (bytesAt l b (8 * n)) (n - (j + 1)) (j + 1) m′ ≡ putInstructions a (bytesAt l b (8 * n)) (n - j) j m
+  instructions-more a m e =
+      turns-more (instruction-turns a (bytesAt l b (8 * n))) n j m h (e ∙ rw (bytes-inside l b (8 * n) (8 * j) 8 {k = b + 8 * j} (omega arith) refl))
+
+-- ---- entries into the log
+
+-- those from number j on, where the ones before them stand in the log
+unfoldable pub logFrom : List ℕ → ℕ → ℕ → ℕ → List ℕ → List ℕ
+logFrom body used n j log = sets log (2 * (used + j)) (numbersOf (entriesAt body (n - j) j))
+
+module _ (l : List ℕ) (b n : ℕ) (f : b + 16 * n ≤ length l) (used j : ℕ) (log : List ℕ) where
+  pub entries-more : {log′ : List ℕ} {r v : ℕ} → j < n → r ≡ getD l (b + 16 * j + 8) 0 → v ≡ number (bytesAt l (b + 16 * j) 8)
+      → log′ ≡ sets log (2 * (used + j)) (r ∷ v ∷ []) → logFrom (bytesAt l b (16 * n)) used n (j + 1) log′ ≡ logFrom (bytesAt l b (16 * n)) used n j log
+  unfolding logFrom entriesAt
+  entries-more h er ev e =
+      let k : n - j ≡ suc (n - (j + 1)) = omega arith in
+      let i : 2 * (used + (j + 1)) ≡ suc (suc (2 * (used + j))) = omega arith in
+      rw (
+        k,
+        i,
+        e,
+        er,
+        ev,
+        add-one,
+        bytes-inside l b (16 * n) (16 * j + 8) 1 {k = b + 16 * j + 8} (omega arith) (omega arith),
+        bytes-inside l b (16 * n) (16 * j) 8 {k = b + 16 * j} (omega arith) refl,
+        number-byte l (b + 16 * j + 8) (omega arith),
+      )
+
+module _ (body : List ℕ) (used n : ℕ) (log : List ℕ) where
+  pub entries-none : (j : ℕ) → n ≤ j → logFrom body used n j log ≡ log
+  unfolding logFrom entriesAt
+  entries-none j h =
+      let k : n - j ≡ 0 = omega arith in
+      rw k
+
+  pub entries-all : logFrom body used n 0 log ≡ sets log (2 * used) (numbersOf (entriesAt body n 0))
+  unfolding logFrom
+  entries-all = rw (sub-zero, add-zero)
+
+-- ---- how many entries
+
+pub entries-count : (body : List ℕ) (n j : ℕ) → length (entriesAt body n j) ≡ n
+unfolding entriesAt
+entries-count body zero j = refl
+entries-count body (suc n) j = ap suc (entries-count body n (suc j))
+
+pub row-count : (k : Kind) (n a : ℕ) (body : List ℕ) → length (entriesBy k n a body) ≡ entriesOf k n
+row-count Data n a body = refl
+row-count Code n a body = refl
+row-count Gs n a body = entries-count body n 0
+row-count Start n a body = refl
+
+pub fed-count : (r : Record) (x : Plain) → length (fedRecord r x .entries) ≡ length (x .entries) + entriesOf (r .kind) (r .count)
+unfolding fedRecord
+fed-count r x = rw (length-append, row-count)
+
+-- a meaning's entries are those given and those of the sheet
+pub meaning-count : (rs : List Record) (x : Plain) → length (meaningOf rs x .entries) ≡ length (x .entries) + sheetEntries rs
+unfolding meaningOf sheetEntries
+meaning-count [] x = omega arith
+meaning-count (r ∷ rs) x = omega (arith, meaning-count rs (fedRecord r x), fed-count r x)
+
+-- those of the sheet come after those given
+pub meaning-entries : (rs : List Record) (x : Plain) → meaningOf rs x .entries ≡ x .entries ++ meaningOf rs (plain [] [] []) .entries
+unfolding meaningOf fedRecord
+meaning-entries [] x = sym (append-nil (x .entries))
+meaning-entries (r ∷ rs) x =
+    let es : List Entry = entriesBy (r .kind) (r .count) (r .address) (r .body) in
+    meaning-entries rs (fedRecord r x) ∙ rw (meaning-entries rs (fedRecord r (plain [] [] []))) (append-assoc (x .entries) es _)
+
+-- ---- memories keep their lengths
+
+pub mem-kept : (k : Kind) (n a : ℕ) (body mem : List ℕ) → length (memBy k n a body mem) ≡ length mem
+mem-kept Data n a body mem = turns-keep (vector-turns a body) n 0 mem
+mem-kept Code n a body mem = refl
+mem-kept Gs n a body mem = refl
+mem-kept Start n a body mem = refl
+
+pub code-kept : (k : Kind) (n a : ℕ) (body code : List ℕ) → length (codeBy k n a body code) ≡ length code
+code-kept Data n a body code = refl
+code-kept Code n a body code = turns-keep (instruction-turns a body) n 0 code
+code-kept Gs n a body code = refl
+code-kept Start n a body code = refl
+
+pub meaning-kept : (rs : List Record) (x : Plain) → (length (meaningOf rs x .mem) ≡ length (x .mem)) × (length (meaningOf rs x .code) ≡ length (x .code))
+unfolding meaningOf fedRecord
+meaning-kept [] x = (refl, refl)
+meaning-kept (r ∷ rs) x =
+    let h = meaning-kept rs (fedRecord r x) in
+    (h .0 ∙ mem-kept (r .kind) (r .count) (r .address) (r .body) (x .mem), h .1 ∙ code-kept (r .kind) (r .count) (r .address) (r .body) (x .code))
+
+-- ---- the log
+
+pub numbers-length : (es : List Entry) → length (numbersOf es) ≡ 2 * length es
+numbers-length [] = refl
+numbers-length (e ∷ es) = let h = numbers-length es in omega arith
+
+numbers-append : (es fs : List Entry) → numbersOf (es ++ fs) ≡ numbersOf es ++ numbersOf fs
+numbers-append [] fs = refl
+numbers-append (e ∷ es) fs = rw (numbers-append es fs)
+
+-- the entries in a log are its first numbers
+numbers-in : (log : List ℕ) (n : ℕ) → 2 * n ≤ length log → numbersOf (entriesIn log n) ≡ take (2 * n) log
+numbers-in log zero h = refl
+numbers-in [] (suc n) h = absurd (omega arith)
+numbers-in (r ∷ []) (suc n) h = absurd (omega arith)
+numbers-in (r ∷ v ∷ log) (suc n) h =
+    let e : 2 * suc n ≡ suc (suc (2 * n)) = omega arith in
+    rw (e, numbers-in log n (omega arith))
+
+pub in-count : (log : List ℕ) (n : ℕ) → 2 * n ≤ length log → length (entriesIn log n) ≡ n
+in-count log zero h = refl
+in-count [] (suc n) h = absurd (omega arith)
+in-count (r ∷ []) (suc n) h = absurd (omega arith)
+in-count (r ∷ v ∷ log) (suc n) h = ap suc (in-count log n (omega arith))
+
+pub log-same : (log : List ℕ) (n : ℕ) → 2 * n ≤ length log → logWith (entriesIn log n) log ≡ log
+log-same log n h = rw (in-count log n h, numbers-in log n h) (take-append-drop (2 * n) log)
+
+-- stores at a seam
+sets-seam : (p q ys : List ℕ) (n : ℕ) → length p ≡ n → length ys ≤ length q → sets (p ++ q) n ys ≡ p ++ ys ++ drop (length ys) q
+sets-seam p q ys n e h =
+    sets-eq ys (p ++ q) n (rw (length-append p q) (omega arith)) ∙ rw (take-at p q n e, ← e, drop-append-add p q (length ys))
+
+-- stores behind the first entries add entries
+pub log-then : (es fs : List Entry) (log : List ℕ) → 2 * (length es + length fs) ≤ length log
+    → sets (logWith es log) (2 * length es) (numbersOf fs) ≡ logWith (es ++ fs) log
+log-then es fs log h =
+    let m = numbers-length fs in
+    let k : 2 * length es + 2 * length fs ≡ 2 * (length es + length fs) = omega arith in
+    sets-seam (numbersOf es) (drop (2 * length es) log) (numbersOf fs) (2 * length es) (numbers-length es) (rw (length-drop (2 * length es) log) (omega arith))
+    ∙ rw (drop-drop (length (numbersOf fs)) (2 * length es) log, m, k, numbers-append es fs, length-append es fs)
+
+-- entries more in a log
+pub log-more : (log : List ℕ) (used : ℕ) (es : List Entry) → 2 * (used + length es) ≤ length log
+    → logWith (entriesIn log used ++ es) log ≡ sets log (2 * used) (numbersOf es)
+log-more log used es h =
+    let n = in-count log used (omega arith) in
+    sym (log-then (entriesIn log used) es log (rw n h)) ∙ rw (log-same log used (omega arith), n)

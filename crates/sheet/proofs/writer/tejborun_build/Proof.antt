@@ -1,0 +1,52 @@
+use Rattle.sheet.proofs.BuildLaws.{exported}
+use borrow.Author.Needs.{needs}
+use Rattle.sheet.proofs.writer.tejborun_build.Statement.{statement}
+use Rattle.sheet.proofs.writer.tejborun_build.Tie as tie
+use Rattle.sheet.proofs.writer.tejborun_build.Reads as reads
+use Rattle.sheet.proofs.writer.tejborun_build.Lts as lts
+use Rattle.sheet.proofs.writer.build.Reads as build-reads
+
+-- src/writer.rt:211:11
+build-requires : tie.Need-build-requires
+build-requires c κs = search needs
+
+-- src/writer.rt:212:28
+enum-known-n : tie.Need-enum-known-n
+enum-known-n c = search needs
+
+-- src/writer.rt:213:32
+enum-known-number : tie.Need-enum-known-number
+enum-known-number c = search needs
+
+-- src/writer.rt:213:52
+cast-result : tie.Need-cast-result
+cast-result c = search needs
+
+-- src/writer.rt:207:1
+same-length : tie.Need-same-length
+same-length c = search needs
+
+-- src/writer.rt:207:1
+returns : tie.Need-returns
+returns c = exported (c .before .before .before .before .before .build .ensures) (c .before .n .given .1)
+
+-- src/writer.rt:207:1
+same-length-2 : tie.Need-same-length-2
+same-length-2 c = search needs
+
+-- src/writer.rt:207:1
+returns-2 : tie.Need-returns-2
+returns-2 c = exported (c .before .before .before .before .before .build .ensures) (c .before .number .given .1)
+
+pub tejborun-build-spec : {M : Type 1} → statement M
+tejborun-build-spec =
+    tie.close
+    (tie.spec
+    build-requires
+    enum-known-n
+    enum-known-number
+    cast-result
+    same-length
+    returns
+    same-length-2
+    returns-2)

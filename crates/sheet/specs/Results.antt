@@ -1,0 +1,72 @@
+-- The steps and the meaning of a sheet as functions answer them, refused sheets included.
+use Prim.Native.Nat.{ℕ, zero, suc, _+_, _*_, _%_}
+use mathlib.Core.Bool.{Bool, not, _||_}
+use mathlib.Core.List.{List, [], _∷_, _++_}
+use lib.ListN.{length, drop}
+use lib.Dec.{eqb, ltb}
+use Rattle.fields.specs.Fields.{if}
+use Rattle.sheet.specs.declared.StepsAnswer.{StepsAnswer}
+use Rattle.sheet.specs.declared.StepsAnswer.the-variants.{Steps, Refused as StepsRefused}
+use Rattle.sheet.specs.declared.MeaningAnswer.{MeaningAnswer}
+use Rattle.sheet.specs.declared.MeaningAnswer.the-variants.{Meant, Refused as MeaningRefused}
+use Rattle.sheet.specs.Records.{Record}
+use Rattle.sheet.specs.Reader.{Contents, valid, refused, contentsOf}
+use Rattle.sheet.specs.Sizes.{sheetSteps, sheetEntries}
+use Rattle.sheet.specs.Meaning.{Entry, entry, Plain, plain, meaningOf}
+
+-- the steps of a sheet, or its refusal (46, 40 to 45)
+abbrev pub stepsIn : Contents → StepsAnswer
+stepsIn (valid rs) = Steps (sheetSteps rs)
+stepsIn (refused n offset) = StepsRefused n offset
+
+abbrev pub stepsOfSheet : List ℕ → StepsAnswer
+stepsOfSheet sheet = stepsIn (contentsOf sheet)
+
+-- "register, value, two 64-bit numbers": entries as they stand in a log
+abbrev pub numbersOf : List Entry → List ℕ
+numbersOf [] = []
+numbersOf (e ∷ es) = e .register ∷ e .value ∷ numbersOf es
+
+-- the first entries of a log
+abbrev pub entriesIn : List ℕ → ℕ → List Entry
+entriesIn log zero = []
+entriesIn [] (suc n) = []
+entriesIn (r ∷ []) (suc n) = []
+entriesIn (r ∷ v ∷ log) (suc n) = entry r v ∷ entriesIn log n
+
+-- a log whose first entries are these, the numbers past them as they were
+abbrev pub logWith : List Entry → List ℕ → List ℕ
+logWith es log = numbersOf es ++ drop (2 * length es) log
+
+-- what `meaning` leaves
+pub record Left : Type 0 where
+  pub answer : MeaningAnswer
+  pub mem : List ℕ
+  pub code : List ℕ
+  pub log : List ℕ
+
+abbrev pub left : MeaningAnswer → List ℕ → List ℕ → List ℕ → Left
+left a mem code log = record { answer = a; mem = mem; code = code; log = log }
+
+abbrev pub leftPlain : Plain → List ℕ → Left
+leftPlain x log = left (Meant (length (x .entries))) (x .mem) (x .code) (logWith (x .entries) log)
+
+-- the meaning where the log has room for all entries of the sheet, else 31
+abbrev pub meaningIn : Contents → List ℕ → List ℕ → List ℕ → ℕ → Left
+meaningIn (valid rs) mem code log used =
+    if (ltb (length log) (2 * (used + sheetEntries rs))) (left (MeaningRefused 31 0) mem code log)
+    (leftPlain (meaningOf rs (plain mem code (entriesIn log used))) log)
+meaningIn (refused n offset) mem code log used = left (MeaningRefused n offset) mem code log
+
+-- the memories' lengths first, as a run tests them: 2, 3, 4
+unfoldable pub lengthRefusal : List ℕ → List ℕ → List ℕ → ℕ → ℕ
+lengthRefusal mem code log used =
+    if (not (eqb (length mem) 4096)) 2
+    (if (not (eqb (length code) 16384)) 3
+    (if (eqb (length log % 2) 1 || (ltb 131072 (length log) || ltb (length log) (2 * used))) 4
+    0))
+
+unfoldable pub meaningOfSheet : List ℕ → List ℕ → List ℕ → List ℕ → ℕ → Left
+meaningOfSheet sheet mem code log used =
+    if (eqb (lengthRefusal mem code log used) 0) (meaningIn (contentsOf sheet) mem code log used)
+    (left (MeaningRefused (lengthRefusal mem code log used) 0) mem code log)

@@ -1,0 +1,227 @@
+// The plain meaning of a sheet: a machine fed the records in order.
+use super::Kind;
+use super::MeaningAnswer;
+use super::Reading;
+use super::reader::byte_at;
+use super::reader::read_record;
+use super::totals::Measured;
+use super::totals::measure;
+use super::writer::copy_bytes;
+ghost use mathlib.Core.Path.{_≡_};
+ghost use mathlib.Core.List.{[], _∷_};
+ghost use Prim.Native.Nat.{_+_, _*_, _%_, _<_, _≤_};
+ghost use lib.ListN.{length};
+ghost use lib.Seq.{sets};
+ghost use Rattle.sheet.specs.Records.{recordOf, bodyLength, bytesAt, number};
+ghost use Rattle.sheet.specs.Reader.{contentsFrom};
+ghost use Rattle.sheet.specs.Meaning.{entry, putVectors, putInstructions, entriesAt};
+ghost use Rattle.sheet.specs.Results.{numbersOf, left, lengthRefusal, meaningOfSheet};
+ghost use Rattle.sheet.specs.Fed.{vectorAt, FeedRoom, fed, fedBy, Feeds, fedIn, Means};
+
+fn wide(x: u32) -> u64
+    ensures { λ r. ⌜ (r ≡ x) × (r < 4294967296) ⌝ }
+{
+    x as u64
+}
+
+fn word_at(sheet: &[u8], at: usize) -> u32
+    requires { ⌜ at + 4 ≤ length (now sheet) ⌝ }
+    ensures { λ r. ⌜ r ≡ number (bytesAt (now (sheet .entry)) at 4) ⌝ }
+{
+    byte_at(sheet, at)
+        + byte_at(sheet, at + 1) * 256
+        + byte_at(sheet, at + 2) * 65536
+        + byte_at(sheet, at + 3) * 16777216
+}
+
+fn long_at(sheet: &[u8], at: usize) -> u64
+    requires { ⌜ at + 8 ≤ length (now sheet) ⌝ }
+    ensures { λ r. ⌜ r ≡ number (bytesAt (now (sheet .entry)) at 8) ⌝ }
+{
+    wide(word_at(sheet, at)) + wide(word_at(sheet, at + 4)) * 4294967296
+}
+
+// The vector at a place of the sheet, to quadword q.
+fn put_vector(sheet: &[u8], at: usize, data: &mut [u32], q: usize)
+    requires { ⌜ (at + 16 ≤ length (now sheet)) × (4 * q + 4 ≤ length (now «data»)) ⌝ }
+    ensures { λ _. ⌜ now («data» .exit) ≡ sets (now («data» .entry)) (4 * q) (vectorAt (now (sheet .entry)) at) ⌝ }
+{
+    data[4 * q] = word_at(sheet, at);
+    data[4 * q + 1] = word_at(sheet, at + 4);
+    data[4 * q + 2] = word_at(sheet, at + 8);
+    data[4 * q + 3] = word_at(sheet, at + 12);
+}
+
+fn put_vectors(sheet: &[u8], body: usize, n: usize, a: usize, data: &mut [u32])
+    requires { ⌜ (body + 16 * n ≤ length (now sheet)) × (a < 4294967296) × (length (now «data») ≡ 4096) ⌝ }
+    ensures { λ _. ⌜ now («data» .exit) ≡ putVectors a (bytesAt (now (sheet .entry)) body (16 * n)) n 0 (now («data» .entry)) ⌝ }
+{
+    let mut j = 0;
+    while j < n {
+        put_vector(sheet, body + 16 * j, data, (a + j) % 1024);
+        j += 1;
+    }
+}
+
+fn put_instructions(sheet: &[u8], body: usize, n: usize, a: usize, code: &mut [u8])
+    requires { ⌜ (body + 8 * n ≤ length (now sheet)) × (a < 4294967296) × (length (now code) ≡ 16384) ⌝ }
+    ensures { λ _. ⌜ now (code .exit) ≡ putInstructions a (bytesAt (now (sheet .entry)) body (8 * n)) n 0 (now (code .entry)) ⌝ }
+{
+    let mut j = 0;
+    while j < n {
+        copy_bytes(sheet, body + 8 * j, 8, code, 8 * ((a + j) % 2048));
+        j += 1;
+    }
+}
+
+fn put_entry(log: &mut [u64], used: u64, register: u64, value: u64)
+    requires { ⌜ 2 * (used + 1) ≤ length (now log) ⌝ }
+    ensures { λ _. ⌜ now (log .exit) ≡ sets (now (log .entry)) (2 * used) (numbersOf (entry register value ∷ [])) ⌝ }
+{
+    let at = 2 * used as usize;
+    log[at] = register;
+    log[at + 1] = value;
+}
+
+fn put_entries(sheet: &[u8], body: usize, n: usize, log: &mut [u64], used: u64)
+    requires { ⌜ (body + 16 * n ≤ length (now sheet)) × (2 * (used + n) ≤ length (now log)) ⌝ }
+    ensures { λ _. ⌜ now (log .exit) ≡ sets (now (log .entry)) (2 * used) (numbersOf (entriesAt (bytesAt (now (sheet .entry)) body (16 * n)) n 0)) ⌝ }
+{
+    let mut j = 0;
+    while j < n {
+        put_entry(
+            log,
+            used + j as u64,
+            wide(byte_at(sheet, body + 16 * j + 8)),
+            long_at(sheet, body + 16 * j),
+        );
+        j += 1;
+    }
+}
+
+// A record does what its row says; answers the entries used afterwards.
+fn feed_record(
+    sheet: &[u8],
+    body: usize,
+    kind: Kind,
+    n: u32,
+    a: u32,
+    data: &mut [u32],
+    code: &mut [u8],
+    log: &mut [u64],
+    used: u64,
+) -> u64
+    requires { ⌜ FeedRoom (now sheet) body kind n (now «data») (now code) (now log) used ⌝ }
+    ensures { λ r. ⌜ fed (now («data» .exit)) (now (code .exit)) (now (log .exit)) r ≡ fedBy (recordOf kind n a (bytesAt (now (sheet .entry)) body (bodyLength kind n))) (fed (now («data» .entry)) (now (code .entry)) (now (log .entry)) used) ⌝ }
+{
+    match kind {
+        Kind::Data => {
+            put_vectors(sheet, body, n as usize, a as usize, data);
+            used
+        }
+        Kind::Code => {
+            put_instructions(sheet, body, n as usize, a as usize, code);
+            used
+        }
+        Kind::Gs => {
+            put_entries(sheet, body, n as usize, log, used);
+            used + n as u64
+        }
+        Kind::Start => {
+            put_entry(log, used, 256, a as u64);
+            used + 1
+        }
+    }
+}
+
+// Feeds the records of an accepted sheet; answers the entries used afterwards.
+fn feed_records(sheet: &[u8], data: &mut [u32], code: &mut [u8], log: &mut [u64], used: u64) -> u64
+    requires { ⌜ Feeds (now sheet) 0 (now «data») (now code) (now log) used ⌝ }
+    ensures { λ r. ⌜ fed (now («data» .exit)) (now (code .exit)) (now (log .exit)) r ≡ fedIn (contentsFrom (now (sheet .entry)) 0) (fed (now («data» .entry)) (now (code .entry)) (now (log .entry)) used) ⌝ }
+{
+    let mut at = 0;
+    let mut u = used;
+    loop {
+        match read_record(sheet, at) {
+            Reading::End => {
+                return u;
+            }
+            Reading::Found {
+                kind,
+                count,
+                address,
+                next,
+            } => {
+                u = feed_record(sheet, at + 6, kind, count, address, data, code, log, u);
+                at = next;
+            }
+            Reading::Refused { number, offset } => {
+                return u;
+            }
+        }
+    }
+}
+
+// The refusal of the memories' lengths, 0 where there is none.
+fn length_refusal(data: &[u32], code: &[u8], log: &[u64], used: u64) -> u32
+    ensures { λ r. ⌜ r ≡ lengthRefusal (now («data» .entry)) (now (code .entry)) (now (log .entry)) used ⌝ }
+{
+    if data.len() != 4096 {
+        return 2;
+    }
+    if code.len() != 16384 {
+        return 3;
+    }
+    if log.len() % 2 == 1 {
+        return 4;
+    }
+    if 131072 < log.len() {
+        return 4;
+    }
+    if ((log.len() / 2) as u64) < used {
+        return 4;
+    }
+    0
+}
+
+// The meaning of an accepted sheet with so many entries, where the log has room for them.
+fn mean_measured(
+    sheet: &[u8],
+    data: &mut [u32],
+    code: &mut [u8],
+    log: &mut [u64],
+    used: u64,
+    entries: u64,
+) -> MeaningAnswer
+    requires { ⌜ Means (now sheet) (now «data») (now code) (now log) used entries ⌝ }
+    ensures { λ r. ⌜ left r (now («data» .exit)) (now (code .exit)) (now (log .exit)) ≡ meaningOfSheet (now (sheet .entry)) (now («data» .entry)) (now (code .entry)) (now (log .entry)) used ⌝ }
+{
+    let room = (log.len() / 2) as u64 - used;
+    if room < entries {
+        return MeaningAnswer::Refused {
+            number: 31,
+            offset: 0,
+        };
+    }
+    MeaningAnswer::Meant(feed_records(sheet, data, code, log, used))
+}
+
+// Feeds a sheet's records to the memories and the log, which a refusal leaves as they are.
+pub fn meaning(
+    sheet: &[u8],
+    data: &mut [u32],
+    code: &mut [u8],
+    log: &mut [u64],
+    used: u64,
+) -> MeaningAnswer
+    ensures { λ r. ⌜ left r (now («data» .exit)) (now (code .exit)) (now (log .exit)) ≡ meaningOfSheet (now (sheet .entry)) (now («data» .entry)) (now (code .entry)) (now (log .entry)) used ⌝ }
+{
+    let number = length_refusal(data, code, log, used);
+    if number != 0 {
+        return MeaningAnswer::Refused { number, offset: 0 };
+    }
+    match measure(sheet) {
+        Measured::Refused { number, offset } => MeaningAnswer::Refused { number, offset },
+        Measured::Whole(t) => mean_measured(sheet, data, code, log, used, t.entries),
+    }
+}
