@@ -317,7 +317,11 @@ unfolding tagsInBlock if
 tags-of b NoTagWords e f = rw e
 tags-of b (From at) e f = rw (e, f)
 
--- a payload of no words is not told from no payload
+-- a payload of no words is written as no payload, so the block does not tell them apart
+pub empty-written : (at : ℕ) → payloadWords (Words at 0) ≡ payloadWords NoPayload
+unfolding if
+empty-written at = refl
+
 abbrev pub emptyWords : Payload → Bool
 emptyWords NoPayload = false
 emptyWords (Words at count) = eqb count 0

@@ -48,7 +48,12 @@ fn payload_words(payload: Payload) -> [u32; 2]
 {
     match payload {
         Payload::Nothing => [0, 0],
-        Payload::Words { at, count } => [count, at],
+        Payload::Words { at, count } => {
+            if count == 0 {
+                return [0, 0];
+            }
+            [count, at]
+        }
     }
 }
 
