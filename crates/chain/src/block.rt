@@ -4,15 +4,13 @@ use super::ReadState;
 use super::Stack;
 use super::State;
 use super::TagWords;
+use super::control::reset_path;
+use super::control::reset_unit;
 use gif::Path;
-use gif::Place;
 use gif::ReadPath;
-use vif::Vif;
-use vif::Waiting;
 ghost use mathlib.Core.Path.{_≡_};
 ghost use Prim.Native.Nat.{_+_, _*_, _^_};
 ghost use Rattle.gif.specs.Block.{bitOf};
-ghost use Rattle.chain.specs.Start.{resetPath, resetUnit};
 ghost use Rattle.chain.specs.Block.{stackWords, tagWords, payloadWords, chainWords, stateBlock, unitWords, path2Words, path3Words, pathKnown, pathHeld, bitsExist, pathsExist, devicesExist, stateExists, stackInBlock, tagsInBlock, payloadInBlock, usedInBlock, heldState, noState, stateInBlock};
 
 fn bit(b: bool) -> u32
@@ -365,38 +363,6 @@ fn held_state(block: [u32; 63]) -> State
         vif: unit,
         path2,
         path3,
-    }
-}
-
-fn reset_path() -> Path
-    ensures { λ r. ⌜ r ≡ resetPath ⌝ }
-{
-    Path {
-        q: 0,
-        place: Place::Idle,
-    }
-}
-
-fn reset_unit() -> Vif
-    ensures { λ r. ⌜ r ≡ resetUnit ⌝ }
-{
-    Vif {
-        cl: 0,
-        wl: 0,
-        ofst: 0,
-        base: 0,
-        tops: 0,
-        top: 0,
-        itops: 0,
-        itop: 0,
-        dbf: false,
-        mode: 0,
-        mskpath3: false,
-        mark: 0,
-        mask: 0,
-        row: [0, 0, 0, 0],
-        col: [0, 0, 0, 0],
-        waiting: Waiting::Nothing,
     }
 }
 
