@@ -93,71 +93,12 @@ pub fn state_block(state: State) -> [u32; 63]
     let u = vif::unit_block(unit);
     let p = gif::path_block(path2);
     let q = gif::path_block(path3);
-    [
-        c[0],
-        c[1],
-        c[2],
-        c[3],
-        c[4],
-        c[5],
-        c[6],
-        c[7],
-        c[8],
-        c[9],
-        c[10],
-        c[11],
-        c[12],
-        u[0],
-        u[1],
-        u[2],
-        u[3],
-        u[4],
-        u[5],
-        u[6],
-        u[7],
-        u[8],
-        u[9],
-        u[10],
-        u[11],
-        u[12],
-        u[13],
-        u[14],
-        u[15],
-        u[16],
-        u[17],
-        u[18],
-        u[19],
-        u[20],
-        u[21],
-        u[22],
-        u[23],
-        u[24],
-        u[25],
-        u[26],
-        u[27],
-        u[28],
-        u[29],
-        u[30],
-        u[31],
-        p[0],
-        p[1],
-        p[2],
-        p[3],
-        p[4],
-        p[5],
-        p[6],
-        p[7],
-        p[8],
-        q[0],
-        q[1],
-        q[2],
-        q[3],
-        q[4],
-        q[5],
-        q[6],
-        q[7],
-        q[8],
-    ]
+    let mut block = [0; 63];
+    fields::put_words(&mut block, 0, &c);
+    fields::put_words(&mut block, 13, &u);
+    fields::put_words(&mut block, 45, &p);
+    fields::put_words(&mut block, 54, &q);
+    block
 }
 
 // Words 13 to 44.
