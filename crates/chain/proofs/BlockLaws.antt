@@ -1,12 +1,15 @@
 -- A state's block gives the state back.
 use mathlib.Core.Path.{_≡_, refl, sym, ap, _∙_}
 use mathlib.Core.Bool.{Bool, true, false}
-use mathlib.Core.List.{List, [], _∷_, _++_}
+use mathlib.Core.List.{List, [], _∷_, _++_, append-assoc}
 use Prim.Native.Nat.{ℕ, _+_, _*_, _/_, _%_, _^_}
 use native.Mathlib.Nat.{mod-add-div'}
-use lib.ListN.{getD, length}
+use native.Mathlib.Omega.{arith}
+use lib.ListN.{getD, length, drop, length-append, length-drop}
 use lib.Dec.{eqb, leb}
 use Rattle.fields.specs.Fields.{if}
+use Rattle.fields.specs.Parts.{withWords}
+use Rattle.fields.proofs.PartLaws.{words-begin, words-after, words-end}
 use Rattle.gif.specs.declared.Place.{Place}
 use Rattle.gif.specs.declared.Place.the-variants.{Idle, Data}
 use Rattle.gif.specs.declared.Path.{Path}
@@ -225,14 +228,51 @@ block-words s =
     ∙ ap {B = List ℕ} (λ (r : List ℕ). unitBlock (s .vif) ++ r)
     (nine (s .path2) _ ∙ ap {B = List ℕ} (λ (r : List ℕ). pathBlock (s .path2) ++ r) (last-nine (s .path3))))
 
--- the words of the four parts are the block
-pub block-joined : (s : State) {c u p q : List ℕ}
+-- four parts put together
+four-parts : (z c u p q : List ℕ)
+    → length z ≡ 63
+    → length c ≡ 13
+    → length u ≡ 32
+    → length p ≡ 9
+    → length q ≡ 9
+    → withWords (withWords (withWords (withWords z 0 c) 13 u) 45 p) 54 q ≡ c ++ (u ++ (p ++ q))
+four-parts z c u p q hz hc hu hp hq =
+    let z1 : List ℕ = drop (length c) z in
+    let z2 : List ℕ = drop (length u) z1 in
+    let z3 : List ℕ = drop (length p) z2 in
+    let l1 : length z1 ≡ 50 = rw (length-drop (length c) z) (omega arith) in
+    let l2 : length z2 ≡ 18 = rw (length-drop (length u) z1) (omega arith) in
+    let l3 : length z3 ≡ 9 = rw (length-drop (length p) z2) (omega arith) in
+    let m2 : length (c ++ u) ≡ 45 = rw (length-append c u) (omega arith) in
+    let m3 : length ((c ++ u) ++ p) ≡ 54 = rw (length-append (c ++ u) p) (omega arith) in
+    rw (words-begin z c (omega arith), words-after c z1 u 13 hc (omega arith), words-after (c ++ u) z2 p 45 m2 (omega arith), words-end ((c ++ u) ++ p) z3 q 54 m3 (omega arith), append-assoc (c ++ u) p q, append-assoc c u (p ++ q))
+
+-- the four parts of a state put together are its block
+pub block-joined : (s : State) (z : List ℕ) {c u p q b b′ b″ b‴ : List ℕ}
+    → length z ≡ 63
     → c ≡ chainWords s
     → u ≡ unitBlock (s .vif)
     → p ≡ pathBlock (s .path2)
     → q ≡ pathBlock (s .path3)
-    → words13 c (words32 u (words9 p (words9 q []))) ≡ stateBlock s
-block-joined s e f g h = rw (e, f, g, h) (block-words s)
+    → b ≡ withWords z 0 c
+    → b′ ≡ withWords b 13 u
+    → b″ ≡ withWords b′ 45 p
+    → b‴ ≡ withWords b″ 54 q
+    → b‴ ≡ stateBlock s
+unfolding stateBlock chainWords
+block-joined s z hz e f g h i j k l =
+    rw (l, k, j, i, e, f, g, h)
+    (four-parts
+    z
+    (chainWords s)
+    (unitBlock (s .vif))
+    (pathBlock (s .path2))
+    (pathBlock (s .path3))
+    hz
+    refl
+    (ap length (sym (last-thirty-two (s .vif))))
+    (ap length (sym (last-nine (s .path2))))
+    (ap length (sym (last-nine (s .path3)))))
 
 -- ---- a state's words are a state's
 
@@ -317,7 +357,11 @@ unfolding tagsInBlock if
 tags-of b NoTagWords e f = rw e
 tags-of b (From at) e f = rw (e, f)
 
--- a payload of no words is not told from no payload
+-- a payload of no words is written as no payload, so the block does not tell them apart
+pub empty-written : (at : ℕ) → payloadWords (Words at 0) ≡ payloadWords NoPayload
+unfolding if
+empty-written at = refl
+
 abbrev pub emptyWords : Payload → Bool
 emptyWords NoPayload = false
 emptyWords (Words at count) = eqb count 0

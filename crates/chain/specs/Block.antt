@@ -31,10 +31,10 @@ abbrev pub tagWords : TagWords → List ℕ
 tagWords NoTagWords = 0 ∷ 0 ∷ []
 tagWords (From at) = 1 ∷ at ∷ []
 
--- words 9 and 10: how many words, and the address of the next
+-- words 9 and 10: how many words, and the address of the next, 0 where none is pending
 abbrev pub payloadWords : Payload → List ℕ
 payloadWords NoPayload = 0 ∷ 0 ∷ []
-payloadWords (Words at count) = count ∷ at ∷ []
+payloadWords (Words at count) = count ∷ if (eqb count 0) 0 at ∷ []
 
 -- words 0 to 12
 unfoldable pub chainWords : State → List ℕ

@@ -4,15 +4,13 @@ use super::ReadState;
 use super::Stack;
 use super::State;
 use super::TagWords;
+use super::control::reset_path;
+use super::control::reset_unit;
 use gif::Path;
-use gif::Place;
 use gif::ReadPath;
-use vif::Vif;
-use vif::Waiting;
 ghost use mathlib.Core.Path.{_≡_};
 ghost use Prim.Native.Nat.{_+_, _*_, _^_};
 ghost use Rattle.gif.specs.Block.{bitOf};
-ghost use Rattle.chain.specs.Start.{resetPath, resetUnit};
 ghost use Rattle.chain.specs.Block.{stackWords, tagWords, payloadWords, chainWords, stateBlock, unitWords, path2Words, path3Words, pathKnown, pathHeld, bitsExist, pathsExist, devicesExist, stateExists, stackInBlock, tagsInBlock, payloadInBlock, usedInBlock, heldState, noState, stateInBlock};
 
 fn bit(b: bool) -> u32
@@ -48,7 +46,12 @@ fn payload_words(payload: Payload) -> [u32; 2]
 {
     match payload {
         Payload::Nothing => [0, 0],
-        Payload::Words { at, count } => [count, at],
+        Payload::Words { at, count } => {
+            if count == 0 {
+                return [0, 0];
+            }
+            [count, at]
+        }
     }
 }
 
@@ -90,71 +93,12 @@ pub fn state_block(state: State) -> [u32; 63]
     let u = vif::unit_block(unit);
     let p = gif::path_block(path2);
     let q = gif::path_block(path3);
-    [
-        c[0],
-        c[1],
-        c[2],
-        c[3],
-        c[4],
-        c[5],
-        c[6],
-        c[7],
-        c[8],
-        c[9],
-        c[10],
-        c[11],
-        c[12],
-        u[0],
-        u[1],
-        u[2],
-        u[3],
-        u[4],
-        u[5],
-        u[6],
-        u[7],
-        u[8],
-        u[9],
-        u[10],
-        u[11],
-        u[12],
-        u[13],
-        u[14],
-        u[15],
-        u[16],
-        u[17],
-        u[18],
-        u[19],
-        u[20],
-        u[21],
-        u[22],
-        u[23],
-        u[24],
-        u[25],
-        u[26],
-        u[27],
-        u[28],
-        u[29],
-        u[30],
-        u[31],
-        p[0],
-        p[1],
-        p[2],
-        p[3],
-        p[4],
-        p[5],
-        p[6],
-        p[7],
-        p[8],
-        q[0],
-        q[1],
-        q[2],
-        q[3],
-        q[4],
-        q[5],
-        q[6],
-        q[7],
-        q[8],
-    ]
+    let mut block = [0; 63];
+    fields::put_words(&mut block, 0, &c);
+    fields::put_words(&mut block, 13, &u);
+    fields::put_words(&mut block, 45, &p);
+    fields::put_words(&mut block, 54, &q);
+    block
 }
 
 // Words 13 to 44.
@@ -360,38 +304,6 @@ fn held_state(block: [u32; 63]) -> State
         vif: unit,
         path2,
         path3,
-    }
-}
-
-fn reset_path() -> Path
-    ensures { λ r. ⌜ r ≡ resetPath ⌝ }
-{
-    Path {
-        q: 0,
-        place: Place::Idle,
-    }
-}
-
-fn reset_unit() -> Vif
-    ensures { λ r. ⌜ r ≡ resetUnit ⌝ }
-{
-    Vif {
-        cl: 0,
-        wl: 0,
-        ofst: 0,
-        base: 0,
-        tops: 0,
-        top: 0,
-        itops: 0,
-        itop: 0,
-        dbf: false,
-        mode: 0,
-        mskpath3: false,
-        mark: 0,
-        mask: 0,
-        row: [0, 0, 0, 0],
-        col: [0, 0, 0, 0],
-        waiting: Waiting::Nothing,
     }
 }
 

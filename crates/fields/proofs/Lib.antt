@@ -1,3 +1,4 @@
--- Laws of fields and of choices.
+-- Laws of fields, of choices and of parts.
 pub mod FieldLaws
 pub mod ChoiceLaws
+pub mod PartLaws

@@ -1,2 +1,3 @@
 -- What every layer's definitions are written with.
 pub mod Fields
+pub mod Parts

@@ -1,1 +1,26 @@
-// Definitions and laws alone: fields of numbers, and the choice by a test.
+// Definitions and laws: fields of numbers, the choice by a test, and blocks of words put together of parts.
+ghost use mathlib.Core.Path.{_≡_};
+ghost use lib.ListN.{set};
+ghost use Rattle.fields.specs.Parts.{withWords};
+
+fn put_word(block: &mut [u32], at: usize, word: u32)
+    ensures { λ _. ⌜ now (block .exit) ≡ set (now (block .entry)) at word ⌝ }
+{
+    if at < block.len() {
+        block[at] = word;
+    }
+}
+
+// Stores the words one after another from `at` on; those past the block's end are dropped.
+pub fn put_words(block: &mut [u32], at: usize, words: &[u32])
+    ensures { λ _. ⌜ now (block .exit) ≡ withWords (now (block .entry)) at (now (words .entry)) ⌝ }
+{
+    if block.len() <= at {
+        return;
+    }
+    let mut i = 0;
+    while i < words.len() {
+        put_word(block, at + i, words[i]);
+        i += 1;
+    }
+}

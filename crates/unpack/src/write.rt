@@ -2,7 +2,7 @@
 use super::Registers;
 use super::mask::row_of_cycle;
 ghost use mathlib.Core.Path.{_≡_};
-ghost use Prim.Native.Nat.{_<_, _≤_, _+_, _*_};
+ghost use Prim.Native.Nat.{_<_, _≤_, _+_, _*_, _%_};
 ghost use lib.ListN.{length, getD};
 ghost use Rattle.unpack.specs.Position.{positionOf};
 ghost use Rattle.unpack.specs.Mask.{unfolded};
@@ -81,12 +81,20 @@ fn write_quadword(
     next_rows(mode, fields, row)
 }
 
+// A place modulo the memory's size.
+fn wrapped(size: u32, at: u32) -> u32
+    requires { ⌜ 0 < size ⌝ }
+    ensures { λ r. ⌜ r ≡ at % size ⌝ }
+{
+    if at < size { at } else { at % size }
+}
+
 // The quadword that a write goes to.
 fn position(size: u32, address: u32, cl: u32, wl: u32, i: u32) -> u32
     requires { ⌜ CycleFits cl wl × (0 < size) × (address ≤ 1023) × (i ≤ 255) ⌝ }
     ensures { λ r. ⌜ r ≡ positionOf size address cl wl i ⌝ }
 {
-    (address + i / wl * cl + i % wl) % size
+    wrapped(size, address + i / wl * cl + i % wl)
 }
 
 // Write i of an UNPACK.

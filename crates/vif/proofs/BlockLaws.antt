@@ -4,9 +4,11 @@ use mathlib.Core.Bool.{Bool, true, false}
 use mathlib.Core.List.{List, [], _∷_, _++_}
 use Prim.Native.Nat.{ℕ, zero, suc}
 use native.Mathlib.Omega.{arith}
-use lib.ListN.{getD, length}
+use lib.ListN.{getD, length, drop, length-drop}
 use lib.Dec.{eqb, leb}
 use Rattle.fields.specs.Fields.{if}
+use Rattle.fields.specs.Parts.{withWords}
+use Rattle.fields.proofs.PartLaws.{words-begin, words-end}
 use Rattle.gif.specs.Block.{bitOf}
 use Rattle.unpack.specs.declared.Format.{Format}
 use Rattle.unpack.specs.declared.Format.the-variants.{S32, S16, S8, V2x32, V2x16, V2x8, V3x32, V3x16, V3x8, V4x32, V4x16, V4x8, V4x5}
@@ -21,67 +23,24 @@ pub by-waiting : {w k : Waiting} → w ≡ k → {b : List ℕ} → b ≡ waitin
 by-waiting e h = rw e h
 
 -- a waiting code's words are eleven
-eleven : (w : Waiting)
-    → getD (waitingWords w) 0 0
-    ∷ getD (waitingWords w) 1 0
-    ∷ getD (waitingWords w) 2 0
-    ∷ getD (waitingWords w) 3 0
-    ∷ getD (waitingWords w) 4 0
-    ∷ getD (waitingWords w) 5 0
-    ∷ getD (waitingWords w) 6 0
-    ∷ getD (waitingWords w) 7 0
-    ∷ getD (waitingWords w) 8 0
-    ∷ getD (waitingWords w) 9 0
-    ∷ getD (waitingWords w) 10 0
-    ∷ []
-    ≡ waitingWords w
-eleven Nothing = refl
-eleven (MaskDue i) = refl
-eleven (RowDue due i) = refl
-eleven (ColDue due i) = refl
-eleven (MpgDue address count due i) = refl
-eleven (DirectDue due i) = refl
-eleven (DirecthlDue due i) = refl
-eleven (UnpackDue f u) = refl
+waiting-length : (w : Waiting) → length (waitingWords w) ≡ 11
+waiting-length Nothing = refl
+waiting-length (MaskDue i) = refl
+waiting-length (RowDue due i) = refl
+waiting-length (ColDue due i) = refl
+waiting-length (MpgDue address count due i) = refl
+waiting-length (DirectDue due i) = refl
+waiting-length (DirecthlDue due i) = refl
+waiting-length (UnpackDue f u) = refl
 
--- the words one by one are the block
-pub block-joined : (v : Vif) {r w : List ℕ} → r ≡ registerWords v → w ≡ waitingWords (v .waiting)
-    → getD r 0 0
-    ∷ getD r 1 0
-    ∷ getD r 2 0
-    ∷ getD r 3 0
-    ∷ getD r 4 0
-    ∷ getD r 5 0
-    ∷ getD r 6 0
-    ∷ getD r 7 0
-    ∷ getD r 8 0
-    ∷ getD r 9 0
-    ∷ getD r 10 0
-    ∷ getD r 11 0
-    ∷ getD r 12 0
-    ∷ getD r 13 0
-    ∷ getD r 14 0
-    ∷ getD r 15 0
-    ∷ getD r 16 0
-    ∷ getD r 17 0
-    ∷ getD r 18 0
-    ∷ getD r 19 0
-    ∷ getD r 20 0
-    ∷ getD w 0 0
-    ∷ getD w 1 0
-    ∷ getD w 2 0
-    ∷ getD w 3 0
-    ∷ getD w 4 0
-    ∷ getD w 5 0
-    ∷ getD w 6 0
-    ∷ getD w 7 0
-    ∷ getD w 8 0
-    ∷ getD w 9 0
-    ∷ getD w 10 0
-    ∷ []
-    ≡ unitBlock v
+-- the two parts put together are the block
+pub block-joined : (v : Vif) (z : List ℕ) {r w b b′ : List ℕ} → length z ≡ 32 → r ≡ registerWords v → w ≡ waitingWords (v .waiting)
+    → b ≡ withWords z 0 r → b′ ≡ withWords b 21 w → b′ ≡ unitBlock v
 unfolding unitBlock
-block-joined v e f = rw (e, f) (ap {B = List ℕ} (λ (ws : List ℕ). registerWords v ++ ws) (eleven (v .waiting)))
+block-joined v z {r} {w} n e f g h =
+    let l : length r ≡ 21 = rw e in
+    let k : length w ≡ 11 = rw (f, waiting-length (v .waiting)) in
+    rw (h, g, words-begin z r (omega arith), words-end r (drop (length r) z) w 21 l (rw (length-drop (length r) z) (omega arith)), e, f)
 
 -- ---- a unit's words are a unit's
 

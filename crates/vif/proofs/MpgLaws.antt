@@ -1,11 +1,25 @@
 -- Words in code memory.
-use mathlib.Core.Path.{_≡_, refl}
-use mathlib.Core.List.{List}
-use Prim.Native.Nat.{ℕ, suc, _+_, _*_, _/_, _%_}
+use mathlib.Core.Path.{_≡_, refl, _∙_}
+use mathlib.Core.Bool.{Bool, true, false, _&&_}
+use mathlib.Core.List.{List, [], _∷_}
+use Prim.Native.Nat.{ℕ, suc, _+_, _*_, _-_, _/_, _%_, _^_, _≤_, _<_}
 use native.Mathlib.Omega.{arith}
-use lib.ListN.{set}
-use lib.Seq.{sets}
-use Rattle.vif.specs.Payload.{bytesOf}
+use borrow.Author.Tests.{le-leb, lt-ltb}
+use lib.ListN.{set, getD, length}
+use lib.Seq.{sets, getD-set-other}
+use lib.Dec.{leb, ltb}
+use Rattle.fields.specs.Fields.{quadword}
+use Rattle.gif.specs.declared.Path.{Path}
+use Rattle.gif.specs.declared.GifAnswer.{GifAnswer}
+use Rattle.gif.specs.declared.GifAnswer.the-variants.{Taken, Refused as GifRefused}
+use Rattle.gif.specs.Step.{Left as GifLeft, gifStep}
+use Rattle.vif.specs.declared.Incoming.{Incoming}
+use Rattle.vif.specs.declared.Incoming.the-variants.{Word0, Word1, Word2, Word3}
+use Rattle.vif.specs.declared.Waiting.{Waiting}
+use Rattle.vif.specs.declared.Waiting.the-variants.{Nothing, MaskDue, RowDue, ColDue, MpgDue, DirectDue, DirecthlDue, UnpackDue}
+use Rattle.vif.specs.declared.Vif.{Vif}
+use Rattle.vif.specs.Payload.{instructions, bytesOf, wordPlace, mpgStored}
+use Rattle.vif.specs.Step.{Lent, Left, wordIn, afterGif, giveQuadword, directStep, unpackStep, codeStep, stepBy, vifStep}
 
 -- a word is four stores
 pub four-stores : (code : List ℕ) (at word : ℕ)
@@ -16,3 +30,66 @@ four-stores code at word =
     let b : at + 2 ≡ suc (suc at) = omega arith in
     let c : at + 3 ≡ suc (suc (suc at)) = omega arith in
     rw (a, b, c)
+
+-- stores one after another leave every other place as it was
+sets-outside : (vs l : List ℕ) (at j d : ℕ) → (at ≤ j → j < at + length vs → ⊥) → getD (sets l at vs) j d ≡ getD l j d
+sets-outside [] l at j d h = refl
+sets-outside (x ∷ vs) l at j d h =
+    sets-outside vs (set l at x) (suc at) j d (λ a b. h (omega arith) (omega arith))
+    ∙ getD-set-other l at j x d (λ e. h (omega arith) (omega arith))
+
+-- a word of MPG leaves every byte but its own four
+pub stored-outside : (size a n due word : ℕ) (code : List ℕ) (j d : ℕ)
+    → (wordPlace size a (n + n - due) ≤ j → j < wordPlace size a (n + n - due) + 4 → ⊥)
+    → getD (mpgStored size a n due word code) j d ≡ getD code j d
+unfolding mpgStored
+stored-outside size a n due word code j d h = sets-outside (bytesOf word) code (wordPlace size a (n + n - due)) j d h
+
+-- ---- code memory after a step
+
+-- whether byte j of code memory is one of the four that the waiting code's next word goes to: none but MPG has any
+abbrev pub storesAt : Waiting → ℕ → Bool
+storesAt Nothing j = false
+storesAt (MaskDue i) j = false
+storesAt (RowDue due i) j = false
+storesAt (ColDue due i) j = false
+storesAt (MpgDue a n due i) j = leb (wordPlace instructions a (n + n - due)) j && ltb j (wordPlace instructions a (n + n - due) + 4)
+storesAt (DirectDue due i) j = false
+storesAt (DirecthlDue due i) j = false
+storesAt (UnpackDue f u) j = false
+
+not-between : (at j : ℕ) → (leb at j && ltb j (at + 4)) ≡ false → at ≤ j → j < at + 4 → ⊥
+not-between at j h a b =
+    let e : true ≡ false = rw (le-leb at j a, lt-ltb j (at + 4) b) at h in
+    let z : _≡_ {A = ℕ} 0 1 = cc in
+    omega arith
+
+module _ (v : Vif) (p : Path) (used : ℕ) (m : Lent) where
+  gif-code : (a : GifAnswer) (o : GifLeft) (due : ℕ) (i : Bool) (w : Waiting) → afterGif a o v p due i w used m .memories .code ≡ m .code
+  gif-code Taken o due i w = refl
+  gif-code (GifRefused n) o due i w = refl
+
+  direct-code : (n : Incoming) (due : ℕ) (i : Bool) (w : Waiting) → directStep n v p due i w used m .memories .code ≡ m .code
+  unfolding giveQuadword
+  direct-code (Word0 a b c d) due i w =
+      let o = gifStep p (quadword (a + b * 2 ^ 32) (c + d * 2 ^ 32)) used (m .log) in
+      gif-code (o .answer) o due i w
+  direct-code (Word1 a) due i w = refl
+  direct-code (Word2 a) due i w = refl
+  direct-code (Word3 a) due i w = refl
+
+  outside-by : (w : Waiting) (n : Incoming) (j d : ℕ) → storesAt w j ≡ false → getD (stepBy w v p n used m .memories .code) j d ≡ getD (m .code) j d
+  unfolding codeStep unpackStep
+  outside-by Nothing n j d h = refl
+  outside-by (MaskDue i) n j d h = refl
+  outside-by (RowDue due i) n j d h = refl
+  outside-by (ColDue due i) n j d h = refl
+  outside-by (MpgDue a k due i) n j d h = stored-outside instructions a k due (wordIn n) (m .code) j d (not-between _ j h)
+  outside-by (DirectDue due i) n j d h = rw (direct-code n due i (DirectDue (due - 1) i))
+  outside-by (DirecthlDue due i) n j d h = rw (direct-code n due i (DirecthlDue (due - 1) i))
+  outside-by (UnpackDue f u) n j d h = refl
+
+  -- a step changes code memory only where MPG waits, and there only the four bytes of the word taken
+  pub code-outside : (n : Incoming) (j d : ℕ) → storesAt (v .waiting) j ≡ false → getD (vifStep v p n used m .memories .code) j d ≡ getD (m .code) j d
+  unfolding vifStep
+  code-outside n j d h = outside-by (v .waiting) n j d h

@@ -124,40 +124,10 @@ pub fn unit_block(unit: Vif) -> [u32; 32]
     let waiting = unit.waiting;
     let r = register_words(unit);
     let w = waiting_words(waiting);
-    [
-        r[0],
-        r[1],
-        r[2],
-        r[3],
-        r[4],
-        r[5],
-        r[6],
-        r[7],
-        r[8],
-        r[9],
-        r[10],
-        r[11],
-        r[12],
-        r[13],
-        r[14],
-        r[15],
-        r[16],
-        r[17],
-        r[18],
-        r[19],
-        r[20],
-        w[0],
-        w[1],
-        w[2],
-        w[3],
-        w[4],
-        w[5],
-        w[6],
-        w[7],
-        w[8],
-        w[9],
-        w[10],
-    ]
+    let mut block = [0; 32];
+    fields::put_words(&mut block, 0, &r);
+    fields::put_words(&mut block, 21, &w);
+    block
 }
 
 fn format_exists(n: u32) -> bool

@@ -23,12 +23,15 @@ use unpack::Unpacking;
 ghost use mathlib.Core.Path.{_≡_};
 ghost use mathlib.Core.List.{List};
 ghost use mathlib.Core.Bool.{_&&_};
-ghost use Prim.Native.Nat.{ℕ, _≤_};
+ghost use Prim.Native.Nat.{ℕ, _+_, _-_, _≤_};
+ghost use lib.ListN.{length};
 ghost use Rattle.gif.specs.Range.{pathInRange};
 ghost use Rattle.vif.specs.Range.{unitInRange};
 ghost use Rattle.unpack.specs.Step.{holds};
-ghost use Rattle.vif.specs.Payload.{writeRegisters, unpackUnit, mpgWord};
-ghost use Rattle.vif.specs.Step.{left, lent, wordIn, codeStep, unpackStep, vifStep, takeOf};
+ghost use Rattle.vif.specs.declared.VifAnswer.the-variants.{Word};
+ghost use Rattle.vif.specs.declared.Waiting.the-variants.{DirectDue, DirecthlDue};
+ghost use Rattle.vif.specs.Payload.{completes, rowWord, colWord, mpgStored, mpgWord, writeRegisters, unpackUnit};
+ghost use Rattle.vif.specs.Step.{answers, left, lent, wordIn, codeStep, unpackStep, vifStep, takeOf};
 ghost use Rattle.vif.specs.Inner.{UnpackReady, StepReady};
 
 fn word_in(next: Incoming) -> u32
@@ -129,6 +132,81 @@ fn mpg_unit(unit: Vif, address: u32, count: u32, due: u32, interrupt: bool) -> V
     with_waiting(unit, or_nothing(due, rest))
 }
 
+// A payload word of STROW.
+fn row_step(word: u32, due: u32, interrupt: bool, unit: Vif, path2: Path, used: u64) -> VifResult
+    requires { ⌜ (1 ≤ due) × (due ≤ 4) ⌝ }
+    ensures { λ r. ⌜ r ≡ answers (Word (completes due interrupt)) (rowWord unit due interrupt word) path2 used ⌝ }
+{
+    let after = row_word(unit, due, interrupt, word);
+    answered(
+        VifAnswer::Word(completed(due, interrupt)),
+        after,
+        path2,
+        used,
+    )
+}
+
+// A payload word of STCOL.
+fn col_step(word: u32, due: u32, interrupt: bool, unit: Vif, path2: Path, used: u64) -> VifResult
+    requires { ⌜ (1 ≤ due) × (due ≤ 4) ⌝ }
+    ensures { λ r. ⌜ r ≡ answers (Word (completes due interrupt)) (colWord unit due interrupt word) path2 used ⌝ }
+{
+    let after = col_word(unit, due, interrupt, word);
+    answered(
+        VifAnswer::Word(completed(due, interrupt)),
+        after,
+        path2,
+        used,
+    )
+}
+
+// A payload word of MPG.
+fn mpg_step(
+    address: u32,
+    count: u32,
+    due: u32,
+    interrupt: bool,
+    word: u32,
+    unit: Vif,
+    path2: Path,
+    code: &mut [u8],
+    used: u64,
+) -> VifResult
+    requires { ⌜ (address ≤ 2047) × (count ≤ 256) × (due ≤ count + count) × (1 ≤ due) × (length (now code) ≡ 16384) ⌝ }
+    ensures { λ r. ⌜ (r ≡ answers (Word (completes due interrupt)) (mpgWord unit address count due interrupt) path2 used) × (now (code .exit) ≡ mpgStored 2048 address count due word (now (code .entry))) ⌝ }
+{
+    store_mpg(address, count, due, word, code);
+    let after = mpg_unit(unit, address, count, due, interrupt);
+    answered(
+        VifAnswer::Word(completed(due, interrupt)),
+        after,
+        path2,
+        used,
+    )
+}
+
+// What waits after a quadword of DIRECT.
+fn direct_rest(due: u32, interrupt: bool) -> Waiting
+    requires { ⌜ 1 ≤ due ⌝ }
+    ensures { λ r. ⌜ r ≡ DirectDue (due - 1) interrupt ⌝ }
+{
+    Waiting::DirectDue {
+        due: due - 1,
+        interrupt,
+    }
+}
+
+// What waits after a quadword of DIRECTHL.
+fn directhl_rest(due: u32, interrupt: bool) -> Waiting
+    requires { ⌜ 1 ≤ due ⌝ }
+    ensures { λ r. ⌜ r ≡ DirecthlDue (due - 1) interrupt ⌝ }
+{
+    Waiting::DirecthlDue {
+        due: due - 1,
+        interrupt,
+    }
+}
+
 // Document 01's step, where all was tested.
 fn step(
     unit: Vif,
@@ -147,45 +225,19 @@ fn step(
     match waiting {
         Waiting::Nothing => code_word(word, unit, path2, log, used),
         Waiting::MaskDue(i) => answered(VifAnswer::Word(i), mask_word(unit, word), path2, used),
-        Waiting::RowDue { due, interrupt } => answered(
-            VifAnswer::Word(completed(due, interrupt)),
-            row_word(unit, due, interrupt, word),
-            path2,
-            used,
-        ),
-        Waiting::ColDue { due, interrupt } => answered(
-            VifAnswer::Word(completed(due, interrupt)),
-            col_word(unit, due, interrupt, word),
-            path2,
-            used,
-        ),
+        Waiting::RowDue { due, interrupt } => row_step(word, due, interrupt, unit, path2, used),
+        Waiting::ColDue { due, interrupt } => col_step(word, due, interrupt, unit, path2, used),
         Waiting::MpgDue {
             address,
             count,
             due,
-            interrupt,
-        } => {
-            store_mpg(address, count, due, word, code);
-            answered(
-                VifAnswer::Word(completed(due, interrupt)),
-                mpg_unit(unit, address, count, due, interrupt),
-                path2,
-                used,
-            )
+            interrupt: i,
+        } => mpg_step(address, count, due, i, word, unit, path2, code, used),
+        Waiting::DirectDue { due, interrupt: i } => {
+            direct(next, unit, path2, due, i, direct_rest(due, i), log, used)
         }
-        Waiting::DirectDue { due, interrupt } => {
-            let rest = Waiting::DirectDue {
-                due: due - 1,
-                interrupt,
-            };
-            direct(next, unit, path2, due, interrupt, rest, log, used)
-        }
-        Waiting::DirecthlDue { due, interrupt } => {
-            let rest = Waiting::DirecthlDue {
-                due: due - 1,
-                interrupt,
-            };
-            direct(next, unit, path2, due, interrupt, rest, log, used)
+        Waiting::DirecthlDue { due, interrupt: i } => {
+            direct(next, unit, path2, due, i, directhl_rest(due, i), log, used)
         }
         Waiting::UnpackDue(f, u) => unpack_word(f, u, word, unit, path2, data, used),
     }

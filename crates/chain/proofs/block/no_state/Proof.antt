@@ -4,8 +4,8 @@ use Rattle.chain.proofs.block.no_state.Statement.{statement}
 use Rattle.chain.proofs.block.no_state.Tie as tie
 use Rattle.chain.proofs.block.no_state.Reads as reads
 use Rattle.chain.proofs.block.no_state.Lts as lts
-use Rattle.chain.proofs.block.reset_path.Reads as reset-path-reads
-use Rattle.chain.proofs.block.reset_unit.Reads as reset-unit-reads
+use Rattle.chain.proofs.control.reset_path.Reads as reset-path-reads
+use Rattle.chain.proofs.control.reset_unit.Reads as reset-unit-reads
 
 -- src/block.rt:396:9
 reset-unit-requires : tie.Need-reset-unit-requires
