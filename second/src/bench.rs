@@ -31,7 +31,7 @@ pub fn bench_gif(program: &Program) -> Result<(), String> {
         let timed = Timed {
             input: &|rounds| input(rounds, &data),
             units: data.len() as f64,
-            refusals: 0,
+            refusals: |result| word(result, 0),
         };
         let (theirs, ours) = measure(program, &own, &timed).map_err(|e| format!("{name}: {e}"))?;
         println!(
@@ -50,8 +50,8 @@ pub struct Timed<'a> {
     pub input: &'a dyn Fn(u32) -> Vec<u8>,
     /// What a round has of what the time is measured for.
     pub units: f64,
-    /// The word of the result that counts refusals.
-    pub refusals: usize,
+    /// The refusals that a result tells of.
+    pub refusals: fn(&[u8]) -> u32,
 }
 
 fn seconds(program: &Program, input: &[u8]) -> Result<(f64, Vec<u8>), String> {
@@ -87,9 +87,9 @@ fn check_same(program: &Program, own: &Program, timed: &Timed, rounds: u32) -> R
             "{rounds} rounds: results differ: {theirs:02X?}, ours {ours:02X?}"
         ));
     }
-    match word(&ours, timed.refusals) {
+    match (timed.refusals)(&ours) {
         0 => Ok(()),
-        refusals => Err(format!("{rounds} rounds: {refusals} refusals")),
+        refusals => Err(format!("{rounds} rounds: refusals {refusals}")),
     }
 }
 

@@ -6,7 +6,7 @@ use crate::capture_generate::tag;
 use crate::chain::END;
 use crate::chain_time::{input, result, MOST_QUADWORDS};
 use crate::compare::Program;
-use crate::words::number;
+use crate::words::{number, word};
 use std::hint::black_box;
 use std::time::Instant;
 
@@ -40,7 +40,7 @@ fn line(program: &Program, own: &Program, chain: &ChainInput) -> Result<f64, Str
     let timed = Timed {
         input: &|rounds| input(rounds, chain.channel, &chain.main),
         units: units(chain) as f64,
-        refusals: 2,
+        refusals: |result| word(result, 2),
     };
     let (theirs, ours) =
         measure(program, own, &timed).map_err(|e| format!("{}: {e}", chain.name))?;

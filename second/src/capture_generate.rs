@@ -556,6 +556,14 @@ fn add_unit_field_cases(random: &mut Random, cases: &mut Vec<Case>) {
     }
 }
 
+/// State blocks with each field at its limits and just outside.
+pub fn field_blocks(random: &mut Random) -> Vec<Block> {
+    let mut cases = Vec::new();
+    add_field_cases(random, &mut cases);
+    add_unit_field_cases(random, &mut cases);
+    cases.into_iter().map(|case| case.state).collect()
+}
+
 /// Starts with each value at its limits and just outside.
 fn add_start_cases(random: &mut Random, cases: &mut Vec<Case>) {
     let main = short_main(random);
@@ -1509,7 +1517,7 @@ fn random_block(random: &mut Random, length: u32, used: u64) -> Block {
 }
 
 /// A state in range over a main memory of this length, which is not 0.
-fn random_state(random: &mut Random, length: u32) -> State {
+pub fn random_state(random: &mut Random, length: u32) -> State {
     let quadwords = length as u64 / 16;
     let place = |random: &mut Random| 16 * random.below(quadwords) as u32;
     let mut state = State {
@@ -1587,7 +1595,7 @@ fn random_good_path(random: &mut Random) -> Path {
 }
 
 /// Puts words where they mean nothing.
-fn add_junk(random: &mut Random, block: &mut Block) {
+pub fn add_junk(random: &mut Random, block: &mut Block) {
     let state = read_block(block).expect("a written block is read");
     for i in state.depth..chain::STACK {
         block[5 + i] = random.word();
@@ -1611,7 +1619,7 @@ fn add_junk(random: &mut Random, block: &mut Block) {
 }
 
 /// Changes one word or two.
-fn spoil(random: &mut Random, block: &mut Block) {
+pub fn spoil(random: &mut Random, block: &mut Block) {
     for _ in 0..random.within(1..=2) {
         let field = random.below(63) as usize;
         if field == 11 || field == 12 {

@@ -3,6 +3,7 @@
 mod bench;
 mod bench_chain;
 mod bench_inputs;
+mod bench_sheet;
 mod capture_cases;
 mod capture_compare;
 mod capture_counts;
@@ -17,9 +18,16 @@ mod gif_counts;
 mod gif_generate;
 mod gif_time;
 mod random;
-// Sheets have no commands yet.
-#[cfg_attr(not(test), allow(dead_code))]
 mod sheet;
+mod sheet_cases;
+mod sheet_check;
+mod sheet_compare;
+mod sheet_counts;
+mod sheet_edges;
+mod sheet_generate;
+mod sheet_points;
+mod sheet_random;
+mod sheet_time;
 mod vif;
 mod vif_cases;
 mod vif_compare;
@@ -46,6 +54,11 @@ usage:
   second compare-capture PROGRAM SEED[,SEED..] RUNS
   second bench-chain PROGRAM
   second time-chain < INPUT > RESULT
+  second sheet [--counts] < CASES > RESULTS
+  second generate-sheet SEED COUNT > CASES
+  second compare-sheet PROGRAM SEED[,SEED..] COUNT
+  second bench-sheet PROGRAM
+  second time-sheet < INPUT > RESULT
 PROGRAM is the path of an executable; one argument may hold a path and its arguments.
 ";
 
@@ -67,6 +80,13 @@ fn main() -> ExitCode {
 
 /// Performs a command; none where the arguments name none.
 fn command(arguments: &[&str]) -> Option<Result<(), String>> {
+    gif_command(arguments)
+        .or_else(|| vif_command(arguments))
+        .or_else(|| capture_command(arguments))
+        .or_else(|| sheet_command(arguments))
+}
+
+fn gif_command(arguments: &[&str]) -> Option<Result<(), String>> {
     let done = match arguments {
         ["gif"] => gif_results(false),
         ["gif", "--counts"] => gif_results(true),
@@ -80,6 +100,13 @@ fn command(arguments: &[&str]) -> Option<Result<(), String>> {
         }
         ["bench-gif", program] => bench::bench_gif(&compare::Program::parse(program)),
         ["time-gif"] => time_gif(),
+        _ => return None,
+    };
+    Some(done)
+}
+
+fn vif_command(arguments: &[&str]) -> Option<Result<(), String>> {
+    let done = match arguments {
         ["vif"] => vif_results(false),
         ["vif", "--counts"] => vif_results(true),
         ["generate-vif", seed, words] => write(&vif_generate::generate(
@@ -90,6 +117,13 @@ fn command(arguments: &[&str]) -> Option<Result<(), String>> {
             let program = compare::Program::parse(program);
             vif_compare::compare(&program, &compare::seeds(seeds)?, words.parse().ok()?)
         }
+        _ => return None,
+    };
+    Some(done)
+}
+
+fn capture_command(arguments: &[&str]) -> Option<Result<(), String>> {
+    let done = match arguments {
         ["capture"] => capture_results(false),
         ["capture", "--counts"] => capture_results(true),
         ["generate-capture", seed, runs] => write(&capture_generate::generate(
@@ -102,6 +136,25 @@ fn command(arguments: &[&str]) -> Option<Result<(), String>> {
         }
         ["bench-chain", program] => bench_chain::bench_chain(&compare::Program::parse(program)),
         ["time-chain"] => time_chain(),
+        _ => return None,
+    };
+    Some(done)
+}
+
+fn sheet_command(arguments: &[&str]) -> Option<Result<(), String>> {
+    let done = match arguments {
+        ["sheet"] => sheet_results(false),
+        ["sheet", "--counts"] => sheet_results(true),
+        ["generate-sheet", seed, count] => write(&sheet_generate::generate(
+            seed.parse().ok()?,
+            count.parse().ok()?,
+        )),
+        ["compare-sheet", program, seeds, count] => {
+            let program = compare::Program::parse(program);
+            sheet_compare::compare(&program, &compare::seeds(seeds)?, count.parse().ok()?)
+        }
+        ["bench-sheet", program] => bench_sheet::bench_sheet(&compare::Program::parse(program)),
+        ["time-sheet"] => time_sheet(),
         _ => return None,
     };
     Some(done)
@@ -137,6 +190,19 @@ fn capture_results(with_counts: bool) -> Result<(), String> {
     Ok(())
 }
 
+fn sheet_results(with_counts: bool) -> Result<(), String> {
+    let mut counts = sheet_counts::Counts::default();
+    let results = sheet_cases::results(&read()?, &mut counts);
+    write(&results.bytes)?;
+    if with_counts {
+        eprint!("{}", compare::table(&counts.rows()));
+    }
+    match results.broken {
+        Some((case, told)) => Err(format!("case {case}: {told}")),
+        None => Ok(()),
+    }
+}
+
 fn time_gif() -> Result<(), String> {
     match gif_time::result(&read()?) {
         Some(result) => write(&result),
@@ -146,6 +212,13 @@ fn time_gif() -> Result<(), String> {
 
 fn time_chain() -> Result<(), String> {
     match chain_time::result(&read()?) {
+        Some(result) => write(&result),
+        None => Ok(()),
+    }
+}
+
+fn time_sheet() -> Result<(), String> {
+    match sheet_time::result(&read()?) {
         Some(result) => write(&result),
         None => Ok(()),
     }

@@ -2,8 +2,8 @@
 
 /// The longest sheet in bytes.
 pub const MOST_SHEET: usize = 131_072;
-const MARK: [u8; 2] = [0x9E, 0x51];
-const HEADER: usize = 6;
+pub const MARK: [u8; 2] = [0x9E, 0x51];
+pub const HEADER: usize = 6;
 
 pub const REFUSED_MARK: u32 = 40;
 pub const REFUSED_KIND: u32 = 41;
@@ -26,7 +26,7 @@ const MSCAL: u32 = 0x1400_0000;
 const ENTRY_START: u64 = 256;
 
 #[derive(Clone, Copy, PartialEq, Eq, Debug)]
-enum Kind {
+pub enum Kind {
     Data,
     Code,
     Gs,
@@ -34,18 +34,18 @@ enum Kind {
 }
 
 #[derive(Clone, Copy, PartialEq, Eq, Debug)]
-struct Record<'a> {
-    kind: Kind,
-    count: u32,
-    address: u32,
-    body: &'a [u8],
+pub struct Record<'a> {
+    pub kind: Kind,
+    pub count: u32,
+    pub address: u32,
+    pub body: &'a [u8],
 }
 
 /// A refusal: its number and the record's offset, 0 for 46 and 47.
 pub type Refusal = (u32, usize);
 
 impl Kind {
-    fn from_number(number: u8) -> Option<Kind> {
+    pub fn from_number(number: u8) -> Option<Kind> {
         match number {
             1 => Some(Kind::Data),
             2 => Some(Kind::Code),
@@ -55,14 +55,14 @@ impl Kind {
         }
     }
 
-    fn allows_count(self, count: u8) -> bool {
+    pub fn allows_count(self, count: u8) -> bool {
         match self {
             Kind::Data | Kind::Code | Kind::Gs => count >= 1,
             Kind::Start => count == 0,
         }
     }
 
-    fn allows_address(self, address: u32) -> bool {
+    pub fn allows_address(self, address: u32) -> bool {
         match self {
             Kind::Data => address < 1_024,
             Kind::Code | Kind::Start => address < 2_048,
@@ -70,7 +70,7 @@ impl Kind {
         }
     }
 
-    fn body_length(self, count: u8) -> usize {
+    pub fn body_length(self, count: u8) -> usize {
         match self {
             Kind::Data | Kind::Gs => 16 * count as usize,
             Kind::Code => 8 * count as usize,
@@ -101,6 +101,15 @@ impl Record<'_> {
         }
     }
 
+    /// The log entries of the record.
+    fn entries(&self) -> u64 {
+        match self.kind {
+            Kind::Data | Kind::Code => 0,
+            Kind::Gs => self.count as u64,
+            Kind::Start => 1,
+        }
+    }
+
     /// The four codes after the tag.
     fn codes(&self) -> [u32; 4] {
         let num_and_imm = self.count << 16 | self.address;
@@ -112,28 +121,40 @@ impl Record<'_> {
         }
     }
 
-    fn write(&self, chain: &mut Vec<u8>) {
-        let end = chain.len() + 16 * self.quadwords() as usize;
-        put(chain, [CNT_TAG | (self.quadwords() - 1), 0, 0, 0]);
-        put(chain, self.codes());
+    /// Writes the record's part of the chain at the head of the bytes; hands back the rest.
+    fn write<'a>(&self, chain: &'a mut [u8]) -> &'a mut [u8] {
+        let (part, rest) = chain.split_at_mut(16 * self.quadwords() as usize);
+        let mut part = put(part, [CNT_TAG | (self.quadwords() - 1), 0, 0, 0]);
+        part = put(part, self.codes());
         if self.kind == Kind::Gs {
             // EOP, NREG 1, descriptor E.
-            put(chain, [0x8000 | self.count, 0x1000_0000, 0xE, 0]);
+            part = put(part, [0x8000 | self.count, 0x1000_0000, 0xE, 0]);
         }
-        chain.extend_from_slice(self.body);
+        let (body, filling) = part.split_at_mut(self.body.len());
+        body.copy_from_slice(self.body);
         // NOPs to a whole quadword.
-        chain.resize(end, 0);
+        filling.fill(0);
+        rest
     }
 }
 
-fn put(chain: &mut Vec<u8>, words: [u32; 4]) {
-    for word in words {
-        chain.extend_from_slice(&word.to_le_bytes());
+/// Writes a quadword at the head of the bytes; hands back the rest.
+fn put(chain: &mut [u8], words: [u32; 4]) -> &mut [u8] {
+    let (quadword, rest) = chain.split_at_mut(16);
+    for (bytes, word) in quadword.chunks_mut(4).zip(words) {
+        bytes.copy_from_slice(&word.to_le_bytes());
     }
+    rest
+}
+
+/// The bytes of a record, whatever they are.
+pub fn record_bytes(kind: u8, count: u8, address: u16, body: &[u8]) -> Vec<u8> {
+    let [low, high] = address.to_le_bytes();
+    [&[MARK[0], MARK[1], kind, count, low, high], body].concat()
 }
 
 /// All records of a sheet, or the refusal.
-fn records(sheet: &[u8]) -> Result<Vec<Record<'_>>, Refusal> {
+pub fn records(sheet: &[u8]) -> Result<Vec<Record<'_>>, Refusal> {
     if sheet.len() > MOST_SHEET {
         return Err((REFUSED_LONG, 0));
     }
@@ -185,16 +206,25 @@ fn pad_is_zero(entry: &[u8]) -> bool {
 /// Builds the chain; hands back its length in bytes. The output is untouched by a
 /// refusal, and beyond the chain.
 pub fn build(sheet: &[u8], output: &mut [u8]) -> Result<usize, Refusal> {
-    let mut chain = Vec::new();
-    for record in records(sheet)? {
-        record.write(&mut chain);
+    let records = records(sheet)?;
+    let length = length(&records);
+    let mut rest = output.get_mut(..length).ok_or((REFUSED_OUTPUT, 0))?;
+    for record in &records {
+        rest = record.write(rest);
     }
-    put(&mut chain, [END_TAG, 0, 0, 0]);
-    let room = output
-        .get_mut(..chain.len())
-        .ok_or((REFUSED_OUTPUT, 0usize))?;
-    room.copy_from_slice(&chain);
-    Ok(chain.len())
+    put(rest, [END_TAG, 0, 0, 0]);
+    Ok(length)
+}
+
+/// The chain's length in bytes, the end tag included.
+fn length(records: &[Record]) -> usize {
+    let quadwords: u32 = records.iter().map(Record::quadwords).sum();
+    16 * (quadwords as usize + 1)
+}
+
+/// The chain's length in bytes.
+pub fn chain_length(sheet: &[u8]) -> Result<usize, Refusal> {
+    Ok(length(&records(sheet)?))
 }
 
 /// What the host gets: the chain's length, or the refusal without its offset.
@@ -209,6 +239,11 @@ pub fn exported_number(sheet: &[u8], output: &mut [u8]) -> usize {
 pub fn steps(sheet: &[u8]) -> Result<u64, Refusal> {
     let all: u64 = records(sheet)?.iter().map(Record::steps).sum();
     Ok(all + 1)
+}
+
+/// The log entries of the sheet.
+pub fn entries(sheet: &[u8]) -> Result<u64, Refusal> {
+    Ok(records(sheet)?.iter().map(Record::entries).sum())
 }
 
 /// Feeds the records to a plain machine: the data memory by words, the code memory by
@@ -250,15 +285,11 @@ pub fn meaning(
 
 #[cfg(test)]
 mod tests {
+    use super::record_bytes as record;
     use super::*;
     use crate::chain::{self, Memories, State};
     use crate::random::Random;
     use crate::vif::{CODE_BYTES, DATA_WORDS};
-
-    fn record(kind: u8, n: u8, address: u16, body: &[u8]) -> Vec<u8> {
-        let [low, high] = address.to_le_bytes();
-        [&[0x9E, 0x51, kind, n, low, high], body].concat()
-    }
 
     /// The chain as words.
     fn built(sheet: &[u8]) -> Vec<u32> {

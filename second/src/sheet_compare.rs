@@ -1,0 +1,282 @@
+//! Another program's sheet results against our own.
+
+use crate::compare::{first_difference, table, zeros, Program};
+use crate::random::Random;
+use crate::sheet_cases::{
+    self, case_starts, describe_case, describe_place, first_case, Results, HEADER,
+};
+use crate::sheet_counts::Counts;
+use crate::sheet_generate::generate;
+use crate::sheet_points;
+use crate::words::{word, WORD};
+
+/// Cases that are given to the program at once.
+const BATCH: usize = 250;
+/// Cases whose filling is changed, for each length of it.
+const FILLED: usize = 10;
+
+/// Compares on the bench points, on the cases of each seed and on damaged files made
+/// from them.
+pub fn compare(program: &Program, seeds: &[u64], count: u64) -> Result<(), String> {
+    let points = sheet_points::file();
+    sheet_points::check(&program.run(&points)?)?;
+    compare_file(program, &points, 0, &mut Counts::default())?;
+    let mut counts = Counts::default();
+    let mut damaged_files = 0;
+    for &seed in seeds {
+        let file = generate(seed, count);
+        compare_batches(program, &file, &mut counts).map_err(|e| format!("seed {seed}: {e}"))?;
+        for (name, damaged) in damaged(&file, seed) {
+            compare_file(program, &damaged, 0, &mut Counts::default())
+                .map_err(|e| format!("seed {seed}, damaged file ({name}): {e}"))?;
+            damaged_files += 1;
+        }
+    }
+    let mut rows = counts.rows();
+    rows.push(("damaged files".to_string(), damaged_files));
+    rows.push((
+        "bench points".to_string(),
+        sheet_points::points().len() as u64,
+    ));
+    print!("{}", table(&rows));
+    let missing = zeros(&rows);
+    if !missing.is_empty() {
+        return Err(format!("never reached: {}", missing.join("; ")));
+    }
+    println!("no difference");
+    Ok(())
+}
+
+fn compare_batches(program: &Program, file: &[u8], counts: &mut Counts) -> Result<(), String> {
+    let mut bounds: Vec<usize> = case_starts(file).into_iter().step_by(BATCH).collect();
+    bounds.push(file.len());
+    for (i, ends) in bounds.windows(2).enumerate() {
+        compare_file(program, &file[ends[0]..ends[1]], i * BATCH, counts)?;
+    }
+    Ok(())
+}
+
+/// Compares on a file whose cases are counted from `first`.
+fn compare_file(
+    program: &Program,
+    file: &[u8],
+    first: usize,
+    counts: &mut Counts,
+) -> Result<(), String> {
+    let own = sheet_cases::results(file, counts);
+    if let Some((case, told)) = &own.broken {
+        return Err(format!("case {}: our own run: {told}", first + case));
+    }
+    let theirs = program.run(file)?;
+    if theirs == own.bytes {
+        return Ok(());
+    }
+    match first_difference(&own.bytes, &theirs) {
+        None => Ok(()),
+        Some(at) => Err(explain(file, &own, &theirs, at, first)),
+    }
+}
+
+fn explain(file: &[u8], own: &Results, theirs: &[u8], at: usize, first: usize) -> String {
+    let lengths = format!("{} bytes, ours {}", theirs.len(), own.bytes.len());
+    if own.damage.is_some_and(|line| at >= line) || at >= own.bytes.len() {
+        let line = own.damage.unwrap_or(own.bytes.len());
+        let text = |bytes: &[u8]| {
+            let end = bytes.len().min(line + 80);
+            String::from_utf8_lossy(&bytes[line.min(end)..end])
+                .escape_debug()
+                .to_string()
+        };
+        return format!(
+            "differs after the results of {} cases: {lengths}\n  program: {}\n  ours: {}",
+            own.starts.len(),
+            text(theirs),
+            text(&own.bytes)
+        );
+    }
+    let index = own.starts.partition_point(|&start| start <= at) - 1;
+    let start = own.starts[index];
+    let from = case_starts(file)[index];
+    let (case, _) = first_case(&file[from..]).expect("a case with results is whole");
+    let at_word = (at - start) / WORD;
+    format!(
+        "case {}: {}: {}, ours {} ({lengths})\n  the case:\n{}",
+        first + index,
+        describe_place(&case, at_word),
+        word_at(&theirs[start.min(theirs.len())..], at_word),
+        word_at(&own.bytes[start..], at_word),
+        describe_case(&case)
+    )
+}
+
+/// A word of a result, or what is left there.
+fn word_at(bytes: &[u8], at: usize) -> String {
+    match bytes.get(WORD * at..WORD * at + WORD) {
+        Some(bytes) => format!("{:08X}", word(bytes, 0)),
+        None => format!("cut after {} bytes of the result", bytes.len()),
+    }
+}
+
+/// The first two cases and up to four in a row from anywhere.
+fn some_cases(file: &[u8], random: &mut Random) -> Vec<u8> {
+    let mut bounds = case_starts(file);
+    bounds.push(file.len());
+    let count = bounds.len() - 1;
+    let head = count.min(2);
+    let first = random.within(head as u64..=count as u64) as usize;
+    let end = (first + 4).min(count);
+    [&file[..bounds[head]], &file[bounds[first]..bounds[end]]].concat()
+}
+
+/// Damaged files made from a whole one, each with a name.
+fn damaged(file: &[u8], seed: u64) -> Vec<(String, Vec<u8>)> {
+    let mut random = Random::new(seed ^ 0x5EED);
+    let mut made = vec![
+        ("empty".to_string(), Vec::new()),
+        ("filling not zero".to_string(), filling_not_zero(file)),
+    ];
+    let file = &some_cases(file, &mut random);
+    let starts = case_starts(file);
+    let Some(last) = starts.len().checked_sub(1) else {
+        return made;
+    };
+    let cut = |made: &mut Vec<(String, Vec<u8>)>, at: usize| {
+        let at = at.min(file.len());
+        made.push((format!("cut after {at} bytes"), file[..at].to_vec()));
+    };
+    let header = HEADER * WORD;
+    for at in [1, 3, 4, 8, header - 1, header, header + 3, file.len() - 1] {
+        cut(&mut made, at);
+    }
+    for index in [last / 2, last] {
+        for after in [1, 4, header - 4, header - 1, header, header + 1, header + 4] {
+            cut(&mut made, starts[index] + after);
+        }
+        cut(&mut made, random.below(file.len() as u64) as usize);
+    }
+    for index in [0, last / 2, last] {
+        spoil_case(&mut made, file, starts[index], index);
+    }
+    made
+}
+
+/// Files in which one word of a case is changed.
+fn spoil_case(made: &mut Vec<(String, Vec<u8>)>, file: &[u8], start: usize, index: usize) {
+    let mut spoil = |name: &str, at: usize, value: u32| {
+        let mut bytes = file.to_vec();
+        let at = start + WORD * at;
+        bytes[at..at + WORD].copy_from_slice(&value.to_le_bytes());
+        made.push((format!("case {index}, {name}"), bytes));
+    };
+    let held = |at: usize| word(&file[start..], at);
+    let mark = sheet_cases::MARK;
+    spoil("mark with its first bit flipped", 0, mark ^ 1);
+    spoil("mark with its last bit flipped", 0, mark ^ 1 << 31);
+    let limits = [
+        ("S", 1, sheet_cases::MOST_SHEET),
+        ("O", 2, sheet_cases::MOST_OUTPUT),
+        ("M", 3, sheet_cases::MOST_MAIN),
+        ("D", 5, sheet_cases::MOST_DATA),
+        ("C", 6, sheet_cases::MOST_CODE),
+        ("L", 7, sheet_cases::MOST_LOG),
+    ];
+    for (name, at, most) in limits {
+        spoil(&format!("{name} at its limit"), at, most);
+        spoil(&format!("{name} one above its limit"), at, most + 1);
+        spoil(&format!("{name} the greatest"), at, u32::MAX);
+    }
+    for less in 1..=4 {
+        spoil(&format!("S {less} less"), 1, held(1).saturating_sub(less));
+        spoil(&format!("S {less} more"), 1, held(1) + less);
+    }
+}
+
+/// Cases of a file whose sheets end inside a word, with the bytes that fill it up not zero.
+fn filling_not_zero(file: &[u8]) -> Vec<u8> {
+    let mut bounds = case_starts(file);
+    bounds.push(file.len());
+    let mut left = [0, FILLED, FILLED, FILLED];
+    let mut bytes = Vec::new();
+    for ends in bounds.windows(2) {
+        let case = &file[ends[0]..ends[1]];
+        let length = word(case, 1) as usize;
+        if left[length % WORD] > 0 {
+            left[length % WORD] -= 1;
+            bytes.extend(&case[..HEADER * WORD + length]);
+            bytes.resize(bytes.len().next_multiple_of(WORD), 0x9E);
+        }
+    }
+    bytes
+}
+
+#[cfg(test)]
+mod tests {
+    use super::*;
+    use crate::sheet_cases::results;
+
+    fn own(file: &[u8]) -> Results {
+        results(file, &mut Counts::default())
+    }
+
+    #[test]
+    fn every_count_is_reached() {
+        let mut counts = Counts::default();
+        let given = results(&generate(1, 2_000), &mut counts);
+        assert_eq!((given.damage, given.broken), (None, None));
+        assert_eq!(zeros(&counts.rows()), Vec::<&str>::new());
+    }
+
+    #[test]
+    fn damaged_files_have_a_line() {
+        let file = generate(2, 12);
+        let made = damaged(&file, 2);
+        assert_eq!(own(&made[0].1).bytes, []);
+        let lines = made.iter().filter(|(_, bytes)| own(bytes).damage.is_some());
+        assert!(lines.count() > 50);
+        let (name, cut) = &made[2];
+        assert_eq!(name, "cut after 1 bytes");
+        assert_eq!(own(cut).bytes, b"damaged case 0\n");
+        assert_eq!(damaged(&[], 2).len(), 2);
+    }
+
+    #[test]
+    fn filling_is_ignored() {
+        let filled = filling_not_zero(&generate(1, 2_000));
+        assert_eq!(case_starts(&filled).len(), 3 * FILLED);
+        let mut zeros = Vec::new();
+        let mut rest = &filled[..];
+        while let Some((case, length)) = first_case(rest) {
+            case.write(&mut zeros);
+            rest = &rest[length..];
+        }
+        assert!(filled != zeros && own(&filled).bytes == own(&zeros).bytes);
+    }
+
+    #[test]
+    fn a_difference_is_named() {
+        let file = generate(3, 5);
+        let given = own(&file);
+        let start = given.starts[3];
+        let (case, _) = first_case(&file[case_starts(&file)[3]..]).unwrap();
+        let parts = sheet_cases::layout(&case);
+        let words = |pieces: &[(&str, usize)]| pieces.iter().map(|p| p.1).sum::<usize>();
+        // The second word of the state block.
+        let first_three: usize = parts[..3].iter().map(|part| words(part)).sum();
+        let at = start + WORD * (first_three + 4 + 1);
+        let mut theirs = given.bytes.clone();
+        theirs[at] ^= 1;
+        let told = explain(&file, &given, &theirs, at, 250);
+        let head = "case 253: part 4 (build and run), word 5 of the part, state block word 1: ";
+        assert!(told.starts_with(head), "{told}");
+        let told = explain(&file, &given, &given.bytes[..start], start, 0);
+        assert!(
+            told.starts_with("case 3: part 1 (the builder), word 0"),
+            "{told}"
+        );
+        assert!(told.contains("cut after 0 bytes of the result"));
+        let end = given.bytes.len();
+        theirs.push(0);
+        let told = explain(&file, &given, &theirs, end, 0);
+        assert!(told.starts_with("differs after the results of 5 cases"));
+    }
+}

@@ -1,0 +1,697 @@
+//! What sheet cases reached.
+
+use crate::capture_cases::{read_block, write_block};
+use crate::chain::{self, State};
+use crate::gif::{self, Place};
+use crate::sheet::{self, Kind, Record, Refusal, HEADER, MARK};
+use crate::sheet_cases::{Case, Outcome};
+use crate::sheet_check::{foretold, End};
+use crate::vif;
+use crate::vif_cases::waiting_number;
+use crate::vif_counts::WAITING;
+use std::collections::HashMap;
+
+const KINDS: [&str; 4] = ["data", "code", "GS", "start"];
+/// Counts n that have a row of their own.
+const OWN_ROWS: [u32; 5] = [1, 2, 3, 254, 255];
+/// The refusals of a record.
+const RECORD: [u32; 6] = [40, 41, 42, 43, 44, 45];
+/// The first that is wrong with a record and the next, where a record can have both.
+const RECORD_PAIRS: [(u32, u32); 8] = [
+    (40, 41),
+    (40, 42),
+    (40, 43),
+    (40, 44),
+    (40, 45),
+    (42, 43),
+    (43, 44),
+    (43, 45),
+];
+/// The refusals of a run's steps that a built chain can meet.
+const STEPS: [u32; 7] = [20, 21, 22, 23, 24, 30, 31];
+/// Stands for 40 to 46 where several things are wrong with a case.
+const SHEET: u32 = 40;
+
+#[derive(Default)]
+pub struct Counts {
+    by_name: HashMap<String, u64>,
+    cases: u64,
+    /// Records of accepted sheets by kind and n, the last column for any other n.
+    records: [[u64; 6]; 4],
+    /// Records that go round the end of data memory and of code memory.
+    wraps: [u64; 2],
+    odd_code: u64,
+    whole_steps: u64,
+}
+
+impl Counts {
+    fn add(&mut self, name: &str) {
+        *self.by_name.entry(name.to_string()).or_default() += 1;
+    }
+
+    fn add_if(&mut self, name: &str, happened: bool) {
+        if happened {
+            self.add(name);
+        }
+    }
+
+    /// Notes a case and what it gave.
+    pub fn note(&mut self, case: &Case, outcome: &Outcome) {
+        self.cases += 1;
+        match sheet::records(&case.sheet) {
+            Ok(records) => self.note_sheet(case, &records),
+            Err(refusal) => self.note_refused_sheet(case, refusal),
+        }
+        self.note_output(case);
+        self.note_answers(case, outcome);
+        self.note_lengths(case);
+        self.note_wrong_together(case);
+        if outcome.ran.answer.is_ok() {
+            self.note_run(case, outcome);
+        }
+    }
+
+    fn note_sheet(&mut self, case: &Case, records: &[Record]) {
+        for record in records {
+            self.note_record(record);
+        }
+        let count = records.len();
+        self.add_if("sheets without a record", count == 0);
+        self.add_if("sheets of one record", count == 1);
+        self.add_if("sheets of 2 to 9 records", (2..10).contains(&count));
+        self.add_if("sheets of 10 to 999 records", (10..1_000).contains(&count));
+        self.add_if("sheets of 1,000 records or more", count >= 1_000);
+        self.add_if("sheets of 21,845 records", count == 21_845);
+        let longest = case.sheet.len() == sheet::MOST_SHEET;
+        self.add_if("sheets of 131,072 bytes", longest);
+    }
+
+    fn note_record(&mut self, record: &Record) {
+        let kind = record.kind as usize;
+        let column = OWN_ROWS.iter().position(|&n| n == record.count);
+        self.records[kind][column.unwrap_or(OWN_ROWS.len())] += 1;
+        let end = record.address + record.count;
+        match record.kind {
+            Kind::Data => self.wraps[0] += (end > vif::QUADWORDS) as u64,
+            Kind::Code => {
+                self.wraps[1] += (end > vif::INSTRUCTIONS) as u64;
+                self.odd_code += (record.count % 2) as u64;
+            }
+            Kind::Gs | Kind::Start => {}
+        }
+    }
+
+    fn note_refused_sheet(&mut self, case: &Case, (number, at): Refusal) {
+        if number == sheet::REFUSED_LONG {
+            self.add(&format!("refused 46, {} bytes", case.sheet.len()));
+            let whole = sheet::records(&case.sheet[..sheet::MOST_SHEET]).is_ok();
+            self.add_if("refused 46, its first 131,072 bytes are a sheet", whole);
+            self.add_if("refused 46, a record is wrong too", !whole);
+            return;
+        }
+        let place = if at == 0 { "the first" } else { "a later" };
+        self.add(&format!("refused {number} in {place} record"));
+        self.add_if("a record refused, output empty", case.output_length == 0);
+        let bytes = &case.sheet[at..];
+        if bytes.len() < HEADER {
+            self.add(&format!("refused 44, header of {} bytes", bytes.len()));
+            let mark = bytes.len() >= 2 && bytes[..2] != MARK;
+            self.add_if("refused 44, header cut and mark wrong", mark);
+            return;
+        }
+        if let Some(next) = wrong_in_record(bytes).get(1) {
+            self.add(&format!("refused {number}, {next} would be next"));
+        }
+        self.note_refused_record(number, bytes);
+    }
+
+    fn note_refused_record(&mut self, number: u32, bytes: &[u8]) {
+        let kind = bytes[2];
+        let body = bytes.len() - HEADER;
+        match number {
+            sheet::REFUSED_MARK => match (bytes[0] == MARK[0], bytes[1] == MARK[1]) {
+                (false, true) => self.add("refused 40, byte 0"),
+                (true, false) => self.add("refused 40, byte 1"),
+                _ => self.add("refused 40, both bytes"),
+            },
+            sheet::REFUSED_KIND if kind == 0 => self.add("refused 41, kind 0"),
+            sheet::REFUSED_KIND if kind == 5 => self.add("refused 41, kind 5"),
+            sheet::REFUSED_KIND => self.add("refused 41, kind above 5"),
+            sheet::REFUSED_COUNT => self.add(&format!("refused 42, kind {kind}")),
+            sheet::REFUSED_ADDRESS => {
+                self.add(&format!("refused 43, kind {kind}"));
+                let limit = [1_024, 2_048, 1, 2_048][kind as usize - 1];
+                let at_limit = bytes[4..6] == u16::to_le_bytes(limit);
+                self.add_if(&format!("refused 43, kind {kind} at its limit"), at_limit);
+            }
+            sheet::REFUSED_CUT => {
+                let whole = Kind::from_number(kind).map_or(0, |kind| kind.body_length(bytes[3]));
+                self.add(&format!("refused 44, body of kind {kind}"));
+                self.add_if("refused 44, body short by one byte", body + 1 == whole);
+                self.add_if(
+                    "refused 44, body short by more",
+                    body > 0 && body + 1 < whole,
+                );
+                self.add_if("refused 44, no body at all", body == 0);
+                let mut entries = bytes[HEADER..].chunks_exact(16);
+                let pad = kind == 3 && entries.any(pad_wrong);
+                self.add_if("refused 44, a pad before the cut wrong too", pad);
+            }
+            _ => self.note_pad(bytes[3] as usize, &bytes[HEADER..]),
+        }
+    }
+
+    /// Notes the first entry of a GS record whose pad is not zero.
+    fn note_pad(&mut self, count: usize, body: &[u8]) {
+        let mut entries = body.chunks(16).take(count);
+        let Some(entry) = entries.position(pad_wrong) else {
+            return;
+        };
+        self.add(match entry {
+            0 if count == 1 => "refused 45, the only entry",
+            0 => "refused 45, the first entry",
+            _ if entry == count - 1 => "refused 45, the last entry",
+            _ => "refused 45, an entry between",
+        });
+        let pads = &body[16 * entry..16 * entry + 16];
+        let wrong: Vec<usize> = (9..16).filter(|&at| pads[at] != 0).collect();
+        if let [at] = wrong[..] {
+            self.add(&format!("refused 45, byte {at} alone"));
+        }
+    }
+
+    fn note_output(&mut self, case: &Case) {
+        let Ok(chain) = sheet::chain_length(&case.sheet) else {
+            return;
+        };
+        let output = case.output_length as usize;
+        let over = output as i64 - chain as i64;
+        self.add_if("output exact", over == 0);
+        self.add_if("output longer by 1", over == 1);
+        self.add_if("output longer by more", over > 1);
+        self.add_if("output short by 1", over == -1);
+        self.add_if("output short by 16", over == -16);
+        self.add_if("output short by another number", over < -1 && over != -16);
+        self.add_if("output empty", output == 0);
+        self.add_if("output of 15 bytes", output == 15);
+        self.add_if("output of 16 bytes, enough", output == 16 && chain == 16);
+        self.add_if("output of 16 bytes, not enough", output == 16 && chain > 16);
+        self.add_if("output of 1 MiB or more", output >= 1 << 20);
+        self.add_if("output no multiple of 4", output % 4 != 0);
+    }
+
+    /// Notes the four answers.
+    fn note_answers(&mut self, case: &Case, outcome: &Outcome) {
+        let mut note = |part: &str, answer: Result<u32, Refusal>, well: &str| match answer {
+            Ok(0) => self.add(&format!("{part}: {well}")),
+            Ok(answer) => self.add(&format!("{part}: run answers {answer}")),
+            Err((number, _)) => self.add(&format!("{part}: refused {number}")),
+        };
+        note("builder", outcome.built.answer.map(|_| 0), "built");
+        note("steps", outcome.steps.map(|_| 0), "given");
+        note("meaning", outcome.meant.answer.map(|()| 0), "done");
+        note("build and run", outcome.ran.answer, "done");
+        let refused = |answer: Result<u32, Refusal>| answer.err().map(|refusal| refusal.0);
+        match refused(outcome.ran.answer) {
+            Some(gif::REFUSED_RANGE) => self.note_out_of_range(case),
+            Some(sheet::REFUSED_OUTPUT) => self.note_no_place(case),
+            _ => {}
+        }
+    }
+
+    fn note_out_of_range(&mut self, case: &Case) {
+        let address = case.address;
+        let wrong = [
+            ("no state", read_block(&case.state).is_none()),
+            (
+                "a state out of range",
+                read_block(&case.state).is_some_and(|state| !chain::in_range(&state)),
+            ),
+            ("address no multiple of 16", address % 16 != 0),
+            ("address from 2^31", address >= 1 << 31),
+        ];
+        let mut names = wrong.iter().filter(|(_, is)| *is).map(|(name, _)| name);
+        if let (Some(name), None) = (names.next(), names.next()) {
+            self.add(&format!("build and run: refused 5, {name}"));
+        }
+    }
+
+    fn note_no_place(&mut self, case: &Case) {
+        let chain = sheet::chain_length(&case.sheet).unwrap_or(0) as i64;
+        let (main, address) = (case.main_length as i64, case.address as i64);
+        let over = address + chain - main;
+        self.add(match address - main {
+            0 => "build and run: refused 47, address just after main memory",
+            1.. => "build and run: refused 47, address beyond main memory",
+            _ if over == 16 => "build and run: refused 47, one quadword too far",
+            _ => "build and run: refused 47, more too far",
+        });
+        self.add_if("build and run: refused 47 at address 0", address == 0);
+    }
+
+    fn note_lengths(&mut self, case: &Case) {
+        let (data, code) = (case.data_length as usize, case.code_length as usize);
+        let (log, main) = (case.log_length as usize, case.main_length as usize);
+        let used = case.used();
+        let odd = log % 2 != 0;
+        let below = 2 * used as u128 > log as u128;
+        let rows = [
+            ("data memory empty", data == 0),
+            ("data memory short", data > 0 && data < vif::DATA_WORDS),
+            ("data memory long", data > vif::DATA_WORDS),
+            ("code memory empty", code == 0),
+            ("code memory short", code > 0 && code < vif::CODE_BYTES),
+            ("code memory long", code > vif::CODE_BYTES),
+            ("code memory no multiple of 4", code % 4 != 0),
+            ("log odd", odd && log < gif::LOG_LIMIT),
+            ("log too long", log > gif::LOG_LIMIT),
+            ("log of 131,072 numbers", log == gif::LOG_LIMIT),
+            ("log below twice the entries used", below && !odd),
+            ("entries used from 2^63", used >= 1 << 63),
+            ("entries used 2^63, log empty", used == 1 << 63 && log == 0),
+            ("main memory empty", main == 0),
+            ("main memory too long", main > chain::MOST_MAIN),
+            ("main memory no multiple of 16", main % 16 != 0),
+            ("main memory no multiple of 4", main % 4 != 0),
+            ("main memory of 1,048,576 bytes", main == chain::MOST_MAIN),
+        ];
+        rows.iter().for_each(|&(name, is)| self.add_if(name, is));
+    }
+
+    fn note_wrong_together(&mut self, case: &Case) {
+        for (part, wrong) in [
+            ("meaning", wrong_for_meaning(case)),
+            ("build and run", wrong_for_run(case)),
+        ] {
+            if let [first, next, ..] = wrong[..] {
+                self.add(&pair_name(part, first, next));
+            }
+        }
+    }
+
+    /// Notes a case that came to its run.
+    fn note_run(&mut self, case: &Case, outcome: &Outcome) {
+        let Some(state) = read_block(&case.state) else {
+            return;
+        };
+        let junk = write_block(&state) != case.state;
+        self.add_if("runs from a block with words that mean nothing", junk);
+        self.note_place(case);
+        self.note_allowance(case, outcome);
+        if let Some(waiting) = &state.unit.waiting {
+            let name = WAITING[waiting_number(&waiting.payload) as usize - 1];
+            self.add(&format!("runs with {name} waiting"));
+            let done = outcome.ran.answer == Ok(chain::DONE);
+            self.add_if("runs with a code waiting: done", done);
+        }
+        let held = state.path2.place != Place::Idle;
+        self.add_if("runs with path 2 inside a tag", held);
+        match foretold(case) {
+            Some(End::Whole) => self.note_whole(case, &state, outcome),
+            Some(End::Cut) => self.add("runs cut by the allowance, all else well"),
+            Some(End::Full) => self.note_full(case),
+            None => {}
+        }
+    }
+
+    fn note_place(&mut self, case: &Case) {
+        let chain = sheet::chain_length(&case.sheet).unwrap_or(0) as u32;
+        let end = case.address + chain;
+        let rows = [
+            ("chain is all of main memory", chain == case.main_length),
+            (
+                "chain at address 0 before other bytes",
+                case.address == 0 && end < case.main_length,
+            ),
+            (
+                "chain inside main memory",
+                case.address > 0 && end < case.main_length,
+            ),
+            (
+                "chain at the end of main memory",
+                case.address > 0 && end == case.main_length,
+            ),
+        ];
+        rows.iter().for_each(|&(name, is)| self.add_if(name, is));
+    }
+
+    fn note_allowance(&mut self, case: &Case, outcome: &Outcome) {
+        let steps = outcome.steps.unwrap_or(0);
+        let given = case.allowance;
+        let one_more = given.saturating_add(1);
+        let rows = [
+            ("allowance 0", given == 0),
+            ("allowance one less than the steps", one_more == steps),
+            (
+                "allowance another number below the steps",
+                given > 0 && one_more < steps,
+            ),
+            ("allowance the steps", given == steps),
+            ("allowance one more than the steps", given == steps + 1),
+            ("allowance 2^64 - 1", given == u64::MAX),
+            (
+                "allowance enough, its low word not",
+                given > steps && given as u32 as u64 <= steps,
+            ),
+        ];
+        rows.iter().for_each(|&(name, is)| self.add_if(name, is));
+    }
+
+    /// Notes a run that is to be what the sheet means.
+    fn note_whole(&mut self, case: &Case, state: &State, outcome: &Outcome) {
+        self.whole_steps += outcome.ran.steps;
+        self.note_whole_from(state, case.main_length as usize);
+        let entries = sheet::entries(&case.sheet).unwrap_or(0);
+        let room = case.log_length as u64 / 2 - case.used();
+        let full = entries > 0 && room == entries;
+        let rows = [
+            ("in all", true),
+            ("with entries used before", state.used > 0),
+            ("with no entry", entries == 0),
+            ("with the log full afterwards", full),
+            ("with room left in the log", room > entries),
+        ];
+        for (name, is) in rows {
+            self.add_if(&format!("whole runs {name}"), is);
+        }
+    }
+
+    fn note_whole_from(&mut self, state: &State, main: usize) {
+        let registers = &state.unit.registers;
+        let mut reset = State::reset();
+        reset.used = state.used;
+        let outside = !chain::pending_inside(state, main);
+        let rows = [
+            ("the reset state", *state == reset),
+            ("channel 2", state.channel == 2),
+            ("TTE on", state.tte),
+            ("a chain that has ended", state.ended),
+            ("a stack of 1", state.depth == 1),
+            ("a stack of 2", state.depth == 2),
+            ("tag words pending", state.tag_word.is_some()),
+            ("payload pending", state.payload.is_some()),
+            ("words pending outside main memory", outside),
+            ("path 3 inside a tag", state.path3.place != Place::Idle),
+            ("path 2 with another Q", state.path2.q != 0),
+            ("MODE 1 or 2", registers.mode != 0),
+            ("WL 0 or above CL", !vif::cycle_legal(registers)),
+            ("WL above 1", registers.wl > 1),
+            ("DBF 1", registers.dbf),
+        ];
+        for (name, is) in rows {
+            self.add_if(&format!("whole runs from {name}"), is);
+        }
+    }
+
+    fn note_full(&mut self, case: &Case) {
+        let entries = sheet::entries(&case.sheet).unwrap_or(0);
+        let room = case.log_length as u64 / 2 - case.used();
+        self.add_if("log short by one entry", room + 1 == entries);
+        self.add_if("log short by more", room + 1 < entries);
+    }
+
+    /// Every count by name.
+    pub fn rows(&self) -> Vec<(String, u64)> {
+        let mut rows: Vec<(String, u64)> = Vec::new();
+        let mut row = |name: String, count: u64| rows.push((name, count));
+        row("cases".to_string(), self.cases);
+        row("steps of whole runs".to_string(), self.whole_steps);
+        for (kind, columns) in KINDS.iter().zip(&self.records) {
+            row(format!("{kind} records"), columns.iter().sum());
+            if *kind == "start" {
+                continue;
+            }
+            for (n, count) in OWN_ROWS.iter().zip(columns) {
+                row(format!("{kind} records, n {n}"), *count);
+            }
+            row(
+                format!("{kind} records, another n"),
+                columns[OWN_ROWS.len()],
+            );
+        }
+        row("data records that wrap".to_string(), self.wraps[0]);
+        row("code records that wrap".to_string(), self.wraps[1]);
+        row("code records, n odd".to_string(), self.odd_code);
+        let names = names();
+        let unknown: Vec<&String> = self.by_name.keys().filter(|n| !names.contains(n)).collect();
+        assert!(unknown.is_empty(), "counts without a row: {unknown:?}");
+        for name in names {
+            let count = self.by_name.get(&name).copied().unwrap_or(0);
+            rows.push((name, count));
+        }
+        rows
+    }
+}
+
+/// Whether a pad byte of a GS entry is not zero.
+fn pad_wrong(entry: &[u8]) -> bool {
+    entry[9..].iter().any(|&byte| byte != 0)
+}
+
+/// The numbers of all that is wrong with the record at the head of the bytes, in order.
+fn wrong_in_record(bytes: &[u8]) -> Vec<u32> {
+    let mut wrong = Vec::new();
+    if bytes[..2] != MARK {
+        wrong.push(sheet::REFUSED_MARK);
+    }
+    let Some(kind) = Kind::from_number(bytes[2]) else {
+        wrong.push(sheet::REFUSED_KIND);
+        return wrong;
+    };
+    if !kind.allows_count(bytes[3]) {
+        wrong.push(sheet::REFUSED_COUNT);
+    }
+    if !kind.allows_address(u16::from_le_bytes([bytes[4], bytes[5]]) as u32) {
+        wrong.push(sheet::REFUSED_ADDRESS);
+    }
+    match bytes[HEADER..].get(..kind.body_length(bytes[3])) {
+        None => wrong.push(sheet::REFUSED_CUT),
+        Some(body) if kind == Kind::Gs && body.chunks(16).any(pad_wrong) => {
+            wrong.push(sheet::REFUSED_PAD);
+        }
+        Some(_) => {}
+    }
+    wrong
+}
+
+/// The numbers of all that refuses the meaning, in order; 40 for any of 40 to 46.
+fn wrong_for_meaning(case: &Case) -> Vec<u32> {
+    let log_right = gif::log_in_range(case.log_length as usize, case.used());
+    let entries = sheet::entries(&case.sheet);
+    let lacks = |&entries: &u64| log_right && entries > case.log_length as u64 / 2 - case.used();
+    let all = [
+        (2, case.data_length as usize != vif::DATA_WORDS),
+        (3, case.code_length as usize != vif::CODE_BYTES),
+        (4, !log_right),
+        (SHEET, entries.is_err()),
+        (31, entries.as_ref().is_ok_and(lacks)),
+    ];
+    all.iter().filter(|(_, is)| *is).map(|(n, _)| *n).collect()
+}
+
+/// The same for build and run, as far as the run's entry.
+fn wrong_for_run(case: &Case) -> Vec<u32> {
+    let main = case.main_length as usize;
+    let state = read_block(&case.state);
+    let chain = sheet::chain_length(&case.sheet);
+    let room = main.saturating_sub(case.address as usize);
+    let start = chain::start_in_range(1, case.address, false);
+    let all = [
+        (1, main == 0 || main % 16 != 0 || main > chain::MOST_MAIN),
+        (2, case.data_length as usize != vif::DATA_WORDS),
+        (3, case.code_length as usize != vif::CODE_BYTES),
+        (4, !gif::log_in_range(case.log_length as usize, case.used())),
+        (5, !start || !state.as_ref().is_some_and(chain::in_range)),
+        (SHEET, chain.is_err()),
+        (47, chain.is_ok_and(|chain| chain > room)),
+    ];
+    all.iter().filter(|(_, is)| *is).map(|(n, _)| *n).collect()
+}
+
+fn pair_name(part: &str, first: u32, next: u32) -> String {
+    let next = match next {
+        SHEET => "the sheet's own".to_string(),
+        next => next.to_string(),
+    };
+    format!("{part}: refused {first}, {next} would be next")
+}
+
+/// The names of the counts that are kept by name.
+fn names() -> Vec<String> {
+    let mut names: Vec<String> = NAMES.iter().map(|name| name.to_string()).collect();
+    add_answer_names(&mut names);
+    add_record_names(&mut names);
+    add_pair_names(&mut names);
+    for waiting in WAITING {
+        names.push(format!("runs with {waiting} waiting"));
+    }
+    names
+}
+
+fn add_answer_names(names: &mut Vec<String>) {
+    let mut add = |part: &str, well: &str, numbers: &[u32]| {
+        names.push(format!("{part}: {well}"));
+        for number in numbers {
+            names.push(format!("{part}: refused {number}"));
+        }
+    };
+    add("builder", "built", &[40, 41, 42, 43, 44, 45, 46, 47]);
+    add("steps", "given", &[40, 41, 42, 43, 44, 45, 46]);
+    let meaning = [2, 3, 4, 40, 41, 42, 43, 44, 45, 46, 31];
+    add("meaning", "done", &meaning);
+    let run = [1, 2, 3, 4, 5, 40, 41, 42, 43, 44, 45, 46, 47];
+    add("build and run", "done", &run);
+    for number in [chain::ALLOWANCE_USED, chain::INTERRUPT]
+        .iter()
+        .chain(&STEPS)
+    {
+        names.push(format!("build and run: run answers {number}"));
+    }
+}
+
+fn add_record_names(names: &mut Vec<String>) {
+    let mut add = |name: String| names.push(name);
+    for number in RECORD {
+        add(format!("refused {number} in the first record"));
+        add(format!("refused {number} in a later record"));
+    }
+    for length in sheet::MOST_SHEET + 1..=sheet::MOST_SHEET + 16 {
+        add(format!("refused 46, {length} bytes"));
+    }
+    for bytes in 1..HEADER {
+        add(format!("refused 44, header of {bytes} bytes"));
+    }
+    for kind in 1..=4 {
+        add(format!("refused 42, kind {kind}"));
+        add(format!("refused 43, kind {kind}"));
+        add(format!("refused 43, kind {kind} at its limit"));
+    }
+    for kind in 1..=3 {
+        add(format!("refused 44, body of kind {kind}"));
+    }
+    for at in 9..16 {
+        add(format!("refused 45, byte {at} alone"));
+    }
+    for (first, next) in RECORD_PAIRS {
+        add(format!("refused {first}, {next} would be next"));
+    }
+}
+
+fn add_pair_names(names: &mut Vec<String>) {
+    let mut add = |part: &str, all: &[u32], never: &[(u32, u32)]| {
+        for (i, &first) in all.iter().enumerate() {
+            for &next in &all[i + 1..] {
+                if !never.contains(&(first, next)) {
+                    names.push(pair_name(part, first, next));
+                }
+            }
+        }
+    };
+    // Without a legal log or an accepted sheet there is no room to speak of.
+    add("meaning", &[2, 3, 4, SHEET, 31], &[(4, 31), (SHEET, 31)]);
+    add("build and run", &[1, 2, 3, 4, 5, SHEET, 47], &[(SHEET, 47)]);
+}
+
+const NAMES: &[&str] = &[
+    "sheets without a record",
+    "sheets of one record",
+    "sheets of 2 to 9 records",
+    "sheets of 10 to 999 records",
+    "sheets of 1,000 records or more",
+    "sheets of 21,845 records",
+    "sheets of 131,072 bytes",
+    "output exact",
+    "output longer by 1",
+    "output longer by more",
+    "output short by 1",
+    "output short by 16",
+    "output short by another number",
+    "output empty",
+    "output of 15 bytes",
+    "output of 16 bytes, enough",
+    "output of 16 bytes, not enough",
+    "output of 1 MiB or more",
+    "output no multiple of 4",
+    "data memory empty",
+    "data memory short",
+    "data memory long",
+    "code memory empty",
+    "code memory short",
+    "code memory long",
+    "code memory no multiple of 4",
+    "log odd",
+    "log too long",
+    "log of 131,072 numbers",
+    "log below twice the entries used",
+    "log short by one entry",
+    "log short by more",
+    "entries used from 2^63",
+    "entries used 2^63, log empty",
+    "main memory empty",
+    "main memory too long",
+    "main memory no multiple of 16",
+    "main memory no multiple of 4",
+    "main memory of 1,048,576 bytes",
+    "refused 40, byte 0",
+    "refused 40, byte 1",
+    "refused 40, both bytes",
+    "refused 41, kind 0",
+    "refused 41, kind 5",
+    "refused 41, kind above 5",
+    "refused 44, header cut and mark wrong",
+    "refused 44, body short by one byte",
+    "refused 44, body short by more",
+    "refused 44, no body at all",
+    "refused 44, a pad before the cut wrong too",
+    "refused 45, the only entry",
+    "refused 45, the first entry",
+    "refused 45, the last entry",
+    "refused 45, an entry between",
+    "refused 46, its first 131,072 bytes are a sheet",
+    "refused 46, a record is wrong too",
+    "a record refused, output empty",
+    "build and run: refused 5, no state",
+    "build and run: refused 5, a state out of range",
+    "build and run: refused 5, address no multiple of 16",
+    "build and run: refused 5, address from 2^31",
+    "build and run: refused 47, address just after main memory",
+    "build and run: refused 47, address beyond main memory",
+    "build and run: refused 47, one quadword too far",
+    "build and run: refused 47, more too far",
+    "build and run: refused 47 at address 0",
+    "chain is all of main memory",
+    "chain at address 0 before other bytes",
+    "chain inside main memory",
+    "chain at the end of main memory",
+    "allowance 0",
+    "allowance one less than the steps",
+    "allowance another number below the steps",
+    "allowance the steps",
+    "allowance one more than the steps",
+    "allowance 2^64 - 1",
+    "allowance enough, its low word not",
+    "runs from a block with words that mean nothing",
+    "runs with path 2 inside a tag",
+    "runs with a code waiting: done",
+    "runs cut by the allowance, all else well",
+    "whole runs in all",
+    "whole runs from the reset state",
+    "whole runs from channel 2",
+    "whole runs from TTE on",
+    "whole runs from a chain that has ended",
+    "whole runs from a stack of 1",
+    "whole runs from a stack of 2",
+    "whole runs from tag words pending",
+    "whole runs from payload pending",
+    "whole runs from words pending outside main memory",
+    "whole runs from path 3 inside a tag",
+    "whole runs from path 2 with another Q",
+    "whole runs from MODE 1 or 2",
+    "whole runs from WL 0 or above CL",
+    "whole runs from WL above 1",
+    "whole runs from DBF 1",
+    "whole runs with entries used before",
+    "whole runs with no entry",
+    "whole runs with the log full afterwards",
+    "whole runs with room left in the log",
+];
