@@ -6,3 +6,4 @@ pub mod MeaningLaws
 pub mod RecordLaws
 pub mod SheetLaws
 pub mod Theorem
+pub mod NotEmpty
