@@ -88,6 +88,10 @@ module _ (main : List ℕ) (allowance : ℕ) (s : State) (m : Lent) where
   unfolding runOf if
   run-refused {n} e z = rw (← e, ne-eqb n 0 z)
 
-  pub run-entered : entryRefusal main m s ≡ 0 → plus 0 (stepsOf main (allowance - 0) s m) ≡ runOf main allowance s m
+  pub run-entered : {n : ℕ} → n ≡ entryRefusal main m s → n ≡ 0 → {x : Ran} → x ≡ stepsOf main allowance s m → x ≡ runOf main allowance s m
   unfolding runOf if
-  run-entered e = rw (e, sub-zero, zero-add)
+  run-entered e z h = rw (← e, z) h
+
+  -- before the first step all of the steps are left
+  pub steps-begin : plus 0 (stepsOf main (allowance - 0) s m) ≡ stepsOf main allowance s m
+  steps-begin = rw (sub-zero, zero-add)
