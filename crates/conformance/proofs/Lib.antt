@@ -7,3 +7,4 @@ pub mod RecordLaws
 pub mod SheetLaws
 pub mod Theorem
 pub mod NotEmpty
+pub mod AnswerLaws
