@@ -25,20 +25,20 @@ runFrom main n x = stepsOf main n (x .state) (x .memories)
 
 one-more : (main : List ℕ) (n : ℕ) (x : Machine) (r : Ran) → done (x .state) ≡ false → stepFrom main x .answer ≡ Completed false
     → Stops main n (stepFrom main x .after) r → Stops main (suc n) x (oneMore r)
-one-more main n x r d a (at-end e p h) = at-end e (step d a p) h
+one-more main n x r d a (at-end e l p h) = at-end e (omega arith) (step d a p) h
 one-more main n x r d a (at-allowance e c p h) = at-allowance e (ap suc c) (step d a p) h
-one-more main n x r d a (at-interrupt k y e c p h b q) = at-interrupt (suc k) y e (ap suc c) (step d a p) h b q
-one-more main n x r d a (at-refusal c e p h b) = at-refusal c e (step d a p) h b
+one-more main n x r d a (at-interrupt k y e c l p h b q) = at-interrupt (suc k) y e (ap suc c) (omega arith) (step d a p) h b q
+one-more main n x r d a (at-refusal c e l p h b) = at-refusal c e (omega arith) (step d a p) h b
 
 stop-now : (main : List ℕ) (x : Machine) (b : Bool) → done (x .state) ≡ b → Stops main 0 x (orStop b Allowance (x .state) (x .memories))
-stop-now main x true h = at-end refl here h
+stop-now main x true h = at-end refl (omega arith) here h
 stop-now main x false h = at-allowance refl refl here h
 
 turn-stops : (main : List ℕ) (n : ℕ) (x : Machine) (a : StepAnswer) → done (x .state) ≡ false → stepFrom main x .answer ≡ a
     → ((y : Machine) → Stops main n y (runFrom main n y)) → Stops main (suc n) x (afterStep (stepsOf main n) a (stepFrom main x) (x .state) (x .memories))
-turn-stops main n x (Completed true) d e f = at-interrupt 0 x refl refl here d e refl
+turn-stops main n x (Completed true) d e f = at-interrupt 0 x refl refl (omega arith) here d e refl
 turn-stops main n x (Completed false) d e f = one-more main n x _ d e (f (stepFrom main x .after))
-turn-stops main n x (StepRefused c) d e f = at-refusal c refl here d e
+turn-stops main n x (StepRefused c) d e f = at-refusal c refl (omega arith) here d e
 
 -- a run stops only at the end, at an interrupt mark, at a refusal or at the end of the allowance
 pub run-stops : (main : List ℕ) (n : ℕ) (x : Machine) → Stops main n x (runFrom main n x)
@@ -48,7 +48,7 @@ run-stops main (suc n) x = go (run-stops main n) (done (x .state)) refl
   where
     go : ((y : Machine) → Stops main n y (runFrom main n y)) → (b : Bool) → done (x .state) ≡ b
         → Stops main (suc n) x (turn b (stepsOf main n) main (x .state) (x .memories))
-    go f true h = at-end refl here h
+    go f true h = at-end refl (omega arith) here h
     go f false h = turn-stops main n x (stepFrom main x .answer) h refl f
 
 -- ---- steps compose
@@ -72,10 +72,10 @@ ready-along here r = r
 ready-along {main} (step {k} {x} d a p) r = ready-along p (step-stays r (stepFrom main x) refl false a)
 
 ready-after : (main : List ℕ) (n : ℕ) (x : Machine) (o : Ran) → Stops main n x o → Ready main (x .state) (x .memories) → Ready main (o .after .state) (o .after .memories)
-ready-after main n x o (at-end e p h) r = ready-along p r
+ready-after main n x o (at-end e l p h) r = ready-along p r
 ready-after main n x o (at-allowance e c p h) r = ready-along p r
-ready-after main n x o (at-interrupt k y e c p h b q) r = rw q (step-stays (ready-along p r) (stepFrom main y) refl true b)
-ready-after main n x o (at-refusal c e p h b) r = ready-along p r
+ready-after main n x o (at-interrupt k y e c l p h b q) r = rw q (step-stays (ready-along p r) (stepFrom main y) refl true b)
+ready-after main n x o (at-refusal c e l p h b) r = ready-along p r
 
 pub run-accepted : (main : List ℕ) (n : ℕ) (s : State) (m : Lent) → entryRefusal main m s ≡ 0
     → entryRefusal main (stepsOf main n s m .after .memories) (stepsOf main n s m .after .state) ≡ 0

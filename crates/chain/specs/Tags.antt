@@ -81,7 +81,7 @@ popped Empty = Empty
 popped (One a) = Empty
 popped (Two a b) = One a
 
--- "5 call: address after payload is pushed"; "6 ret: popped"
+-- call: "address after payload is pushed"; ret: "popped; if stack empty, unchanged, ends"
 unfoldable pub nextStack : ℕ → ℕ → ℕ → Stack → Stack
 nextStack id tadr qwc k = if (eqb id 5) (pushed k (afterPayload tadr qwc)) (if (eqb id 6) (popped k) k)
 

@@ -42,7 +42,7 @@ use Rattle.sheet.specs.Fed.{Fed, fed, fedAll}
 use Rattle.sheet.proofs.WholeLaws.{reader-loses-nothing}
 use Rattle.sheet.proofs.MeaningLaws.{meaning-count, in-count, log-same, numbers-length}
 use Rattle.sheet.proofs.FedLaws.{fedPlain, fed-sheet}
-use Rattle.conformance.specs.Demand.{recordsIn, recordsOf, stepsOfSheet, meansFrom, Typed, Premises, runFrom, Conclusion}
+use Rattle.conformance.specs.Demand.{recordsIn, recordsOf, stepsMeant, meansFrom, Typed, Premises, runFrom, Conclusion}
 use Rattle.conformance.proofs.WordLaws.{octets}
 use Rattle.conformance.proofs.TagLaws.{IdleAt}
 use Rattle.conformance.proofs.SheetLaws.{Ended, sheet-ends}

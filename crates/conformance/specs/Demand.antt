@@ -32,8 +32,8 @@ unfoldable pub recordsOf : List ℕ → List Record
 recordsOf sheet = recordsIn (contentsOf sheet)
 
 -- "A sheet's steps are the sum over its records and the end tag."
-abbrev pub stepsOfSheet : List ℕ → ℕ
-stepsOfSheet sheet = sheetSteps (recordsOf sheet)
+abbrev pub stepsMeant : List ℕ → ℕ
+stepsMeant sheet = sheetSteps (recordsOf sheet)
 
 -- its plain meaning, from what the run gets: the memories and the entries used of the log
 abbrev pub meansFrom : List ℕ → State → Lent → Plain
@@ -61,7 +61,7 @@ pub record Premises (sheet output main : List ℕ) (a size allowance : ℕ) (s :
   -- the log has room for every entry of the meaning
   pub room : 2 * length (meansFrom sheet s m .entries) ≤ length (m .log)
   -- the allowance is at least the sheet's steps
-  pub allowed : stepsOfSheet sheet ≤ allowance
+  pub allowed : stepsMeant sheet ≤ allowance
 
 -- the run of demand 3
 abbrev pub runFrom : List ℕ → ℕ → ℕ → State → Lent → Ran
@@ -69,10 +69,10 @@ runFrom main a allowance s m = runOf main allowance (startOf s 1 a false .state)
 
 -- its conclusion
 pub record Conclusion (sheet main : List ℕ) (a allowance : ℕ) (s : State) (m : Lent) : Type 0 where
-  -- "ends with done in exactly the sheet's steps"
+  -- the run ends with done in exactly the sheet's steps
   pub done : runFrom main a allowance s m .answer ≡ Done
-  pub steps : runFrom main a allowance s m .steps ≡ stepsOfSheet sheet
-  -- "and leaves exactly the sheet's plain meaning": both memories
+  pub steps : runFrom main a allowance s m .steps ≡ stepsMeant sheet
+  -- and leaves exactly the sheet's plain meaning: both memories
   pub mem : runFrom main a allowance s m .after .memories .mem ≡ meansFrom sheet s m .mem
   pub code : runFrom main a allowance s m .after .memories .code ≡ meansFrom sheet s m .code
   -- the list of entries in the log, and their number

@@ -2,7 +2,7 @@
 -- body, NOPs to a whole quadword. Kind 3: three NOPs, DIRECT n+1, a GIF tag (NLOOP n, EOP 1, NREG 1, descriptor E, rest 0), body. Kind 4: three NOPs, MSCAL.
 -- Last an end tag, QWC 0. UNPACK and MPG carry NUM n and IMM the address, DIRECT IMM n+1, MSCAL IMM the address. Unused tag bits are zero, and so are all bits
 -- of codes not given here, bit 31 of each too."
-use Prim.Native.Nat.{ℕ, zero, suc, _+_, _*_, _-_, _/_, _%_}
+use Prim.Native.Nat.{ℕ, zero, suc, _+_, _*_, _-_, _/_, _%_, _^_}
 use mathlib.Core.List.{List, [], _∷_, _++_}
 use Rattle.sheet.specs.declared.Kind.{Kind}
 use Rattle.sheet.specs.declared.Kind.the-variants.{Data, Code, Gs, Start}
@@ -20,15 +20,15 @@ wordsBytes (w ∷ ws) = wordBytes w ++ wordsBytes ws
 
 -- a DMA tag: "Bits 0-15 QWC, 28-30 ID"; 1 is cnt, 7 is end
 abbrev pub tagWords : ℕ → ℕ → List ℕ
-tagWords id qwc = (id * 268435456 + qwc) ∷ 0 ∷ 0 ∷ 0 ∷ []
+tagWords id qwc = (id * 2 ^ 28 + qwc) ∷ 0 ∷ 0 ∷ 0 ∷ []
 
 -- a VIF code: "Bits 0-15 IMM, 16-23 NUM, 24-30 CMD"
 abbrev pub vifCode : ℕ → ℕ → ℕ → ℕ
-vifCode cmd num imm = cmd * 16777216 + num * 65536 + imm
+vifCode cmd num imm = cmd * 2 ^ 24 + num * 2 ^ 16 + imm
 
--- NOP 00, STCYCL 01 with CL = WL = 1, STMOD 05 with 0, UNPACK V4-32 6C, MPG 4A, DIRECT 50, MSCAL 14
+-- NOP 00, STCYCL 01 with CL = WL = 1 (0101h is 257), STMOD 05 with 0, UNPACK V4-32 6C (108), MPG 4A (74), DIRECT 50 (80), MSCAL 14 (20)
 abbrev pub codeWords : Kind → ℕ → ℕ → List ℕ
-codeWords Data n a = 0 ∷ 16777473 ∷ 83886080 ∷ vifCode 108 n a ∷ []
+codeWords Data n a = 0 ∷ vifCode 1 0 257 ∷ vifCode 5 0 0 ∷ vifCode 108 n a ∷ []
 codeWords Code n a = 0 ∷ 0 ∷ 0 ∷ vifCode 74 n a ∷ []
 codeWords Gs n a = 0 ∷ 0 ∷ 0 ∷ vifCode 80 0 (n + 1) ∷ []
 codeWords Start n a = 0 ∷ 0 ∷ 0 ∷ vifCode 20 0 a ∷ []
@@ -37,7 +37,7 @@ codeWords Start n a = 0 ∷ 0 ∷ 0 ∷ vifCode 20 0 a ∷ []
 abbrev pub gifTagWords : Kind → ℕ → List ℕ
 gifTagWords Data n = []
 gifTagWords Code n = []
-gifTagWords Gs n = (n + 32768) ∷ 268435456 ∷ 14 ∷ 0 ∷ []
+gifTagWords Gs n = (n + 2 ^ 15) ∷ 2 ^ 28 ∷ 14 ∷ 0 ∷ []
 gifTagWords Start n = []
 
 -- "NOPs to a whole quadword": two words where the number of instructions is odd

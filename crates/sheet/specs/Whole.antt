@@ -1,4 +1,4 @@
--- A sheet as bytes: document 01's "A sheet is records to its end. Each: mark 9Eh 51h, kind, count n, address (16 bits), body", and its table.
+-- A sheet as bytes: document 01's "A sheet is records to its end, at most 131,072 bytes. Each: mark 9Eh 51h, kind, count n, address (16 bits), body", and its table.
 use Prim.Native.Nat.{ℕ, _%_, _/_, _<_}
 use mathlib.Core.Path.{_≡_}
 use mathlib.Core.Bool.{true}

@@ -17,7 +17,7 @@ added x y = (x + y) % 2 ^ 32
 unfoldable pub rowOf : ℕ → ℕ → ℕ → ℕ
 rowOf mode x row = if (eqb mode 2) (added x row) row
 
--- "MODE 1: code 0 gives data + ROW of the field. MODE 2 ...: a field of code 0 gets the new ROW"
+-- "MODE 1: code 0 gives data + ROW of the field. MODE 2 ..., and a field of code 0 gets the new ROW"
 unfoldable pub dataOf : ℕ → ℕ → ℕ → ℕ
 dataOf mode x row = if (eqb mode 1) (added x row) (if (eqb mode 2) (rowOf mode x row) x)
 

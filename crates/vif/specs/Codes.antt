@@ -28,7 +28,8 @@ interruptOf word = eqb (bits word 31 31) 1
 unfoldable pub quadwordsOf : ℕ → ℕ
 quadwordsOf imm = if (eqb imm 0) 65536 imm
 
--- the codes below 60h, with the numbers of the document; all numbers are hexadecimal there
+-- the codes below 60h; the document's numbers are hexadecimal: 10, 11, 13 are 16, 17, 19; 14, 15, 17 are 20, 21, 23; 20 is 32; 30, 31 are 48, 49; 4A is 74;
+-- 50, 51 are 80, 81
 unfoldable pub plainCode : ℕ → ℕ → ℕ → Decoded
 plainCode cmd num imm =
     if (eqb cmd 0) (Known Nop)

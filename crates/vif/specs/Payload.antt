@@ -52,7 +52,7 @@ maskWord v word = withWaiting (withMask v word) Nothing
 abbrev pub bytesOf : ℕ → List ℕ
 bytesOf word = word % 256 ∷ word / 256 % 256 ∷ word / 65536 % 256 ∷ word / 16777216 ∷ []
 
--- "MPG: NUM instructions of two words, instruction j to (IMM+j) modulo 2,048. A word is stored as it comes": where word k of the payload goes, in bytes
+-- "MPG: NUM instructions of two words (0 means 256), instruction j to (IMM+j) modulo 2,048. A word is stored as it comes": where word k of the payload goes, in bytes
 unfoldable pub wordPlace : ℕ → ℕ → ℕ → ℕ
 wordPlace size a k = 8 * ((a + k / 2) % size) + 4 * (k % 2)
 
