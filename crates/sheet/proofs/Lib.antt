@@ -5,6 +5,7 @@ pub mod PadLaws
 pub mod ReaderLaws
 pub mod RestLaws
 pub mod WholeLaws
+pub mod AcceptLaws
 pub mod TotalsLaws
 pub mod LayoutLaws
 pub mod ChainLaws

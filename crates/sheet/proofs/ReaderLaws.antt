@@ -134,7 +134,7 @@ module _ (sheet : List ℕ) (at : ℕ) where
   reading-end h = leb-true _ _ (ended _ _ _ _ refl refl h)
 
   -- and past the sheet is the end
-  past : length sheet ≤ at → readingAt sheet at ≡ End
+  pub past : length sheet ≤ at → readingAt sheet at ≡ End
   unfolding readingAt if
   past h = rw (le-leb _ _ h)
 

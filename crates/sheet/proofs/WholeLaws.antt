@@ -32,7 +32,7 @@ module _ (xs : List ℕ) (p m : ℕ) where
   part-pads zero i h = refl
   part-pads (suc n) i h = rw (part-zeros 7 (i + 9) (omega arith), part-pads n (i + 16) (omega arith), add-assoc p i 9, add-assoc p i 16)
 
-part-fits : (k : Kind) (xs : List ℕ) (p n : ℕ) → padsFit k (bytesAt xs p (bodyLength k n)) 0 n ≡ padsFit k xs p n
+pub part-fits : (k : Kind) (xs : List ℕ) (p n : ℕ) → padsFit k (bytesAt xs p (bodyLength k n)) 0 n ≡ padsFit k xs p n
 part-fits Data xs p n = refl
 part-fits Code xs p n = refl
 part-fits Gs xs p n = part-pads xs p (16 * n) n 0 (omega arith) ∙ rw add-zero
