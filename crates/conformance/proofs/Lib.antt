@@ -1,4 +1,4 @@
--- Demand 3, from words in memory up to whole sheets.
+-- Demand 3, from words in memory up to whole sheets; and the table of bench points.
 pub mod WordLaws
 pub mod FeedLaws
 pub mod TagLaws
@@ -7,4 +7,8 @@ pub mod RecordLaws
 pub mod SheetLaws
 pub mod Theorem
 pub mod NotEmpty
+<<<<<<< HEAD
 pub mod AnswerLaws
+=======
+pub mod Points
+>>>>>>> d05a346546ebed8a67e248b5164837e1a957dd32

@@ -1,0 +1,115 @@
+-- Document 01: "Points marked (P) are proved as one table under one statement." By computation.
+use mathlib.Core.Path.{refl}
+use lib.ListN.{drop}
+use Rattle.fields.specs.Fields.{if, bits, quadword}
+use Rattle.gif.specs.Log.{logged, lacksRoom, logRefused}
+use Rattle.gif.specs.Packed.{packedWrites}
+use Rattle.gif.specs.Tag.{formatOf, nregOf, quadwordsOf as gifQuadwordsOf, tagOf, takenOf, descriptorAt, placeAfter, placeAtTag, tagWrites}
+use Rattle.gif.specs.Step.{commit, tagStep, packedWith, gifStep}
+use Rattle.unpack.specs.Mask.{rowOfCycle, codeAt, maskOf}
+use Rattle.unpack.specs.Payload.{vectorBits, payloadWords, wholeVectors}
+use Rattle.unpack.specs.Position.{positionOf}
+use Rattle.unpack.specs.Vector.{extended, element, fieldsOf, fiveFields, vectorAt}
+use Rattle.unpack.specs.Write.{added, rowOf, dataOf, fieldOf, rowsAfter, putField, writtenAt, writeVector, writeVectors}
+use Rattle.unpack.specs.Step.{countOf, unpackingOf, takenWords, acting, heldVector, wordOf, unpackWord}
+use Rattle.vif.specs.Codes.{quadwordsOf as directQuadwordsOf, plainCode, unpackCode, unpackNumbers, codeOf, decodeOf}
+use Rattle.vif.specs.Execute.{startProgram, setMode, beginMpg, addressOf, cycleRefused, beginUnpack}
+use Rattle.vif.specs.Payload.{completes, orNothing, wordPlace, mpgStored}
+use Rattle.vif.specs.Range.{registersInRange, waitingInRange, unitInRange}
+use Rattle.vif.specs.Step.{codeStep, giveQuadword, unpackStep, vifStep}
+use Rattle.chain.specs.Memory.{wordAt, longAt}
+use Rattle.chain.specs.Pending.{incomingAt, payloadAfter}
+use Rattle.chain.specs.Range.{channelInRange, startInRange, stackInRange, tagsInRange, payloadInRange, stateInRange, mainRefused, tagsInside, payloadInside, entryRefusal}
+use Rattle.chain.specs.Tags.{usesAddr, payloadAt, nextTadr, endsChain, tagWordsOf, payloadOf, tagRefusal, tagState, tagRead}
+use Rattle.chain.specs.Start.{resetState, startOf}
+use Rattle.chain.specs.Step.{vifGiven, payloadStep, stepOf}
+use Rattle.chain.specs.Run.{done, stepsOf, runOf}
+use Rattle.sheet.specs.Records.{zerosAt, padsZero}
+use Rattle.sheet.specs.Reader.{marked, kindOf, rowRefusal, recordRefusal, readingAt, recordsFrom, contentsFrom, contentsOf}
+use Rattle.sheet.specs.Sizes.{sheetSteps}
+use Rattle.sheet.specs.Layout.{laidOut, chainOf}
+use Rattle.sheet.specs.Build.{buildOf}
+use Rattle.conformance.specs.Demand.{recordsOf}
+use Rattle.conformance.specs.Points.{AllHold, runIn, runOfWords, builtFrom, sizeOf, chainBytes, wordsAt, chainWords, runOfSheet, stepsFor, loggedIn, quadwordIn, instructionIn, allZero, partsWritten, quadwordsFrom, instructionsFrom, dueIn, rowIn, answerIn, points}
+
+-- ---- the definitions that the table computes through
+
+gifOpen : Unit {0}
+unfolding logged lacksRoom logRefused packedWrites formatOf nregOf gifQuadwordsOf tagOf takenOf descriptorAt placeAfter placeAtTag tagWrites commit tagStep packedWith gifStep
+gifOpen = tt
+
+unpackOpen : Unit {0}
+unfolding rowOfCycle codeAt maskOf vectorBits payloadWords wholeVectors positionOf extended element fieldsOf fiveFields vectorAt added rowOf dataOf fieldOf rowsAfter putField writtenAt writeVector writeVectors countOf unpackingOf takenWords acting heldVector wordOf unpackWord
+unpackOpen = tt
+
+vifOpen : Unit {0}
+unfolding directQuadwordsOf plainCode unpackCode unpackNumbers codeOf decodeOf startProgram setMode beginMpg addressOf cycleRefused beginUnpack completes orNothing wordPlace mpgStored registersInRange waitingInRange unitInRange codeStep giveQuadword unpackStep vifStep
+vifOpen = tt
+
+chainOpen : Unit {0}
+unfolding wordAt longAt incomingAt payloadAfter channelInRange startInRange stackInRange tagsInRange payloadInRange stateInRange mainRefused tagsInside payloadInside entryRefusal usesAddr payloadAt nextTadr endsChain tagWordsOf payloadOf tagRefusal tagState tagRead resetState startOf vifGiven payloadStep stepOf done stepsOf runOf
+chainOpen = tt
+
+sheetOpen : Unit {0}
+unfolding zerosAt padsZero marked kindOf rowRefusal recordRefusal readingAt recordsFrom contentsFrom contentsOf sheetSteps laidOut chainOf buildOf
+sheetOpen = tt
+
+benchOpen : Unit {0}
+unfolding recordsOf runIn runOfWords builtFrom sizeOf chainBytes wordsAt chainWords runOfSheet stepsFor loggedIn quadwordIn instructionIn allZero partsWritten quadwordsFrom instructionsFrom dueIn rowIn answerIn
+benchOpen = tt
+
+opened : Unit {0}
+unfolding benchOpen sheetOpen chainOpen vifOpen unpackOpen gifOpen if bits quadword points
+opened = tt
+
+-- ---- the table, from its end up: a lemma takes the points of one line of document 01 in front of those after it
+
+-- "MPG at 2,047"
+mpg : AllHold (drop 24 points)
+unfolding opened
+mpg = (refl, (refl, (refl, tt)))
+
+-- "CL 4, WL 2. CL 2, WL 3"
+cycle : AllHold (drop 20 points)
+unfolding opened
+cycle = (refl, (refl, (refl, (refl, mpg))))
+
+-- "MODE 2"
+mode : AllHold (drop 18 points)
+unfolding opened
+mode = (refl, (refl, cycle))
+
+-- "V4-5 FFFF"
+five-bits : AllHold (drop 17 points)
+unfolding opened
+five-bits = (refl, mode)
+
+-- "V3-8, NUM 5. V4-32, NUM 0"
+words : AllHold (drop 15 points)
+unfolding opened
+words = (refl, (refl, five-bits))
+
+-- "S-8 byte FF"
+byte : AllHold (drop 13 points)
+unfolding opened
+byte = (refl, (refl, words))
+
+-- "Kind 3, n 1"
+gs-record : AllHold (drop 11 points)
+unfolding opened
+gs-record = (refl, (refl, byte))
+
+-- "Kind 1 at 1,023, n 2"
+data-record : AllHold (drop 6 points)
+unfolding opened
+data-record = (refl, (refl, (refl, (refl, (refl, gs-record)))))
+
+-- "9E 51 04 00 05 00"
+start-record : AllHold (drop 3 points)
+unfolding opened
+start-record = (refl, (refl, (refl, data-record)))
+
+-- every bench point marked (P) holds
+pub points-hold : AllHold points
+unfolding opened
+points-hold = (refl, (refl, (refl, start-record)))

@@ -1,0 +1,223 @@
+-- The bench points that document 01 marks (P), as one table. Each value is computed through the definitions that the promises of the builder, the start and
+-- the run cite: a sheet is built and its chain run, or words are given to VIF1 by a chain of two tags.
+use Prim.Native.Nat.{ℕ, zero, suc, _+_, _*_, _-_, _/_}
+use mathlib.Core.Bool.{Bool, true, false, _&&_}
+use mathlib.Core.List.{List, [], _∷_, _++_}
+use mathlib.Core.Path.{_≡_}
+use lib.ListN.{take, drop, replicate}
+use lib.Dec.{eqb}
+use Rattle.fields.specs.Fields.{if}
+use Rattle.vif.specs.declared.Waiting.{Waiting}
+use Rattle.vif.specs.declared.Waiting.the-variants.{Nothing, MaskDue, RowDue, ColDue, MpgDue, DirectDue, DirecthlDue, UnpackDue}
+use Rattle.vif.specs.Step.{Lent, lent}
+use Rattle.chain.specs.Memory.{wordAt}
+use Rattle.chain.specs.Start.{resetState, startOf}
+use Rattle.chain.specs.Run.{Ran, numberOf, runOf}
+use Rattle.sheet.specs.Layout.{wordsBytes, tagWords}
+use Rattle.sheet.specs.Build.{Left, buildOf, exportedNumber}
+use Rattle.conformance.specs.Demand.{stepsMeant}
+
+-- a point: the numbers that the definitions give, and those that document 01 states
+pub record Point : Type 0 where
+  pub computed : List ℕ
+  pub stated : List ℕ
+
+abbrev pub point : List ℕ → List ℕ → Point
+point computed stated = record { computed = computed; stated = stated }
+
+-- in each point of a table the two are the same
+abbrev pub AllHold : List Point → Type 0
+AllHold [] = Unit {0}
+AllHold (p ∷ ps) = (p .computed ≡ p .stated) × AllHold ps
+
+-- ---- the bench
+
+-- data memory, code memory and a log of four entries, all zeros
+abbrev pub blank : Lent
+blank = lent (replicate 4096 0) (replicate 16384 0) (replicate 8 0)
+
+-- a chain at address 0 of main memory, started on channel 1 from reset and run
+unfoldable pub runIn : List ℕ → Ran
+runIn main = runOf main 100 (startOf resetState 1 0 false .state) blank
+
+-- VIF1's words by a chain: a cnt tag with n quadwords, and an end tag
+unfoldable pub runOfWords : ℕ → List ℕ → Ran
+runOfWords n words = runIn (wordsBytes (tagWords 1 n ++ words ++ tagWords 7 0))
+
+-- a sheet built into 128 bytes of FFh
+unfoldable pub builtFrom : List ℕ → Left
+builtFrom sheet = buildOf sheet (replicate 128 255)
+
+-- the number that the builder gives: the chain's length in bytes
+unfoldable pub sizeOf : List ℕ → ℕ
+sizeOf sheet = exportedNumber (builtFrom sheet .answer)
+
+-- so many bytes of the output are the chain
+unfoldable pub chainBytes : List ℕ → List ℕ
+chainBytes sheet = take (sizeOf sheet) (builtFrom sheet .output)
+
+-- n words from an address on
+unfoldable pub wordsAt : List ℕ → ℕ → ℕ → List ℕ
+wordsAt main at zero = []
+wordsAt main at (suc n) = wordAt main at ∷ wordsAt main (at + 4) n
+
+-- all words of the chain
+unfoldable pub chainWords : List ℕ → List ℕ
+chainWords sheet = wordsAt (chainBytes sheet) 0 (sizeOf sheet / 4)
+
+-- the chain run where the builder left it
+unfoldable pub runOfSheet : List ℕ → Ran
+runOfSheet sheet = runIn (builtFrom sheet .output)
+
+-- the number of the run's answer, the steps of the run, and the sheet's steps
+unfoldable pub stepsFor : List ℕ → List ℕ
+stepsFor sheet = numberOf (runOfSheet sheet .answer) ∷ runOfSheet sheet .steps ∷ stepsMeant sheet ∷ []
+
+-- ---- what a run left
+
+-- the log's entries, as numbers
+unfoldable pub loggedIn : Ran → List ℕ
+loggedIn r = take (2 * r .after .state .used) (r .after .memories .log)
+
+-- quadword q of data memory
+unfoldable pub quadwordIn : Ran → ℕ → List ℕ
+quadwordIn r q = take 4 (drop (4 * q) (r .after .memories .mem))
+
+-- instruction q of code memory
+unfoldable pub instructionIn : Ran → ℕ → List ℕ
+instructionIn r q = take 8 (drop (8 * q) (r .after .memories .code))
+
+unfoldable pub allZero : List ℕ → Bool
+allZero [] = true
+allZero (x ∷ xs) = eqb x 0 && allZero xs
+
+-- of n parts of a size, numbered from q on, those that are not all zeros
+unfoldable pub partsWritten : ℕ → ℕ → ℕ → List ℕ → List ℕ
+partsWritten size zero q xs = []
+partsWritten size (suc n) q xs =
+    let rest = partsWritten size n (suc q) (drop size xs) in
+    if (allZero (take size xs)) rest (q ∷ rest)
+
+-- the quadwords of data memory that hold something: from number q to the end, then those before q
+unfoldable pub quadwordsFrom : Ran → ℕ → List ℕ
+quadwordsFrom r q = partsWritten 4 (1024 - q) q (drop (4 * q) (r .after .memories .mem)) ++ partsWritten 4 q 0 (r .after .memories .mem)
+
+-- the instructions of code memory that hold something, in the same order
+unfoldable pub instructionsFrom : Ran → ℕ → List ℕ
+instructionsFrom r q = partsWritten 8 (2048 - q) q (drop (8 * q) (r .after .memories .code)) ++ partsWritten 8 q 0 (r .after .memories .code)
+
+-- the payload words that VIF1 waits for
+abbrev pub wordsDue : Waiting → ℕ
+wordsDue Nothing = 0
+wordsDue (MaskDue i) = 1
+wordsDue (RowDue due i) = due
+wordsDue (ColDue due i) = due
+wordsDue (MpgDue a n due i) = due
+wordsDue (DirectDue due i) = 4 * due
+wordsDue (DirecthlDue due i) = 4 * due
+wordsDue (UnpackDue f u) = u .due
+
+unfoldable pub dueIn : Ran → List ℕ
+dueIn r = wordsDue (r .after .state .vif .waiting) ∷ []
+
+unfoldable pub rowIn : Ran → List ℕ
+rowIn r = r .after .state .vif .row
+
+unfoldable pub answerIn : Ran → List ℕ
+answerIn r = numberOf (r .answer) ∷ []
+
+-- ---- the sheets
+
+-- "9E 51 04 00 05 00"
+abbrev pub startSheet : List ℕ
+startSheet = 0x9e ∷ 0x51 ∷ 4 ∷ 0 ∷ 5 ∷ 0 ∷ []
+
+-- "Kind 1 at 1,023, n 2": its vectors are 1 2 3 4 and 5 6 7 8
+abbrev pub dataSheet : List ℕ
+dataSheet = 0x9e ∷ 0x51 ∷ 1 ∷ 2 ∷ 0xff ∷ 3 ∷ wordsBytes (1 ∷ 2 ∷ 3 ∷ 4 ∷ 5 ∷ 6 ∷ 7 ∷ 8 ∷ [])
+
+-- "Kind 3, n 1": value 1 to register 0Ah
+abbrev pub gsSheet : List ℕ
+gsSheet = 0x9e ∷ 0x51 ∷ 3 ∷ 1 ∷ 0 ∷ 0 ∷ wordsBytes (1 ∷ 0 ∷ 0xa ∷ 0 ∷ [])
+
+-- ---- VIF1's words
+
+-- STCYCL 1, 1; NOP; UNPACK S-8, NUM 1, A 0; its word
+abbrev pub byteSigned : List ℕ
+byteSigned = 0x01000101 ∷ 0 ∷ 0x62010000 ∷ 0xff ∷ []
+
+-- the same with USN
+abbrev pub byteUnsigned : List ℕ
+byteUnsigned = 0x01000101 ∷ 0 ∷ 0x62014000 ∷ 0xff ∷ []
+
+-- STCYCL 1, 1; two NOPs; UNPACK V3-8, NUM 5
+abbrev pub fiveVectors : List ℕ
+fiveVectors = 0x01000101 ∷ 0 ∷ 0 ∷ 0x6a050000 ∷ []
+
+-- STCYCL 1, 1; two NOPs; UNPACK V4-32, NUM 0
+abbrev pub allVectors : List ℕ
+allVectors = 0x01000101 ∷ 0 ∷ 0 ∷ 0x6c000000 ∷ []
+
+-- STCYCL 1, 1; NOP; UNPACK V4-5, NUM 1, A 0; its word
+abbrev pub fiveBits : List ℕ
+fiveBits = 0x01000101 ∷ 0 ∷ 0x6f010000 ∷ 0xffff ∷ []
+
+-- STROW and its words; STMOD 2; STCYCL 1, 1; UNPACK V4-32, NUM 1, A 0; its words
+abbrev pub rowAdded : List ℕ
+rowAdded =
+    0x30000000 ∷ 0xffffffff ∷ 0xffffffff ∷ 0xffffffff ∷ 0xffffffff ∷ 0x05000002 ∷ 0x01000101 ∷ 0x6c010000 ∷ 2 ∷ 2 ∷ 2 ∷ 2 ∷ []
+
+-- STCYCL 4, 2; two NOPs; UNPACK S-32, NUM 4, A 0; its words
+abbrev pub skipping : List ℕ
+skipping = 0x01000204 ∷ 0 ∷ 0 ∷ 0x60040000 ∷ 1 ∷ 2 ∷ 3 ∷ 4 ∷ []
+
+-- STCYCL 2, 3; two NOPs; the same UNPACK
+abbrev pub filling : List ℕ
+filling = 0x01000302 ∷ 0 ∷ 0 ∷ 0x60040000 ∷ 1 ∷ 2 ∷ 3 ∷ 4 ∷ []
+
+-- three NOPs; MPG at 2,047, NUM 2; its words
+abbrev pub program : List ℕ
+program = 0 ∷ 0 ∷ 0 ∷ 0x4a0207ff ∷ 1 ∷ 2 ∷ 3 ∷ 4 ∷ []
+
+-- ---- the table
+
+unfoldable pub points : List Point
+points =
+    -- "Empty sheet: 16 bytes, 00 00 00 70 and twelve zeros, 1 step."
+    point (sizeOf [] ∷ []) (16 ∷ [])
+    ∷ point (chainBytes []) (0 ∷ 0 ∷ 0 ∷ 0x70 ∷ 0 ∷ 0 ∷ 0 ∷ 0 ∷ 0 ∷ 0 ∷ 0 ∷ 0 ∷ 0 ∷ 0 ∷ 0 ∷ 0 ∷ [])
+    ∷ point (stepsFor []) (0 ∷ 1 ∷ 1 ∷ [])
+    -- "9E 51 04 00 05 00: words 10000001 0 0 0, 0 0 0 14000005, 70000000 0 0 0 (hex); 6 steps; log 256, 5."
+    ∷ point (chainWords startSheet) (0x10000001 ∷ 0 ∷ 0 ∷ 0 ∷ 0 ∷ 0 ∷ 0 ∷ 0x14000005 ∷ 0x70000000 ∷ 0 ∷ 0 ∷ 0 ∷ [])
+    ∷ point (stepsFor startSheet) (0 ∷ 6 ∷ 6 ∷ [])
+    ∷ point (loggedIn (runOfSheet startSheet)) (256 ∷ 5 ∷ [])
+    -- "Kind 1 at 1,023, n 2: 80 bytes, 14 steps, quadwords 1,023 and 0."
+    ∷ point (sizeOf dataSheet ∷ []) (80 ∷ [])
+    ∷ point (stepsFor dataSheet) (0 ∷ 14 ∷ 14 ∷ [])
+    ∷ point (quadwordsFrom (runOfSheet dataSheet) 1023) (1023 ∷ 0 ∷ [])
+    ∷ point (quadwordIn (runOfSheet dataSheet) 1023) (1 ∷ 2 ∷ 3 ∷ 4 ∷ [])
+    ∷ point (quadwordIn (runOfSheet dataSheet) 0) (5 ∷ 6 ∷ 7 ∷ 8 ∷ [])
+    -- "Kind 3, n 1: GIF tag words 00008001, 10000000, 0000000E, 0; 8 steps." The tag follows the DMA tag and the codes.
+    ∷ point (wordsAt (chainBytes gsSheet) 32 4) (0x00008001 ∷ 0x10000000 ∷ 0x0000000e ∷ 0 ∷ [])
+    ∷ point (stepsFor gsSheet) (0 ∷ 8 ∷ 8 ∷ [])
+    -- "S-8 byte FF: four fields FFFFFFFF; with USN 000000FF."
+    ∷ point (quadwordIn (runOfWords 1 byteSigned) 0) (0xffffffff ∷ 0xffffffff ∷ 0xffffffff ∷ 0xffffffff ∷ [])
+    ∷ point (quadwordIn (runOfWords 1 byteUnsigned) 0) (0x000000ff ∷ 0x000000ff ∷ 0x000000ff ∷ 0x000000ff ∷ [])
+    -- "V3-8, NUM 5: 4 words. V4-32, NUM 0: 1,024 words."
+    ∷ point (dueIn (runOfWords 1 fiveVectors)) (4 ∷ [])
+    ∷ point (dueIn (runOfWords 1 allVectors)) (1024 ∷ [])
+    -- "V4-5 FFFF: F8, F8, F8, 80."
+    ∷ point (quadwordIn (runOfWords 1 fiveBits) 0) (0xf8 ∷ 0xf8 ∷ 0xf8 ∷ 0x80 ∷ [])
+    -- "MODE 2, ROW FFFFFFFF, data 2: 1." The data written, and ROW.
+    ∷ point (quadwordIn (runOfWords 3 rowAdded) 0) (1 ∷ 1 ∷ 1 ∷ 1 ∷ [])
+    ∷ point (rowIn (runOfWords 3 rowAdded)) (1 ∷ 1 ∷ 1 ∷ 1 ∷ [])
+    -- "CL 4, WL 2, NUM 4, A 0: 0, 1, 4, 5. CL 2, WL 3: refused 22."
+    ∷ point (quadwordsFrom (runOfWords 2 skipping) 0) (0 ∷ 1 ∷ 4 ∷ 5 ∷ [])
+    ∷ point (quadwordIn (runOfWords 2 skipping) 0 ++ quadwordIn (runOfWords 2 skipping) 1) (1 ∷ 1 ∷ 1 ∷ 1 ∷ 2 ∷ 2 ∷ 2 ∷ 2 ∷ [])
+    ∷ point (quadwordIn (runOfWords 2 skipping) 4 ++ quadwordIn (runOfWords 2 skipping) 5) (3 ∷ 3 ∷ 3 ∷ 3 ∷ 4 ∷ 4 ∷ 4 ∷ 4 ∷ [])
+    ∷ point (answerIn (runOfWords 2 filling)) (22 ∷ [])
+    -- "MPG at 2,047, two instructions: 2,047 and 0."
+    ∷ point (instructionsFrom (runOfWords 2 program) 2047) (2047 ∷ 0 ∷ [])
+    ∷ point (instructionIn (runOfWords 2 program) 2047) (1 ∷ 0 ∷ 0 ∷ 0 ∷ 2 ∷ 0 ∷ 0 ∷ 0 ∷ [])
+    ∷ point (instructionIn (runOfWords 2 program) 0) (3 ∷ 0 ∷ 0 ∷ 0 ∷ 4 ∷ 0 ∷ 0 ∷ 0 ∷ [])
+    ∷ []
