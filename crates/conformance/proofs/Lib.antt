@@ -7,8 +7,5 @@ pub mod RecordLaws
 pub mod SheetLaws
 pub mod Theorem
 pub mod NotEmpty
-<<<<<<< HEAD
 pub mod AnswerLaws
-=======
 pub mod Points
->>>>>>> d05a346546ebed8a67e248b5164837e1a957dd32
