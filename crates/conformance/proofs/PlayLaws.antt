@@ -1,10 +1,10 @@
 -- Demand 3 of build_and_run: where the sheet is accepted, what it leaves is demand 3's conclusion.
 use mathlib.Core.Path.{_≡_, refl, sym, ap, _∙_}
-use mathlib.Core.Bool.{Bool, true, false, not, _&&_}
+use mathlib.Core.Bool.{true, false, not, _&&_}
 use mathlib.Core.List.{List, [], _∷_, _++_}
-use Prim.Native.Nat.{ℕ, _+_, _*_, _-_, _%_, _<_, _≤_}
+use Prim.Native.Nat.{ℕ, _+_, _-_, _≤_}
 use native.Mathlib.Omega.{arith}
-use borrow.Author.Tests.{ltb-false, eqb-true}
+use borrow.Author.Tests.{ltb-false, eqb-true, eq-eqb}
 use lib.ListN.{length, take, drop, length-append, length-drop, take-append-drop}
 use lib.Seq.{length-take-le, drop-at}
 use lib.Dec.{eqb, ltb}
@@ -62,13 +62,13 @@ took sheet output h = took-by (contentsOf sheet) output h
 
 -- ---- the tests before the sheet's
 
-record Passed (main : List ℕ) (m : Lent) (s : State) (a : ℕ) : Type 0 where
-  size : mainRefused (length main) ≡ false
-  words : length (m .mem) ≡ 4096
-  bytes : length (m .code) ≡ 16384
-  logged : logRefused (m .log) (s .used) ≡ false
-  ranged : stateInRange s ≡ true
-  starts : startInRange 1 a false ≡ true
+pub record Passed (main : List ℕ) (m : Lent) (s : State) (a : ℕ) : Type 0 where
+  pub size : mainRefused (length main) ≡ false
+  pub words : length (m .mem) ≡ 4096
+  pub bytes : length (m .code) ≡ 16384
+  pub logged : logRefused (m .log) (s .used) ≡ false
+  pub ranged : stateInRange s ≡ true
+  pub starts : startInRange 1 a false ≡ true
 
 passed-of : (main : List ℕ) (m : Lent) (s : State) (a : ℕ) → playRefusal main m s a ≡ 0 → Passed main m s a
 unfolding playRefusal
@@ -86,6 +86,11 @@ passed-of main m s a h =
       ranged = and-left _ _ f;
       starts = and-right (stateInRange s) _ f;
     }
+
+pub passed-by : {main : List ℕ} {m : Lent} {s : State} {a : ℕ} → Passed main m s a → playRefusal main m s a ≡ 0
+unfolding playRefusal if
+passed-by {main} {m} {s} {a} p =
+    rw (p .size, eq-eqb (length (m .mem)) 4096 (p .words), eq-eqb (length (m .code)) 16384 (p .bytes), p .logged, p .ranged, p .starts)
 
 -- ---- demand 3
 
