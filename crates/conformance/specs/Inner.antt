@@ -10,7 +10,6 @@ use Rattle.vif.specs.Step.{Lent}
 use Rattle.chain.specs.declared.State.{State}
 use Rattle.chain.specs.Range.{mainRefused}
 use Rattle.sheet.specs.Build.{Left, left, buildOf}
-use Rattle.conformance.specs.declared.PlayAnswer.{PlayAnswer}
 use Rattle.conformance.specs.declared.PlayAnswer.the-variants.{Refused}
 use Rattle.conformance.specs.declared.PlayResult.{PlayResult}
 
