@@ -1,0 +1,4 @@
+-- Laws of the definitions, by subject.
+pub mod BufferLaws
+pub mod SheetLaws
+pub mod RunLaws

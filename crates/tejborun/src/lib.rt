@@ -1,0 +1,12 @@
+// The functions that C calls (host/tejborun.h). What each one means is said by the definitions of specs/.
+mod blocks;
+mod results;
+mod runs;
+mod sheets;
+
+pub use runs::tejborun_reset;
+pub use runs::tejborun_run;
+pub use runs::tejborun_start;
+pub use sheets::tejborun_build;
+pub use sheets::tejborun_meaning;
+pub use sheets::tejborun_steps;
