@@ -1,40 +1,41 @@
 -- Demand 3 speaks of something: for every accepted sheet the reset state, with memories of the right lengths, meets every premise.
 use mathlib.Core.Path.{_≡_, refl, sym, ap, _∙_}
-use mathlib.Core.Bool.{Bool, true, false, not, _&&_, _||_}
-use mathlib.Core.List.{List, [], _∷_, _++_, append-nil}
-use Prim.Native.Nat.{ℕ, zero, suc, _+_, _*_, _-_, _/_, _%_, _^_, _<_, _≤_}
-use native.Mathlib.Nat.{add-zero, zero-add}
+use mathlib.Core.Bool.{true, false, not}
+use mathlib.Core.List.{List, [], _++_, append-nil}
+use Prim.Native.Nat.{ℕ, _+_, _*_, _-_, _%_, _^_, _≤_}
 use native.Mathlib.Omega.{arith}
-use borrow.Author.Tests.{ltb-true, ltb-false, le-ltb, lt-ltb, eq-eqb, ne-eqb, eqb-true, eqb-false, leb-true, not-false}
-use lib.ListN.{length, take, drop, length-append}
+use borrow.Author.Tests.{ltb-false, le-ltb, lt-ltb, eq-eqb, leb-true}
+use lib.ListN.{length, take, drop, length-append, length-drop}
 use lib.Seq.{take-at}
 use lib.Dec.{eqb, ltb, leb}
 use Rattle.fields.specs.Fields.{if}
-use Rattle.fields.proofs.ChoiceLaws.{if-ind-by, and-left, or-left, or-right}
+use Rattle.fields.proofs.ChoiceLaws.{if-ind-by, and-left, or-right}
 use Rattle.gif.specs.Log.{logRefused}
 use Rattle.vif.specs.Range.{registersInRange, waitingInRange, unitInRange}
-use Rattle.vif.specs.Step.{Lent, lent}
+use Rattle.vif.specs.Step.{Lent}
 use Rattle.chain.specs.declared.StartAnswer.the-variants.{Started}
-use Rattle.chain.specs.Range.{mainRefused, entryRefusal, channelInRange, stateInRange, startInRange, stackInRange, tagsInRange, payloadInRange, tagsInside, payloadInside}
-use Rattle.chain.specs.Start.{resetState, startedFrom, startOf}
-use Rattle.chain.proofs.ReadyLaws.{Fields, Facts, fields-of, ready-of}
+use Rattle.chain.specs.declared.StartResult.{StartResult}
+use Rattle.chain.specs.Range.{mainRefused, channelInRange, stateInRange, startInRange, stackInRange, tagsInRange, payloadInRange}
+use Rattle.chain.specs.Start.{resetState, startResult, startedFrom, startOf}
 use Rattle.sheet.specs.declared.Kind.{Kind}
 use Rattle.sheet.specs.declared.Kind.the-variants.{Data, Code, Gs, Start}
 use Rattle.sheet.specs.declared.BuildAnswer.the-variants.{Built}
 use Rattle.sheet.specs.Records.{Record, countFits, bodyLength}
-use Rattle.sheet.specs.Reader.{Contents, valid, refused, contentsOf}
-use Rattle.sheet.specs.Whole.{Bytes, MeetsRow, AllMeet, none, more, sheetBytes}
+use Rattle.sheet.specs.Reader.{Contents, valid, contentsOf}
+use Rattle.sheet.specs.Whole.{Bytes, AllMeet, none, more, sheetBytes}
 use Rattle.sheet.specs.Sizes.{quadwordsOf, entriesOf, sheetQuadwords, sheetSteps, sheetEntries}
 use Rattle.sheet.specs.Layout.{chainOf}
-use Rattle.sheet.specs.Build.{Left, stored, buildOf}
+use Rattle.sheet.specs.Build.{stored, buildOf}
 use Rattle.sheet.specs.Meaning.{plain}
 use Rattle.sheet.specs.Results.{entriesIn}
 use Rattle.sheet.proofs.WholeLaws.{reader-loses-nothing}
 use Rattle.sheet.proofs.LayoutLaws.{chain-length}
 use Rattle.sheet.proofs.MeaningLaws.{meaning-count}
 use Rattle.conformance.specs.Demand.{recordsOf, meansFrom, Premises}
-use Rattle.conformance.proofs.RecordLaws.{placed-inside}
-use Rattle.conformance.proofs.Theorem.{start-made}
+use Rattle.conformance.specs.Play.{PlayPremises}
+use Rattle.conformance.proofs.StartLaws.{start-accepted, start-ready}
+use Rattle.conformance.proofs.AnswerLaws.{main-passes}
+use Rattle.conformance.proofs.PlayLaws.{passed-by}
 
 -- ---- a sheet's chain and its entries are few
 
@@ -102,50 +103,29 @@ module _ (sheet : List ℕ) (rs : List Record) (b : Bytes sheet) (c : contentsOf
   unfolding recordsOf
   records-are = rw c
 
-  module _ (output main : List ℕ) (a allowance : ℕ) (m : Lent) (rest : List ℕ) (wide : length (chainOf rs) ≤ length output) (placed : drop a main ≡ chainOf rs ++ rest)
-      (aligned : a % 16 ≡ 0) (size : mainRefused (length main) ≡ false) (words : length (m .mem) ≡ 4096) (bytes : length (m .code) ≡ 16384)
-      (log : length (m .log) ≡ 131072) (allowed : sheetSteps rs ≤ allowance) where
+  built-all : (output : List ℕ) → length (chainOf rs) ≤ length output
+      → (buildOf sheet output .answer ≡ Built (length (chainOf rs))) × (buildOf sheet output .output ≡ stored (chainOf rs) output)
+  unfolding buildOf if
+  built-all output wide = rw (c, le-ltb (length output) (length (chainOf rs)) wide) (refl, refl)
+
+  -- a place in main memory that the chain fits in
+  module _ (main : List ℕ) (a allowance : ℕ) (m : Lent) (inside : a + length (chainOf rs) ≤ length main) (aligned : a % 16 ≡ 0)
+      (size : mainRefused (length main) ≡ false) (words : length (m .mem) ≡ 4096) (bytes : length (m .code) ≡ 16384) (log : length (m .log) ≡ 131072)
+      (allowed : sheetSteps rs ≤ allowance) where
     most : length main ≤ 1048576
     unfolding mainRefused
     most = ltb-false 1048576 (length main) (or-right (not (eqb (length main % 16) 0)) (ltb 1048576 (length main)) (or-right (eqb (length main) 0) _ size))
 
-    inside : a < 2 ^ 31
-    inside =
-        let x = few-of .some in
-        let w = chain-whole in
-        let p = placed-inside main a (chainOf rs) rest placed (omega arith) in
-        let l = most in
-        omega arith
-
     starts : startInRange 1 a false ≡ true
     unfolding startInRange channelInRange
-    starts = rw (eq-eqb (a % 16) 0 aligned, lt-ltb a (2 ^ 31) inside)
+    starts = let l = most in rw (eq-eqb (a % 16) 0 aligned, lt-ltb a (2 ^ 31) (omega arith))
 
-    answer-started : startOf resetState 1 a false .answer ≡ Started
-    unfolding startOf if
-    answer-started = rw (reset-ranged, starts)
+    begun : startOf resetState 1 a false ≡ startResult Started (startedFrom resetState 1 a false)
+    begun = start-accepted resetState a reset-ranged starts
 
-    built-all : (buildOf sheet output .answer ≡ Built (length (chainOf rs))) × (buildOf sheet output .output ≡ stored (chainOf rs) output)
-    unfolding buildOf if
-    built-all = rw (c, le-ltb (length output) (length (chainOf rs)) wide) (refl, refl)
-
-    fits-log : logRefused (m .log) 0 ≡ false
-    unfolding logRefused
+    fits-log : logRefused (m .log) (resetState .used) ≡ false
+    unfolding logRefused resetState
     fits-log = rw log
-
-    facts : Facts main (startedFrom resetState 1 a false) m
-    unfolding tagsInside payloadInside stackInRange tagsInRange payloadInRange
-    facts =
-        let f = fields-of resetState reset-ranged in
-        record {
-          size = size;
-          long = words;
-          wide = bytes;
-          logged = rw reset-used fits-log;
-          fields = record { start = starts; stack = refl; tags = refl; payload = refl; unit = f .unit; path2 = f .path2; path3 = f .path3 };
-          tags-in = refl;
-          payload-in = refl;
-        }
 
     -- the log has room for every entry
     room-all : 2 * length (meansFrom sheet resetState m .entries) ≤ length (m .log)
@@ -156,33 +136,56 @@ module _ (sheet : List ℕ) (rs : List Record) (b : Bytes sheet) (c : contentsOf
         let l = sheet-length in
         rw records-are (omega arith)
 
-    -- a chain placed anywhere in main memory
-    pub reset-meets : Premises sheet output main a (length (chainOf rs)) allowance resetState m
+    -- the chain built there
+    pub reset-plays : PlayPremises sheet main a allowance resetState m
     unfolding resetState
-    reset-meets =
+    reset-plays =
+        let d = length-drop a main in
         record {
-          built = built-all .0;
-          rest = rest;
-          placed = placed ∙ ap (λ (l : List ℕ). l ++ rest) (sym (take-at (chainOf rs) (drop (length (chainOf rs)) output) (length (chainOf rs)) refl) ∙ ap (take (length (chainOf rs))) (sym (built-all .1)));
-          aligned = aligned;
-          started = answer-started;
-          entered = rw (start-made resetState a answer-started) (ready-of facts .passed);
+          passed = passed-by (record { size = size; words = words; bytes = bytes; logged = fits-log; ranged = reset-ranged; starts = starts });
+          size = length (chainOf rs);
+          built = built-all (drop a main) (omega arith) .0;
           idle = refl;
           path-idle = refl;
           room = room-all;
           allowed = rw records-are allowed;
         }
 
-  -- and there is such a place: a main memory that is the chain itself
+    -- and the chain built anywhere that lies there
+    pub reset-meets : (output rest : List ℕ) → length (chainOf rs) ≤ length output → drop a main ≡ chainOf rs ++ rest
+        → Premises sheet output main a (length (chainOf rs)) allowance resetState m
+    unfolding resetState
+    reset-meets output rest wide placed =
+        let b = built-all output wide in
+        record {
+          built = b .0;
+          rest = rest;
+          placed = placed ∙ ap (λ (l : List ℕ). l ++ rest) (sym (take-at (chainOf rs) (drop (length (chainOf rs)) output) (length (chainOf rs)) refl) ∙ ap (take (length (chainOf rs))) (sym (b .1)));
+          aligned = aligned;
+          started = ap (λ (r : StartResult). r .answer) begun;
+          entered = rw begun (start-ready resetState a reset-ranged starts main m size words bytes fits-log .passed);
+          idle = refl;
+          path-idle = refl;
+          room = room-all;
+          allowed = rw records-are allowed;
+        }
+
+  -- there is such a place: a main memory as long as the chain
+  module _ (main : List ℕ) (m : Lent) (long : length main ≡ length (chainOf rs)) (words : length (m .mem) ≡ 4096) (bytes : length (m .code) ≡ 16384)
+      (log : length (m .log) ≡ 131072) where
+    taken-whole : mainRefused (length main) ≡ false
+    taken-whole =
+        let q = few-of .quadwords in
+        let s = few-of .some in
+        let l = sheet-length in
+        let w = chain-whole in
+        main-passes (length main) (λ z. omega arith) (omega arith) (omega arith)
+
+    pub play-not-empty : PlayPremises sheet main 0 (sheetSteps rs) resetState m
+    play-not-empty = reset-plays main 0 (sheetSteps rs) m (omega arith) (omega arith) taken-whole words bytes log (omega arith)
+
+  -- or the chain itself
   pub not-empty : (m : Lent) → length (m .mem) ≡ 4096 → length (m .code) ≡ 16384 → length (m .log) ≡ 131072
       → Premises sheet (chainOf rs) (chainOf rs) 0 (length (chainOf rs)) (sheetSteps rs) resetState m
-  unfolding mainRefused
   not-empty m words bytes log =
-      let q = few-of .quadwords in
-      let s = few-of .some in
-      let l = sheet-length in
-      let w = chain-whole in
-      let x : eqb (length (chainOf rs)) 0 ≡ false = ne-eqb (length (chainOf rs)) 0 (λ z. omega arith) in
-      let y : eqb (length (chainOf rs) % 16) 0 ≡ true = eq-eqb (length (chainOf rs) % 16) 0 (omega arith) in
-      let z : ltb 1048576 (length (chainOf rs)) ≡ false = le-ltb 1048576 (length (chainOf rs)) (omega arith) in
-      reset-meets (chainOf rs) (chainOf rs) 0 (sheetSteps rs) m [] (omega arith) (sym (append-nil (chainOf rs))) (omega arith) (rw (x, y, z)) words bytes log (omega arith)
+      reset-meets (chainOf rs) 0 (sheetSteps rs) m (omega arith) (omega arith) (taken-whole (chainOf rs) m refl words bytes log) words bytes log (omega arith) (chainOf rs) [] (omega arith) (sym (append-nil (chainOf rs)))
