@@ -1,0 +1,21 @@
+-- Worked examples, computed.
+use mathlib.Core.Path.{_≡_, refl}
+use mathlib.Core.List.{[], _∷_}
+use Rattle.fields.specs.Fields.{if}
+use Rattle.compare.specs.Tests.{holdsOfSome, howMany, firstOf}
+use Rattle.compare.specs.Elements.{numberDiffers, differs, found, foundIn}
+
+-- three entries, of which the last two differ: one in its value, one in its register
+pub two-differ : foundIn 2 (14 ∷ 1 ∷ 14 ∷ 2 ∷ 14 ∷ 3 ∷ []) (14 ∷ 1 ∷ 14 ∷ 9 ∷ 15 ∷ 3 ∷ []) 3 ≡ found 1 2
+unfolding foundIn firstOf howMany differs numberDiffers holdsOfSome if
+two-differ = refl
+
+-- the same of the first entry alone, which does not differ
+pub none-differs : foundIn 2 (14 ∷ 1 ∷ 14 ∷ 2 ∷ 14 ∷ 3 ∷ []) (14 ∷ 1 ∷ 14 ∷ 9 ∷ 15 ∷ 3 ∷ []) 1 ≡ found 1 0
+unfolding foundIn firstOf howMany differs numberDiffers holdsOfSome if
+none-differs = refl
+
+-- quadwords that differ in their last word
+pub last-word : foundIn 4 (1 ∷ 2 ∷ 3 ∷ 4 ∷ []) (1 ∷ 2 ∷ 3 ∷ 5 ∷ []) 1 ≡ found 0 1
+unfolding foundIn firstOf howMany differs numberDiffers holdsOfSome if
+last-word = refl

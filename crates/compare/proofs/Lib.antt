@@ -1,0 +1,8 @@
+-- Laws of the definitions, by subject; what the comparison says is in Verdict.
+pub mod TestLaws
+pub mod ElementLaws
+pub mod LengthLaws
+pub mod CompareLaws
+pub mod ListLaws
+pub mod Verdict
+pub mod Examples

@@ -1,0 +1,19 @@
+use borrow.Author.Needs.{needs}
+use Rattle.compare.proofs.CompareLaws.{boards-refused, boards-compared}
+use Rattle.compare.proofs.compare.Statement.{statement}
+use Rattle.compare.proofs.compare.Tie as tie
+
+refusal-requires : tie.Need-refusal-requires
+refusal-requires c κs = search needs
+
+returns : tie.Need-returns
+returns c = boards-refused _ _ (c .before .refusal .ensures) (c .if1 .taken)
+
+compare-whole-requires : tie.Need-compare-whole-requires
+compare-whole-requires c κs = search needs
+
+returns-2 : tie.Need-returns-2
+returns-2 c = boards-compared _ _ (c .before .before .refusal .ensures) (c .before .if1 .left) (c .compare-whole .ensures)
+
+pub compare-spec : {M : Type 1} → statement M
+compare-spec = tie.close (tie.spec refusal-requires returns compare-whole-requires returns-2)

@@ -1,0 +1,6 @@
+-- The comparison of two boards' memories and logs, read top to bottom.
+pub mod Tests
+pub mod Elements
+pub mod Boards
+pub mod Equal
+pub mod Inner
