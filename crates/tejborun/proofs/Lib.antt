@@ -2,3 +2,5 @@
 pub mod BufferLaws
 pub mod SheetLaws
 pub mod RunLaws
+pub mod PlayLaws
+pub mod BoardLaws

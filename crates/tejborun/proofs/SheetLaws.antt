@@ -9,8 +9,8 @@ use Rattle.vif.specs.Step.{Lent, lent}
 use Rattle.sheet.specs.declared.StepsAnswer.{StepsAnswer}
 use Rattle.sheet.specs.declared.MeaningAnswer.{MeaningAnswer}
 use Rattle.sheet.specs.Results.{left, stepsOfSheet, meaningOfSheet}
-use Rattle.tejborun.specs.Buffers.{short}
-use Rattle.tejborun.specs.Sheets.{Answered, answered, stepsAnswered, stepsCall, Meant, meant, meaningAnswered, meaningCall}
+use Rattle.tejborun.specs.Buffers.{short, Answered, answered}
+use Rattle.tejborun.specs.Sheets.{stepsAnswered, stepsCall, Meant, meant, meaningAnswered, meaningCall}
 
 module _ (sheet result : List ℕ) where
   pub steps-short : length result < 2 → answered short result ≡ stepsCall sheet result

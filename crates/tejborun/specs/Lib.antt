@@ -2,3 +2,5 @@
 pub mod Buffers
 pub mod Sheets
 pub mod Runs
+pub mod Play
+pub mod Boards

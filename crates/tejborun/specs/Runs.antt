@@ -1,6 +1,6 @@
 -- Calls on a state block: reset, start and run.
 use Prim.Native.Nat.{ℕ}
-use mathlib.Core.Bool.{Bool, _||_, not}
+use mathlib.Core.Bool.{Bool, _||_}
 use mathlib.Core.List.{List, [], _∷_}
 use lib.ListN.{length}
 use lib.Dec.{eqb, ltb}
@@ -11,11 +11,7 @@ use Rattle.chain.specs.declared.StartResult.{StartResult}
 use Rattle.chain.specs.Block.{stateBlock, stateInBlock}
 use Rattle.chain.specs.Start.{resetState, startNumber, startOf}
 use Rattle.chain.specs.Run.{Ran, numberOf, runOf}
-use Rattle.tejborun.specs.Buffers.{short, written, writtenBack}
-
--- a state block is 63 words
-abbrev pub wrongBlock : List ℕ → Bool
-wrongBlock block = not (eqb (length block) 63)
+use Rattle.tejborun.specs.Buffers.{short, wrongBlock, written, writtenBack}
 
 -- ---- reset and start
 

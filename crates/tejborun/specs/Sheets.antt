@@ -10,17 +10,9 @@ use Rattle.sheet.specs.declared.StepsAnswer.the-variants.{Steps, Refused as Ste
 use Rattle.sheet.specs.declared.MeaningAnswer.{MeaningAnswer}
 use Rattle.sheet.specs.declared.MeaningAnswer.the-variants.{Meant as IsMeant, Refused as MeaningRefused}
 use Rattle.sheet.specs.Results.{Left, stepsOfSheet, meaningOfSheet}
-use Rattle.tejborun.specs.Buffers.{short, written}
+use Rattle.tejborun.specs.Buffers.{short, written, Answered, answered}
 
 -- ---- the steps
-
--- what is left: the answer's number and the result
-pub record Answered : Type 0 where
-  pub answer : ℕ
-  pub result : List ℕ
-
-abbrev pub answered : ℕ → List ℕ → Answered
-answered n result = record { answer = n; result = result }
 
 -- the steps, 0 where refused, and the offset of the refused record, 0 where there is none
 abbrev pub stepsAnswered : StepsAnswer → List ℕ → Answered

@@ -5,7 +5,8 @@ use sheet::StepsAnswer;
 ghost use mathlib.Core.Path.{_≡_};
 ghost use Rattle.sheet.specs.Build.{buildOf, exportedNumber};
 ghost use Rattle.vif.specs.Step.{lent};
-ghost use Rattle.tejborun.specs.Sheets.{answered, stepsCall, meant, meaningCall};
+ghost use Rattle.tejborun.specs.Buffers.{answered};
+ghost use Rattle.tejborun.specs.Sheets.{stepsCall, meant, meaningCall};
 
 #[no_mangle]
 pub extern "C" fn tejborun_build(sheet: &[u8], output: &mut [u8]) -> usize
