@@ -4,8 +4,12 @@
  * where the number is 0), aligned for its type, and no buffer that is written may overlap another one of the same call. What const points to is only
  * read. Nothing is kept between calls, nothing is allocated, and no function prints or stops the program.
  *
- * An answer is a number of the scope document, or TEJBORUN_SHORT. A refusal before a run changes no buffer; a run that is refused after some steps
- * leaves what those steps left. docs/FORMATS.md describes the state block.
+ * An answer is a number of the scope document, or TEJBORUN_SHORT. A call that is refused at once changes no memory and no log, a run that is refused after
+ * some steps leaves what those steps left; the result is written in both cases. Numbers of a result beyond those stated are never written.
+ *
+ * docs/FORMATS.md describes the state block. A call on a block that is a state's writes back the state that it leaves, also where it is refused: the words
+ * that mean nothing are then zero. On a block that is no state's a call is refused with 5, or with a number that is tested before 5, and the block stays as
+ * it was.
  */
 #ifndef TEJBORUN_H
 #define TEJBORUN_H
@@ -43,14 +47,14 @@ uint32_t tejborun_steps(const uint8_t *sheet, size_t sheet_bytes, uint64_t *resu
 
 /* The plain meaning of a sheet: its records fed to the memories and to the log after its first `used` entries.
  * Answers 0, or 2, 3, 4 for the lengths, the sheet's refusal, or 31 where the log lacks room; a refusal changes no memory.
- * result[0]: the entries used afterwards; result[1]: the offset of the refused record, 0 where there is none. */
+ * result[0]: the entries used afterwards, as given where refused; result[1]: the offset of the refused record, 0 where there is none. */
 uint32_t tejborun_meaning(const uint8_t *sheet, size_t sheet_bytes, uint32_t *data, size_t data_words, uint8_t *code, size_t code_bytes, uint64_t *log,
                           size_t log_numbers, uint64_t used, uint64_t *result, size_t result_numbers);
 
 /* Writes the reset state to a state block. Answers 0 or TEJBORUN_SHORT. */
 uint32_t tejborun_reset(uint32_t *block, size_t block_words);
 
-/* Starts a chain: channel 1 or 2, the address of the first tag, tag transfer 0 or 1. Answers 0, 5 or TEJBORUN_SHORT. */
+/* Starts a chain: channel 1 or 2, the address of the first tag, tag transfer 0 or 1. Answers 0, 5 or TEJBORUN_SHORT. A tag transfer above 1 changes nothing. */
 uint32_t tejborun_start(uint32_t *block, size_t block_words, uint32_t channel, uint32_t tadr, uint32_t tte);
 
 /* Runs the chain for at most so many steps. Answers 0, 90, 91 or the refusal. result[0]: the steps completed. */

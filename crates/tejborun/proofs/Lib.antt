@@ -1,0 +1,6 @@
+-- Laws of the definitions, by subject.
+pub mod BufferLaws
+pub mod SheetLaws
+pub mod RunLaws
+pub mod PlayLaws
+pub mod BoardLaws

@@ -1,0 +1,71 @@
+-- Calls on a state block.
+use mathlib.Core.Path.{_≡_}
+use mathlib.Core.Bool.{Bool}
+use mathlib.Core.List.{List, [], _∷_}
+use Prim.Native.Nat.{ℕ, _<_, _≤_}
+use borrow.Author.Tests.{eq-eqb, ne-eqb, lt-ltb, le-ltb}
+use lib.ListN.{length}
+use lib.Dec.{eqb}
+use Rattle.fields.specs.Fields.{if}
+use Rattle.vif.specs.Step.{Lent}
+use Rattle.chain.specs.declared.State.{State}
+use Rattle.chain.specs.declared.ReadState.{ReadState}
+use Rattle.chain.specs.declared.StartResult.{StartResult}
+use Rattle.chain.specs.declared.RunResult.{RunResult}
+use Rattle.chain.specs.Block.{stateBlock, stateInBlock}
+use Rattle.chain.specs.Start.{resetState, startNumber, startOf}
+use Rattle.chain.specs.Run.{numberOf, leftBy, runOf}
+use Rattle.tejborun.specs.Buffers.{short, written, writtenBack}
+use Rattle.tejborun.specs.Runs.{blocked, resetCall, startCall, left, runCall}
+
+module _ (block : List ℕ) where
+  pub reset-short : (length block ≡ 63 → ⊥) → blocked short block ≡ resetCall block
+  unfolding resetCall if
+  reset-short h = rw (ne-eqb (length block) 63 h)
+
+  pub reset-done : length block ≡ 63 → {s : State} → s ≡ resetState → {after : List ℕ} → after ≡ stateBlock s → blocked 0 after ≡ resetCall block
+  unfolding resetCall if
+  reset-done h e q = rw (eq-eqb (length block) 63 h, q, e)
+
+module _ (block : List ℕ) (channel tadr tte : ℕ) where
+  pub start-short : (length block ≡ 63 → ⊥) → blocked short block ≡ startCall block channel tadr tte
+  unfolding startCall if
+  start-short h = rw (ne-eqb (length block) 63 h)
+
+  pub start-high : length block ≡ 63 → 1 < tte → blocked 5 block ≡ startCall block channel tadr tte
+  unfolding startCall if
+  start-high h l = rw (eq-eqb (length block) 63 h, lt-ltb 1 tte l)
+
+  pub start-done : length block ≡ 63 → tte ≤ 1 → {read : ReadState} → read ≡ stateInBlock block
+      → {x : StartResult}
+      → x ≡ startOf (read .state) channel tadr (eqb tte 1)
+      → {after : List ℕ}
+      → after ≡ writtenBack (read .known) (x .state) block
+      → {n : ℕ}
+      → n ≡ startNumber (x .answer)
+      → blocked n after ≡ startCall block channel tadr tte
+  unfolding startCall if
+  start-done h l e q b k = rw (eq-eqb (length block) 63 h, le-ltb 1 tte l, ← e, ← q, b, k)
+
+module _ (main : List ℕ) (m : Lent) (block : List ℕ) (allowance : ℕ) (result : List ℕ) where
+  pub run-no-block : (length block ≡ 63 → ⊥) → left short m block result ≡ runCall main m block allowance result
+  unfolding runCall if
+  run-no-block h = rw (ne-eqb (length block) 63 h)
+
+  module _ (h : length block ≡ 63) where
+    pub run-short : length result < 1 → left short m block result ≡ runCall main m block allowance result
+    unfolding runCall if
+    run-short l = rw (eq-eqb (length block) 63 h, lt-ltb (length result) 1 l)
+
+    pub run-done : 1 ≤ length result → {read : ReadState} → read ≡ stateInBlock block
+        → {x : RunResult} {m′ : Lent}
+        → leftBy x m′ ≡ runOf main allowance (read .state) m
+        → {after : List ℕ}
+        → after ≡ writtenBack (read .known) (x .state) block
+        → {numbers : List ℕ}
+        → numbers ≡ written (x .steps ∷ []) result
+        → {n : ℕ}
+        → n ≡ numberOf (x .answer)
+        → left n m′ after numbers ≡ runCall main m block allowance result
+    unfolding runCall if
+    run-done l e q b w k = rw (eq-eqb (length block) 63 h, le-ltb (length result) 1 l, ← e, ← q, b, w, k)

@@ -1,0 +1,34 @@
+use native.Mathlib.Omega.{arith}
+use lib.ListN.{length-set}
+use Rattle.tejborun.proofs.BufferLaws.{numbers-stored}
+use borrow.Author.Needs.{needs}
+use Rattle.tejborun.proofs.results.put_six.Statement.{statement}
+use Rattle.tejborun.proofs.results.put_six.Tie as tie
+
+slice-write-result-2 : tie.Need-slice-write-result-2
+slice-write-result-2 c = simp length-set (omega arith)
+
+slice-write-result-3 : tie.Need-slice-write-result-3
+slice-write-result-3 c = simp length-set (omega arith)
+
+slice-write-result-4 : tie.Need-slice-write-result-4
+slice-write-result-4 c = simp length-set (omega arith)
+
+slice-write-result-5 : tie.Need-slice-write-result-5
+slice-write-result-5 c = simp length-set (omega arith)
+
+returns : tie.Need-returns
+returns c = numbers-stored _ _ (c .pre)
+
+pub put-six-spec : {M : Type 1} → statement M
+put-six-spec =
+    tie.close
+    (tie.spec
+    (λ c. search needs)
+    slice-write-result-2
+    slice-write-result-3
+    slice-write-result-4
+    slice-write-result-5
+    (λ c. search needs)
+    (λ c. search needs)
+    returns)

@@ -1,0 +1,33 @@
+-- The buffers of a call.
+use Prim.Native.Nat.{ℕ}
+use mathlib.Core.Bool.{Bool, not}
+use mathlib.Core.List.{List, _++_}
+use lib.ListN.{length, drop}
+use lib.Dec.{eqb}
+use Rattle.fields.specs.Fields.{if}
+use Rattle.chain.specs.declared.State.{State}
+use Rattle.chain.specs.Block.{stateBlock}
+
+-- the refusal of a block that is not 63 words, or of a result with fewer numbers than the call writes
+abbrev pub short : ℕ
+short = 60
+
+-- a state block is 63 words
+abbrev pub wrongBlock : List ℕ → Bool
+wrongBlock block = not (eqb (length block) 63)
+
+-- numbers at the start of a result, those beyond them as they were
+unfoldable pub written : List ℕ → List ℕ → List ℕ
+written numbers result = numbers ++ drop (length numbers) result
+
+-- a block after a call on the state that was read from it: where it is a state's, the block of the state that the call left, else as it was
+unfoldable pub writtenBack : Bool → State → List ℕ → List ℕ
+writtenBack known state block = if known (stateBlock state) block
+
+-- what is left by a call that writes only a result: the answer's number and the result
+pub record Answered : Type 0 where
+  pub answer : ℕ
+  pub result : List ℕ
+
+abbrev pub answered : ℕ → List ℕ → Answered
+answered n result = record { answer = n; result = result }

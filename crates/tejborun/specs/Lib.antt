@@ -1,0 +1,6 @@
+-- What the functions of the C interface answer and leave, read top to bottom.
+pub mod Buffers
+pub mod Sheets
+pub mod Runs
+pub mod Play
+pub mod Boards

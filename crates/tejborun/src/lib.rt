@@ -1,0 +1,16 @@
+// The functions that C calls (host/tejborun.h). What each one means is said by the definitions of specs/.
+mod blocks;
+mod boards;
+mod play;
+mod results;
+mod runs;
+mod sheets;
+
+pub use boards::tejborun_compare;
+pub use play::tejborun_build_and_run;
+pub use runs::tejborun_reset;
+pub use runs::tejborun_run;
+pub use runs::tejborun_start;
+pub use sheets::tejborun_build;
+pub use sheets::tejborun_meaning;
+pub use sheets::tejborun_steps;

@@ -1,0 +1,33 @@
+// Numbers written to the start of a result.
+ghost use mathlib.Core.Path.{_≡_};
+ghost use mathlib.Core.List.{[], _∷_};
+ghost use Prim.Native.Nat.{_≤_};
+ghost use lib.ListN.{length};
+ghost use Rattle.tejborun.specs.Buffers.{written};
+
+pub(crate) fn put_one(result: &mut [u64], a: u64)
+    requires { ⌜ 1 ≤ length (now result) ⌝ }
+    ensures { λ _. ⌜ now (result .exit) ≡ written (a ∷ []) (now (result .entry)) ⌝ }
+{
+    result[0] = a;
+}
+
+pub(crate) fn put_two(result: &mut [u64], a: u64, b: u64)
+    requires { ⌜ 2 ≤ length (now result) ⌝ }
+    ensures { λ _. ⌜ now (result .exit) ≡ written (a ∷ b ∷ []) (now (result .entry)) ⌝ }
+{
+    result[0] = a;
+    result[1] = b;
+}
+
+pub(crate) fn put_six(result: &mut [u64], a: u64, b: u64, c: u64, d: u64, e: u64, f: u64)
+    requires { ⌜ 6 ≤ length (now result) ⌝ }
+    ensures { λ _. ⌜ now (result .exit) ≡ written (a ∷ b ∷ c ∷ d ∷ e ∷ f ∷ []) (now (result .entry)) ⌝ }
+{
+    result[0] = a;
+    result[1] = b;
+    result[2] = c;
+    result[3] = d;
+    result[4] = e;
+    result[5] = f;
+}

@@ -1,0 +1,92 @@
+// Calls on a state block: reset, start and run.
+use super::blocks::put_back;
+use super::blocks::put_state;
+use super::blocks::read_block;
+use super::results::put_one;
+use chain::Answer;
+use chain::StartAnswer;
+ghost use mathlib.Core.Path.{_≡_};
+ghost use Rattle.vif.specs.Step.{lent};
+ghost use Rattle.chain.specs.Start.{startNumber};
+ghost use Rattle.chain.specs.Run.{numberOf};
+ghost use Rattle.tejborun.specs.Runs.{blocked, resetCall, startCall, left, runCall};
+
+fn start_number(answer: StartAnswer) -> u32
+    ensures { λ r. ⌜ r ≡ startNumber answer ⌝ }
+{
+    match answer {
+        StartAnswer::Started => 0,
+        StartAnswer::Refused(n) => n,
+    }
+}
+
+pub(crate) fn run_number(answer: Answer) -> u32
+    ensures { λ r. ⌜ r ≡ numberOf answer ⌝ }
+{
+    match answer {
+        Answer::Done => 0,
+        Answer::Allowance => 90,
+        Answer::Interrupt => 91,
+        Answer::Refused(n) => n,
+    }
+}
+
+#[no_mangle]
+pub extern "C" fn tejborun_reset(block: &mut [u32]) -> u32
+    ensures { λ r. ⌜ blocked r (now (block .exit)) ≡ resetCall (now (block .entry)) ⌝ }
+{
+    if block.len() != 63 {
+        return 60;
+    }
+    put_state(block, chain::reset());
+    0
+}
+
+#[no_mangle]
+pub extern "C" fn tejborun_start(block: &mut [u32], channel: u32, tadr: u32, tte: u32) -> u32
+    ensures { λ r. ⌜ blocked r (now (block .exit)) ≡ startCall (now (block .entry)) channel tadr tte ⌝ }
+{
+    if block.len() != 63 {
+        return 60;
+    }
+    if 1 < tte {
+        return 5;
+    }
+    let read = read_block(block);
+    let known = read.known;
+    let given = read.state;
+    let r = chain::start(given, channel, tadr, tte == 1);
+    let answer = r.answer;
+    let state = r.state;
+    put_back(block, known, state);
+    start_number(answer)
+}
+
+#[no_mangle]
+pub extern "C" fn tejborun_run(
+    main: &[u8],
+    data: &mut [u32],
+    code: &mut [u8],
+    log: &mut [u64],
+    block: &mut [u32],
+    allowance: u64,
+    result: &mut [u64],
+) -> u32
+    ensures { λ r. ⌜ left r (lent (now («data» .exit)) (now (code .exit)) (now (log .exit))) (now (block .exit)) (now (result .exit)) ≡ runCall (now (main .entry)) (lent (now («data» .entry)) (now (code .entry)) (now (log .entry))) (now (block .entry)) allowance (now (result .entry)) ⌝ }
+{
+    if block.len() != 63 {
+        return 60;
+    }
+    if result.len() < 1 {
+        return 60;
+    }
+    let read = read_block(block);
+    let known = read.known;
+    let given = read.state;
+    let r = chain::run(main, data, code, log, given, allowance);
+    let answer = r.answer;
+    let state = r.state;
+    put_back(block, known, state);
+    put_one(result, r.steps);
+    run_number(answer)
+}
