@@ -1,8 +1,16 @@
 # Nothing but calls of rt, cargo and the programs that they build. What is built here goes to build/ and target/.
 .POSIX:
-.PHONY: test check second bench clean
+.PHONY: test check second bench host command host-test demo clean
 
 SECOND = build/second/release/second
+ARCHIVE = target/staticlib/libtejborun.a
+
+CC = cc
+CFLAGS = -std=c11 -Wall -Wextra -Werror -O2
+SANITIZE = -g -fsanitize=address,undefined -fno-sanitize-recover=all
+HOST = host/main.c host/files.c host/numbers.c host/words.c host/text.c host/fields.c host/shapes.c host/state_shape.c host/board.c host/result.c \
+	host/capture.c host/sheet.c host/run.c host/changes.c host/compare.c host/roles.c host/dump.c host/dump_sheet.c host/dump_words.c host/dump_chain.c \
+	host/dump_result.c host/assemble.c host/assemble_sheet.c host/assemble_memory.c host/assemble_capture.c host/assemble_result.c
 
 # The tests. The last line is rt ci's own, printed again only where everything passed.
 test:
@@ -13,6 +21,7 @@ test:
 	$(SECOND) compare-gif target/bin/gif_replay 1,2,3 20000
 	$(SECOND) compare-vif target/bin/vif_replay 1,2,3 100000
 	$(SECOND) compare-capture target/bin/replay 1,2,3 2000
+	$(MAKE) host-test
 	@tail -n 1 build/ci.log
 
 # The proofs and the programs alone.
@@ -27,6 +36,27 @@ bench: second
 	rt check gif_bench chain_bench
 	$(SECOND) bench-gif target/bin/gif_bench
 	$(SECOND) bench-chain target/bin/chain_bench
+
+# The command for the bench, over the proved library.
+host:
+	rt staticlib tejborun
+	$(MAKE) command
+
+command:
+	mkdir -p build
+	$(CC) $(CFLAGS) -o build/tejborun $(HOST) $(ARCHIVE)
+
+# The tests of the command and of the C interface; the programs of the proved crates and the second program have been built.
+host-test: host
+	$(CC) $(CFLAGS) $(SANITIZE) -o build/tejborun-sanitized $(HOST) $(ARCHIVE)
+	$(CC) $(CFLAGS) $(SANITIZE) -o build/host-test host/test.c $(ARCHIVE)
+	build/host-test
+	sh host/test.sh build/tejborun $(SECOND) target/bin
+	sh host/test.sh build/tejborun-sanitized $(SECOND) target/bin 40
+
+# The bench's main jobs, as a person does them.
+demo: host
+	sh examples/demo.sh build/tejborun build/demo
 
 clean:
 	rm -rf build target

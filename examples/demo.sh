@@ -1,0 +1,56 @@
+#!/bin/sh
+# The main jobs of the bench, as a person does them: sh examples/demo.sh COMMAND FOLDER
+set -eu
+tejborun=$1
+out=$2
+here=$(dirname "$0")
+mkdir -p "$out"
+rm -f "$out"/*
+
+# Shows a command and what it prints.
+show() {
+    echo "\$ $*"
+    "$@"
+    echo
+}
+
+# The same for one that has to find a difference: exit status 1.
+show_different() {
+    echo "\$ $*"
+    status=0
+    "$@" || status=$?
+    echo "exit status $status"
+    echo
+    test "$status" = 1
+}
+
+echo "1. A test sheet: its chain does on the board what the sheet says."
+echo
+show "$tejborun" assemble sheet "$here/all-kinds.sheet.txt" -o "$out/all-kinds.sheet"
+show "$tejborun" build "$out/all-kinds.sheet" -o "$out/all-kinds.chain"
+show "$tejborun" play "$out/all-kinds.sheet" -o "$out/played.result"
+show "$tejborun" meaning "$out/all-kinds.sheet" -o "$out/meaning.result"
+show "$tejborun" compare "$out/meaning.result" "$out/played.result"
+
+echo "2. A capture in difference mode: 256 vectors, each added to the one before."
+echo
+show "$tejborun" assemble capture "$here/difference.capture.txt" -o "$out/difference.capture"
+show "$tejborun" run "$out/difference.capture" -o "$out/difference.result"
+
+echo "3. A board whose vectors each come out one count low in X: the difference 15 where the capture has 16. Its result stands in for a board's."
+echo
+echo "\$ sed 's/^    word 16 /    word 15 /' $here/difference.capture.txt > $out/board.capture.txt"
+sed 's/^    word 16 /    word 15 /' "$here/difference.capture.txt" > "$out/board.capture.txt"
+echo
+"$tejborun" assemble capture "$out/board.capture.txt" -o "$out/board.capture"
+"$tejborun" run "$out/board.capture" -o "$out/board.result" > /dev/null
+show_different "$tejborun" compare "$out/difference.result" "$out/board.result"
+
+echo "4. The count is carried on: the last vector is 256 counts low, 16 pixels at the screen."
+echo
+echo "\$ $tejborun compare $out/difference.result $out/board.result --all | sed -n '/quadword 255 /,/  W /p'"
+"$tejborun" compare "$out/difference.result" "$out/board.result" --all > "$out/all-differences.txt" || test $? = 1
+sed -n '/quadword 255 /,/  W /p' "$out/all-differences.txt"
+echo
+grep -q '^    X .* -256 counts$' "$out/all-differences.txt"
+echo "Shown: a sheet's chain leaves what the sheet means, and a board that loses one count a vector is caught at its first vector."

@@ -1,0 +1,79 @@
+/* The command assemble. */
+#include "assemble.h"
+
+#include <stdlib.h>
+#include <string.h>
+
+#include "command.h"
+#include "shapes.h"
+#include "tejborun.h"
+
+enum { TEXT_READ_BYTES = 256 * 1048576 };
+
+struct kind {
+    const char *name;
+    int (*assemble)(struct text *, struct output *);
+};
+
+static const struct kind kinds[] = {
+    {"sheet", assemble_sheet}, {"chain", assemble_chain}, {"state", assemble_state}, {"capture", assemble_capture}, {"result", assemble_result},
+};
+
+enum { KINDS = sizeof kinds / sizeof kinds[0] };
+
+static const struct kind *find_kind(const char *name)
+{
+    for (size_t i = 0; i < KINDS; i++)
+        if (strcmp(kinds[i].name, name) == 0)
+            return &kinds[i];
+    return NULL;
+}
+
+int command_assemble(const struct words_given *given)
+{
+    const struct kind *kind = find_kind(given->word[0]);
+    if (kind == NULL)
+        return complain(given->word[0], "no kind of file; give sheet, chain, state, capture or result");
+    struct bytes file;
+    const char *name = given->word[1];
+    int status = read_file(name, TEXT_READ_BYTES, &file);
+    if (status != STATUS_DONE)
+        return status;
+    struct text text = {.name = name, .next = (char *)file.at};
+    struct output output = {0};
+    if (memchr(file.at, 0, file.count) != NULL)
+        status = complain(name, "no text: it has a zero byte");
+    else
+        status = kind->assemble(&text, &output);
+    if (status == STATUS_DONE)
+        status = write_file(given->output, output.at, output.count);
+    free(output.at);
+    free(file.at);
+    return status;
+}
+
+int assemble_state(struct text *text, struct output *output)
+{
+    uint32_t block[TEJBORUN_BLOCK_WORDS] = {0};
+    struct given given = {0};
+    struct line line;
+    bool end, any = false;
+    for (;;) {
+        int status = next_line(text, &line, &end);
+        if (status != STATUS_DONE)
+            return status;
+        if (end)
+            break;
+        if (strcmp(line.item[0], "state") != 0)
+            return complain_at(text, line.number, "'%s': a state's lines begin with state", line.item[0]);
+        status = read_fields(text, &line, &state_blocks[0], block, &given);
+        if (status != STATUS_DONE)
+            return status;
+        any = true;
+    }
+    if (!any)
+        return complain(text->name, "has no line that begins with state");
+    for (size_t i = 0; i < TEJBORUN_BLOCK_WORDS; i++)
+        write_word(output, block[i]);
+    return STATUS_DONE;
+}

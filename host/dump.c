@@ -1,0 +1,88 @@
+/* The command dump. */
+#include "dump.h"
+
+#include <inttypes.h>
+#include <stdlib.h>
+#include <string.h>
+
+#include "board.h"
+#include "command.h"
+#include "numbers.h"
+#include "shapes.h"
+#include "tejborun.h"
+#include "words.h"
+
+enum { DUMP_READ_BYTES = 16 * 1048576 };
+
+struct kind {
+    const char *name;
+    int (*dump)(const char *, const struct bytes *);
+};
+
+static const struct kind kinds[] = {
+    {"sheet", dump_sheet}, {"chain", dump_chain}, {"state", dump_state}, {"capture", dump_capture}, {"result", dump_result},
+};
+
+enum { KINDS = sizeof kinds / sizeof kinds[0] };
+
+/* The kind of a file by its mark; null where it has none. */
+static const char *kind_by_mark(const struct bytes *file)
+{
+    if (file->count >= 4 && get_word(file->at) == capture_heads[0].fixed)
+        return "capture";
+    if (file->count >= 4 && get_word(file->at) == result_heads[0].fixed)
+        return "result";
+    if (file->count >= 2 && file->at[0] == 0x9E && file->at[1] == 0x51)
+        return "sheet";
+    return NULL;
+}
+
+static int dump_as(const char *kind, const char *name, const struct bytes *file)
+{
+    for (size_t i = 0; i < KINDS; i++)
+        if (strcmp(kinds[i].name, kind) == 0)
+            return kinds[i].dump(name, file);
+    return complain(kind, "no kind of file; give sheet, chain, state, capture or result");
+}
+
+int command_dump(const struct words_given *given)
+{
+    struct bytes file;
+    const char *name = given->word[given->count - 1];
+    int status = read_file(name, DUMP_READ_BYTES, &file);
+    if (status != STATUS_DONE)
+        return status;
+    const char *kind = given->count == 2 ? given->word[0] : kind_by_mark(&file);
+    if (kind != NULL)
+        status = dump_as(kind, name, &file);
+    else
+        status = complain(name, "begins with no mark; give its kind: tejborun dump sheet, chain or state FILE");
+    free(file.at);
+    return status;
+}
+
+void print_state(const uint32_t *block)
+{
+    print_block(stdout, &state_blocks[0], block);
+    putchar('\n');
+}
+
+void print_register(uint64_t number)
+{
+    const char *name = register_name(number);
+    if (name != NULL)
+        fputs(name, stdout);
+    else
+        printf("0x%02" PRIX64, number);
+}
+
+int dump_state(const char *name, const struct bytes *file)
+{
+    uint32_t block[TEJBORUN_BLOCK_WORDS];
+    if (file->count != sizeof block)
+        return complain(name, "no state: %zu bytes; a state has %zu", file->count, sizeof block);
+    for (size_t i = 0; i < TEJBORUN_BLOCK_WORDS; i++)
+        block[i] = get_word(file->at + 4 * i);
+    print_state(block);
+    return STATUS_DONE;
+}

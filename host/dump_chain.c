@@ -1,0 +1,77 @@
+/* Chains and captures as text. */
+#include <inttypes.h>
+#include <stdio.h>
+#include <stdlib.h>
+
+#include "capture.h"
+#include "dump.h"
+#include "numbers.h"
+#include "roles.h"
+#include "shapes.h"
+#include "words.h"
+
+static void print_chain(const struct bytes *file)
+{
+    size_t count = file->count / 4;
+    uint32_t *words = allocate(count, sizeof *words);
+    uint8_t *roles = allocate(count, 1);
+    for (size_t i = 0; i < count; i++)
+        words[i] = get_word(file->at + 4 * i);
+    struct trail trail = new_trail(words, count, count, roles);
+    follow(&trail);
+    printf("# chain, %zu bytes\n", file->count);
+    print_words(words, roles, count);
+    free(words);
+    free(roles);
+}
+
+int dump_chain(const char *name, const struct bytes *file)
+{
+    if (file->count == 0 || file->count % 16 != 0)
+        return complain(name, "no chain: %zu bytes; a chain is whole quadwords of 16, one at least", file->count);
+    if (file->count > TEJBORUN_MAIN_BYTES)
+        return complain(name, "no chain: %zu bytes; main memory has at most %u", file->count, TEJBORUN_MAIN_BYTES);
+    print_chain(file);
+    return STATUS_DONE;
+}
+
+/* Follows the chains that the calls begin. */
+static void follow_calls(const struct capture *capture, uint8_t *roles)
+{
+    struct trail trail = new_trail(capture->word, capture->given, capture_main_bytes(capture) / 4, roles);
+    trail_from_block(&trail, capture->block);
+    for (size_t i = 0; i < capture->calls; i++) {
+        const uint32_t *words = capture->call[i].words;
+        if (words[0] == 1)
+            trail_start(&trail, words[1], words[2], words[3]);
+        else
+            follow(&trail);
+    }
+}
+
+static void print_capture(const struct capture *capture)
+{
+    uint8_t *roles = allocate(capture->given, 1);
+    follow_calls(capture, roles);
+    print_block(stdout, &capture_heads[0], capture->head);
+    putchar('\n');
+    print_state(capture->block);
+    for (size_t i = 0; i < capture->calls; i++) {
+        print_block(stdout, shape_of(calls, capture->call[i].words[0]), capture->call[i].words);
+        putchar('\n');
+    }
+    printf("# main memory, %zu words given\n", capture->given);
+    print_words(capture->word, roles, capture->given);
+    free(roles);
+}
+
+int dump_capture(const char *name, const struct bytes *file)
+{
+    struct capture capture;
+    int status = parse_capture(name, file->at, file->count, &capture);
+    if (status != STATUS_DONE)
+        return status;
+    print_capture(&capture);
+    free_capture(&capture);
+    return STATUS_DONE;
+}

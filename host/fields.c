@@ -1,0 +1,138 @@
+/* Blocks of words with named fields. */
+#include "fields.h"
+
+#include <inttypes.h>
+#include <string.h>
+
+#include "files.h"
+#include "numbers.h"
+
+uint64_t field_value(const uint32_t *words, const struct field *field)
+{
+    uint64_t value = 0;
+    for (unsigned i = 0; i < field->width; i++) {
+        unsigned bit = field->low + i;
+        value |= (uint64_t)(words[bit / 32] >> bit % 32 & 1) << i;
+    }
+    return value;
+}
+
+static void set_field(uint32_t *words, const struct field *field, uint64_t value)
+{
+    for (unsigned i = 0; i < field->width; i++) {
+        unsigned bit = field->low + i;
+        uint32_t place = UINT32_C(1) << bit % 32;
+        words[bit / 32] = (value >> i & 1) != 0 ? words[bit / 32] | place : words[bit / 32] & ~place;
+    }
+}
+
+const struct shape *shape_named(const struct shape *list, const char *name)
+{
+    for (; list->name != NULL; list++)
+        if (strcmp(list->name, name) == 0)
+            return list;
+    return NULL;
+}
+
+const struct shape *shape_of(const struct shape *list, uint32_t word)
+{
+    for (; list->name != NULL; list++)
+        if ((word & list->mask) == list->fixed)
+            return list;
+    return NULL;
+}
+
+static void print_value(FILE *out, const struct field *field, uint64_t value)
+{
+    const char *name = field->names != NULL && value < field->names->count ? field->names->name[value] : NULL;
+    if (name != NULL)
+        fputs(name, out);
+    else if ((field->flags & FIELD_HEX) != 0 || value > UINT32_MAX)
+        fprintf(out, "0x%" PRIX64, value);
+    else
+        fprintf(out, "%" PRIu64, value);
+}
+
+void print_block(FILE *out, const struct shape *shape, const uint32_t *words)
+{
+    bool line_begun = true;
+    fputs(shape->name, out);
+    for (size_t i = 0; i < shape->fields; i++) {
+        const struct field *field = &shape->field[i];
+        uint64_t value = field_value(words, field);
+        if ((field->flags & FIELD_LINE) != 0)
+            line_begun = false;
+        if (value == 0 && (field->flags & FIELD_SHOWN) == 0)
+            continue;
+        if (!line_begun)
+            fprintf(out, "\n%s", shape->name);
+        line_begun = true;
+        fprintf(out, " %s=", field->name);
+        print_value(out, field, value);
+    }
+}
+
+/* The value of a text for a field; false where it is none. */
+static bool read_value(const char *text, const struct field *field, uint64_t *value)
+{
+    for (size_t i = 0; field->names != NULL && i < field->names->count; i++) {
+        if (field->names->name[i] != NULL && strcmp(field->names->name[i], text) == 0) {
+            *value = i;
+            return true;
+        }
+    }
+    if (text[0] == '-' && field->width == 32) {
+        uint32_t word;
+        bool is_word = read_word(text, &word);
+        *value = is_word ? word : 0;
+        return is_word;
+    }
+    return read_number(text, value) && (field->width == 64 || *value >> field->width == 0);
+}
+
+/* The number of the field that an item "name=value" names; the shape's number of fields where there is none. */
+static size_t find_field(const struct shape *shape, const char *item, size_t length)
+{
+    for (size_t i = 0; i < shape->fields; i++)
+        if (strlen(shape->field[i].name) == length && memcmp(shape->field[i].name, item, length) == 0)
+            return i;
+    return shape->fields;
+}
+
+static int read_field(const struct text *text, const struct line *line, const char *item, const struct shape *shape, uint32_t *words, struct given *given)
+{
+    size_t length = strcspn(item, "=");
+    if (item[length] == 0)
+        return complain_at(text, line->number, "'%s' after '%s': expected field=value", item, shape->name);
+    size_t i = find_field(shape, item, length);
+    if (i == shape->fields)
+        return complain_at(text, line->number, "'%s' has no field '%.*s'", shape->name, (int)length, item);
+    const struct field *field = &shape->field[i];
+    if (given->field[i])
+        return complain_at(text, line->number, "'%s' is given twice", field->name);
+    given->field[i] = true;
+    uint64_t value;
+    if (!read_value(item + length + 1, field, &value))
+        return complain_at(text, line->number, "%s=%s: the field has %u bits; give a number as 12 or 0x1F%s", field->name, item + length + 1, field->width,
+                           field->names != NULL ? ", or one of its names" : "");
+    set_field(words, field, value);
+    return STATUS_DONE;
+}
+
+int read_fields(const struct text *text, const struct line *line, const struct shape *shape, uint32_t *words, struct given *given)
+{
+    for (size_t i = 1; i < line->count; i++) {
+        int status = read_field(text, line, line->item[i], shape, words, given);
+        if (status != STATUS_DONE)
+            return status;
+    }
+    return STATUS_DONE;
+}
+
+int read_block(const struct text *text, const struct line *line, const struct shape *shape, uint32_t *words)
+{
+    struct given given = {0};
+    memset(words, 0, shape->words * sizeof *words);
+    words[0] = shape->fixed;
+    return read_fields(text, line, shape, words, &given);
+}

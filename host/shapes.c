@@ -1,0 +1,143 @@
+/* DMA tags, VIF codes, GIF tags, calls and records by their fields. */
+#include "shapes.h"
+
+#define LIST(fields) sizeof(fields) / sizeof((fields)[0]), fields
+#define END {NULL, 0, 0, 0, 0, NULL}
+
+static const struct field tag_with_addr[] = {
+    {"qwc", 0, 16, FIELD_SHOWN, NULL}, {"addr", 32, 31, FIELD_SHOWN | FIELD_HEX, NULL}, {"spr", 63, 1, 0, NULL},        {"rest", 16, 12, FIELD_HEX, NULL},
+    {"irq", 31, 1, 0, NULL},           {"word2", 64, 32, FIELD_HEX, NULL},              {"word3", 96, 32, FIELD_HEX, NULL},
+};
+
+static const struct field tag_without_addr[] = {
+    {"qwc", 0, 16, FIELD_SHOWN, NULL}, {"addr", 32, 31, FIELD_HEX, NULL},  {"spr", 63, 1, 0, NULL},             {"rest", 16, 12, FIELD_HEX, NULL},
+    {"irq", 31, 1, 0, NULL},           {"word2", 64, 32, FIELD_HEX, NULL}, {"word3", 96, 32, FIELD_HEX, NULL},
+};
+
+#define TAG(name, id, fields) {name, 4, UINT32_C(0x70000000), (uint32_t)(id) << 28, LIST(fields)}
+
+const struct shape dma_tags[] = {
+    TAG("refe", 0, tag_with_addr),
+    TAG("cnt", 1, tag_without_addr),
+    TAG("next", 2, tag_with_addr),
+    TAG("ref", 3, tag_with_addr),
+    TAG("refs", 4, tag_with_addr),
+    TAG("call", 5, tag_with_addr),
+    TAG("ret", 6, tag_without_addr),
+    TAG("end", 7, tag_without_addr),
+    END,
+};
+
+static const char *const unpack_format_names[16] = {
+    "S-32", "S-16", "S-8", NULL, "V2-32", "V2-16", "V2-8", NULL, "V3-32", "V3-16", "V3-8", NULL, "V4-32", "V4-16", "V4-8", "V4-5",
+};
+static const struct names unpack_formats = {16, unpack_format_names};
+
+/* What every code has beside its IMM. */
+#define NUM_IRQ {"num", 16, 8, 0, NULL}, {"irq", 31, 1, 0, NULL}
+
+static const struct field imm_idle[] = {{"imm", 0, 16, 0, NULL}, NUM_IRQ};
+static const struct field imm_shown[] = {{"imm", 0, 16, FIELD_SHOWN, NULL}, NUM_IRQ};
+static const struct field stcycl[] = {{"cl", 0, 8, FIELD_SHOWN, NULL}, {"wl", 8, 8, FIELD_SHOWN, NULL}, NUM_IRQ};
+static const struct field offset[] = {{"ofst", 0, 10, FIELD_SHOWN, NULL}, {"rest", 10, 6, FIELD_HEX, NULL}, NUM_IRQ};
+static const struct field base[] = {{"base", 0, 10, FIELD_SHOWN, NULL}, {"rest", 10, 6, FIELD_HEX, NULL}, NUM_IRQ};
+static const struct field itop[] = {{"itop", 0, 10, FIELD_SHOWN, NULL}, {"rest", 10, 6, FIELD_HEX, NULL}, NUM_IRQ};
+static const struct field stmod[] = {{"mode", 0, 2, FIELD_SHOWN, NULL}, {"rest", 2, 14, FIELD_HEX, NULL}, NUM_IRQ};
+static const struct field mskpath3[] = {{"mask", 15, 1, FIELD_SHOWN, NULL}, {"rest", 0, 15, FIELD_HEX, NULL}, NUM_IRQ};
+static const struct field mark[] = {{"mark", 0, 16, FIELD_SHOWN, NULL}, NUM_IRQ};
+static const struct field mpg[] = {{"num", 16, 8, FIELD_SHOWN, NULL}, {"addr", 0, 16, FIELD_SHOWN, NULL}, {"irq", 31, 1, 0, NULL}};
+static const struct field unpack[] = {
+    {"format", 24, 4, FIELD_SHOWN, &unpack_formats},
+    {"num", 16, 8, FIELD_SHOWN, NULL},
+    {"addr", 0, 10, FIELD_SHOWN, NULL},
+    {"tops", 15, 1, 0, NULL},
+    {"usn", 14, 1, 0, NULL},
+    {"m", 28, 1, 0, NULL},
+    {"rest", 10, 4, FIELD_HEX, NULL},
+    {"irq", 31, 1, 0, NULL},
+};
+
+#define CODE(name, cmd, fields) {name, 1, UINT32_C(0x7F000000), (uint32_t)(cmd) << 24, LIST(fields)}
+
+const struct shape vif_codes[] = {
+    CODE("NOP", 0x00, imm_idle),
+    CODE("STCYCL", 0x01, stcycl),
+    CODE("OFFSET", 0x02, offset),
+    CODE("BASE", 0x03, base),
+    CODE("ITOP", 0x04, itop),
+    CODE("STMOD", 0x05, stmod),
+    CODE("MSKPATH3", 0x06, mskpath3),
+    CODE("MARK", 0x07, mark),
+    CODE("FLUSHE", 0x10, imm_idle),
+    CODE("FLUSH", 0x11, imm_idle),
+    CODE("FLUSHA", 0x13, imm_idle),
+    CODE("MSCAL", 0x14, imm_shown),
+    CODE("MSCALF", 0x15, imm_shown),
+    CODE("MSCNT", 0x17, imm_idle),
+    CODE("STMASK", 0x20, imm_idle),
+    CODE("STROW", 0x30, imm_idle),
+    CODE("STCOL", 0x31, imm_idle),
+    CODE("MPG", 0x4A, mpg),
+    CODE("DIRECT", 0x50, imm_shown),
+    CODE("DIRECTHL", 0x51, imm_shown),
+    {"UNPACK", 1, UINT32_C(0x60000000), UINT32_C(0x60000000), LIST(unpack)},
+    END,
+};
+
+const struct shape *code_shape(uint32_t word)
+{
+    const struct shape *shape = shape_of(vif_codes, word);
+    if (shape != NULL && shape->field == unpack && unpack_format_names[word >> 24 & 15] == NULL)
+        return NULL;
+    return shape;
+}
+
+static const char *const gif_format_names[3] = {"PACKED", "REGLIST", "IMAGE"};
+static const struct names gif_formats = {3, gif_format_names};
+
+static const struct field gif_tag[] = {
+    {"nloop", 0, 15, FIELD_SHOWN, NULL},  {"eop", 15, 1, FIELD_SHOWN, NULL},         {"pre", 46, 1, 0, NULL},
+    {"prim", 47, 11, FIELD_HEX, NULL},    {"flg", 58, 2, FIELD_SHOWN, &gif_formats}, {"nreg", 60, 4, FIELD_SHOWN, NULL},
+    {"regs", 64, 64, FIELD_SHOWN | FIELD_HEX, NULL}, {"rest", 16, 30, FIELD_HEX, NULL},
+};
+
+const struct shape gif_tags[] = {{"giftag", 4, 0, 0, LIST(gif_tag)}, END};
+
+static const struct field record_addr[] = {{"addr", 32, 16, FIELD_SHOWN, NULL}};
+static const struct field record_idle[] = {{"addr", 32, 16, 0, NULL}};
+
+#define RECORD(name, kind, fields) {name, 2, UINT32_C(0x00FFFFFF), UINT32_C(0x519E) | (uint32_t)(kind) << 16, LIST(fields)}
+
+const struct shape record_heads[] = {
+    RECORD("data", 1, record_addr), RECORD("code", 2, record_addr), RECORD("gs", 3, record_idle), RECORD("start", 4, record_addr), END,
+};
+
+static const struct field start_call[] = {
+    {"channel", 32, 32, FIELD_SHOWN, NULL},
+    {"tadr", 64, 32, FIELD_SHOWN | FIELD_HEX, NULL},
+    {"tte", 96, 32, FIELD_SHOWN, NULL},
+};
+static const struct field run_call[] = {{"allowance", 32, 64, FIELD_SHOWN, NULL}, {"rest", 96, 32, FIELD_HEX, NULL}};
+
+const struct shape calls[] = {
+    {"start", 4, UINT32_MAX, 1, LIST(start_call)},
+    {"run", 4, UINT32_MAX, 2, LIST(run_call)},
+    END,
+};
+
+/* Words 2 and 9, the lengths of what follows, are counted. */
+static const struct field capture_head[] = {
+    {"main-bytes", 32, 32, FIELD_SHOWN, NULL},   {"data-words", 96, 32, FIELD_SHOWN, NULL},        {"code-bytes", 128, 32, FIELD_SHOWN, NULL},
+    {"log-numbers", 160, 32, FIELD_SHOWN, NULL}, {"fill", 192, 64, FIELD_SHOWN | FIELD_HEX, NULL}, {"whole", 256, 32, FIELD_SHOWN, NULL},
+};
+
+const struct shape capture_heads[] = {{"capture", 10, UINT32_MAX, UINT32_C(0x50414354), LIST(capture_head)}, END};
+
+/* The state block, words 4 to 66, has lines of its own. */
+static const struct field result_head[] = {
+    {"answer", 32, 32, FIELD_SHOWN, NULL},
+    {"steps", 64, 64, FIELD_SHOWN, NULL},
+    {"log-numbers", 67 * 32, 32, FIELD_SHOWN, NULL},
+};
+
+const struct shape result_heads[] = {{"result", 68, UINT32_MAX, UINT32_C(0x53455254), LIST(result_head)}, END};

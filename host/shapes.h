@@ -1,0 +1,19 @@
+/* The blocks of the scope document and of docs/FORMATS.md by their fields. Lists end with a nameless shape. */
+#ifndef SHAPES_H
+#define SHAPES_H
+
+#include "fields.h"
+
+extern const struct shape dma_tags[];     /* by ID: every tag fits one */
+extern const struct shape vif_codes[];    /* a word that fits none is no code */
+extern const struct shape gif_tags[];     /* one, which every quadword fits */
+extern const struct shape record_heads[]; /* a sheet's, two words of which the last two bytes are not the header's */
+extern const struct shape calls[];        /* a capture's */
+extern const struct shape capture_heads[];
+extern const struct shape result_heads[];
+extern const struct shape state_blocks[];
+
+/* Whether the word is a code: UNPACK of a format that exists, or another that is listed. */
+const struct shape *code_shape(uint32_t word);
+
+#endif

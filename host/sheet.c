@@ -1,0 +1,114 @@
+/* The commands build, steps and meaning. */
+#include "sheet.h"
+
+#include <inttypes.h>
+#include <stdio.h>
+#include <stdlib.h>
+
+#include "board.h"
+#include "command.h"
+#include "tejborun.h"
+#include "words.h"
+
+/* More than any sheet, so that the library sees one that is too long. */
+enum { SHEET_READ_BYTES = 16 * 1048576 };
+
+int read_sheet(const char *name, struct bytes *sheet)
+{
+    return read_file(name, SHEET_READ_BYTES, sheet);
+}
+
+int sheet_refused(const char *name, uint32_t refusal, uint64_t offset)
+{
+    complain(name, "refused %" PRIu32 " at offset %" PRIu64 ": %s", refusal, offset, meaning_of(refusal));
+    return STATUS_REFUSED;
+}
+
+/* The sheet's steps; the status and the message of its refusal. */
+static int count_steps(const char *name, const struct bytes *sheet, uint64_t *steps)
+{
+    uint64_t numbers[2] = {0};
+    uint32_t answer = tejborun_steps(sheet->at, sheet->count, numbers, 2);
+    *steps = numbers[0];
+    return answer == 0 ? STATUS_DONE : sheet_refused(name, answer, numbers[1]);
+}
+
+static int build_chain(const struct words_given *given, const struct bytes *sheet)
+{
+    const char *name = given->word[0];
+    uint64_t steps;
+    int status = count_steps(name, sheet, &steps);
+    if (status != STATUS_DONE)
+        return status;
+    uint8_t *chain = allocate(TEJBORUN_CHAIN_BYTES, 1);
+    size_t length = tejborun_build(sheet->at, sheet->count, chain, TEJBORUN_CHAIN_BYTES);
+    if (length % 16 != 0)
+        status = sheet_refused(name, (uint32_t)length, 0);
+    else
+        status = write_file(given->output, chain, length);
+    free(chain);
+    if (status == STATUS_DONE)
+        printf("%s: a chain of %zu bytes, %zu %s, %" PRIu64 " %s\n", given->output, length, length / 16, plural(length / 16, "quadword", "quadwords"),
+               steps, plural(steps, "step", "steps"));
+    return status;
+}
+
+int command_build(const struct words_given *given)
+{
+    struct bytes sheet;
+    int status = read_sheet(given->word[0], &sheet);
+    if (status != STATUS_DONE)
+        return status;
+    status = build_chain(given, &sheet);
+    free(sheet.at);
+    return status;
+}
+
+int command_steps(const struct words_given *given)
+{
+    struct bytes sheet;
+    uint64_t steps;
+    int status = read_sheet(given->word[0], &sheet);
+    if (status != STATUS_DONE)
+        return status;
+    status = count_steps(given->word[0], &sheet, &steps);
+    free(sheet.at);
+    if (status == STATUS_DONE)
+        printf("%" PRIu64 " %s\n", steps, plural(steps, "step", "steps"));
+    return status;
+}
+
+/* Feeds the sheet to the result's board. */
+static int feed_sheet(const char *name, const struct bytes *sheet, struct result *result)
+{
+    struct board *board = &result->board;
+    uint64_t numbers[2] = {0};
+    int status = count_steps(name, sheet, &result->steps);
+    if (status != STATUS_DONE)
+        return status;
+    tejborun_reset(board->block, TEJBORUN_BLOCK_WORDS);
+    uint32_t answer = tejborun_meaning(sheet->at, sheet->count, board->data, board->data_words, board->code, board->code_bytes, board->log,
+                                       board->log_numbers, board_used(board), numbers, 2);
+    if (answer != 0)
+        return sheet_refused(name, answer, numbers[1]);
+    set_board_used(board, numbers[0]);
+    return STATUS_DONE;
+}
+
+int command_meaning(const struct words_given *given)
+{
+    struct bytes sheet;
+    int status = read_sheet(given->word[0], &sheet);
+    if (status != STATUS_DONE)
+        return status;
+    struct result result = {.board = new_board(TEJBORUN_DATA_WORDS, TEJBORUN_CODE_BYTES, TEJBORUN_LOG_NUMBERS)};
+    status = feed_sheet(given->word[0], &sheet, &result);
+    if (status == STATUS_DONE)
+        status = write_result(given->output, &result);
+    if (status == STATUS_DONE)
+        printf("%s: the sheet's meaning, %" PRIu64 " %s, %" PRIu64 " log %s\n", given->output, result.steps, plural(result.steps, "step", "steps"),
+               board_used(&result.board), plural(board_used(&result.board), "entry", "entries"));
+    free_board(&result.board);
+    free(sheet.at);
+    return status;
+}

@@ -1,0 +1,522 @@
+#!/bin/sh
+# Tests of the command: sh host/test.sh COMMAND SECOND PROGRAMS [EVERY]
+# COMMAND is the command, SECOND the second program, PROGRAMS the folder of the proved programs (replay is used). Of the generated captures every EVERYth
+# one is tried, the 10th where it is not given, and of the sheets five times as many. Prints what it did and stops at the first thing that is wrong.
+# shellcheck disable=SC2046
+set -u
+command=$1
+second=$2
+replay=$3/replay
+every=${4:-10}
+work=$(mktemp -d)
+trap 'rm -rf "$work"' EXIT
+case $command in /*) ;; *) command=$PWD/$command ;; esac
+case $second in /*) ;; *) second=$PWD/$second ;; esac
+case $replay in /*) ;; *) replay=$PWD/$replay ;; esac
+here=$(cd "$(dirname "$0")" && pwd)
+for program in "$command" "$second" "$replay"; do
+    test -x "$program" || { echo "$program is not there" >&2; exit 1; }
+done
+cd "$work" || exit 1
+
+fail() {
+    echo "host/test.sh: $*" >&2
+    exit 1
+}
+
+# expect STATUS WORDS..: runs the command with the words; its output goes to out and err.
+expect() {
+    wanted=$1
+    shift
+    "$command" "$@" > out 2> err
+    got=$?
+    test "$got" = "$wanted" || { cat out err >&2; fail "exit status $got, not $wanted: tejborun $*"; }
+    if test "$wanted" = 2 && ! test -s err; then fail "no message: tejborun $*"; fi
+}
+
+# says FILE TEXT: the file has the text.
+says() {
+    grep -qF -- "$2" "$1" || { cat "$1" >&2; fail "not said: $2"; }
+}
+
+absent() {
+    for file in "$@"; do
+        if test -e "$file" || test -e "$file.partial"; then fail "$file was left behind"; fi
+    done
+}
+
+same() {
+    cmp -s "$1" "$2" || fail "$1 and $2 differ${3:+: $3}"
+}
+
+# slice FILE OFFSET COUNT: so many bytes from an offset on.
+slice() {
+    tail -c +$(($2 + 1)) "$1" | head -c "$3"
+}
+
+# words FILE OFFSET COUNT: so many words from an offset on, in decimal.
+words() {
+    od -An -v -tu4 -j "$2" -N $(($3 * 4)) "$1"
+}
+
+# round KIND FILE: text and back gives the same bytes.
+round() {
+    "$command" dump "$1" "$2" > round.txt 2> err || fail "dump $1 $2: $(cat err)"
+    "$command" assemble "$1" round.txt -o round.out 2> err || fail "assemble $1 of $2: $(cat err)"
+    same "$2" round.out "$1 to text and back"
+}
+
+# as_sheet NAME BYTES: a sheet file of bytes in printf's octal.
+as_sheet() {
+    # shellcheck disable=SC2059
+    printf "$2" > "$1"
+}
+
+usage() {
+    expect 0 --help
+    says out 'tejborun build SHEET -o CHAIN'
+    for name in build steps meaning run play compare dump assemble; do
+        expect 0 "$name" --help
+        says out "usage: tejborun $name"
+        expect 2 "$name"
+        says err "usage: tejborun $name"
+        expect 2 "$name" --nonsense
+        says err 'unknown option --nonsense'
+        expect 2 "$name" a b c d
+    done
+    expect 2
+    expect 2 nonsense
+    says err 'no such command'
+    expect 2 build a.sheet
+    says err 'say with -o where to write'
+    expect 2 build a.sheet -o
+    says err 'nothing after -o'
+    expect 2 build a.sheet -o b -o c
+    says err 'given twice'
+    expect 2 steps a.sheet -o b
+    expect 2 run a -o b --allowance 12a
+    says err 'no allowance'
+    expect 2 run a -o b --allowance 0x10000000000000000
+    expect 2 run a -o b --allowance -1
+    expect 2 steps missing.sheet
+    says err 'missing.sheet: cannot be opened'
+    expect 2 steps .
+    expect 2 dump nonsense err
+    says err 'give sheet, chain, state, capture or result'
+    expect 2 assemble nonsense err -o x
+    absent b c x
+    echo "usage: help, options and missing words"
+}
+
+bench_points() {
+    : > empty.sheet
+    expect 0 build empty.sheet -o empty.chain
+    as_sheet wanted '\0\0\0\160\0\0\0\0\0\0\0\0\0\0\0\0'
+    same empty.chain wanted
+    expect 0 steps empty.sheet
+    says out '1 step'
+    as_sheet start.sheet '\236\121\4\0\5\0'
+    expect 0 build start.sheet -o start.chain
+    as_sheet wanted '\1\0\0\20\0\0\0\0\0\0\0\0\0\0\0\0\0\0\0\0\0\0\0\0\0\0\0\0\5\0\0\24\0\0\0\160\0\0\0\0\0\0\0\0\0\0\0\0'
+    same start.chain wanted
+    expect 0 steps start.sheet
+    says out '6 steps'
+    expect 0 play start.sheet -o start.result
+    says out 'answer 0, done; 6 steps'
+    says out 'log: 1 entry added, first 0, last 0'
+    expect 0 dump start.result
+    says out 'entry 0 MSCAL 0x0000000000000005'
+    printf 'data addr=1023\nvector 1 2 3 4\nvector 5 6 7 8\n' > two.txt
+    expect 0 assemble sheet two.txt -o two.sheet
+    expect 0 build two.sheet -o two.chain
+    says out '80 bytes, 5 quadwords, 14 steps'
+    expect 0 play two.sheet -o two.result
+    says out '2 quadwords changed, first 0, last 1023'
+    echo "bench points: the empty sheet, a start, data that wraps"
+}
+
+# refused_sheet NUMBER OFFSET FILE: every command refuses the sheet and leaves nothing behind.
+refused_sheet() {
+    for name in build meaning play; do
+        expect 1 "$name" "$3" -o refused.out
+        says err "$3: refused $1 at offset $2: "
+        absent refused.out
+    done
+    expect 1 steps "$3"
+    says err "refused $1 at offset $2: "
+    expect 1 dump sheet "$3"
+    says err "refused $1 at offset $2: "
+    if test "$1" != 46; then
+        mv out refused.txt
+        expect 0 assemble sheet refused.txt -o refused.out
+        same "$3" refused.out "refused $1"
+        rm refused.out
+    fi
+}
+
+refused_sheets() {
+    as_sheet s '\236\121\4\0\5' && refused_sheet 44 0 s
+    as_sheet s '\236\121\4\0\5\0\236\122\4\0\5\0' && refused_sheet 40 6 s
+    as_sheet s '\236\121\0\0\5\0' && refused_sheet 41 0 s
+    as_sheet s '\236\121\4\0\5\0\236\121\5\0\5\0' && refused_sheet 41 6 s
+    as_sheet s '\236\121\4\1\5\0' && refused_sheet 42 0 s
+    as_sheet s '\236\121\1\0\5\0' && refused_sheet 42 0 s
+    as_sheet s '\236\121\4\0\0\10' && refused_sheet 43 0 s
+    as_sheet s '\236\121\2\1\5\0\1\2\3\4\5\6\7' && refused_sheet 44 0 s
+    as_sheet s '\236\121\3\1\0\0\1\2\3\4\5\6\7\0\5\0\0\0\0\0\0\1' && refused_sheet 45 0 s
+    head -c 131073 /dev/zero > s && refused_sheet 46 0 s
+    head -c 131072 /dev/zero > s && refused_sheet 40 0 s
+    as_sheet kept 'kept'
+    cp kept before
+    expect 1 build s -o kept
+    same kept before 'an output that stood before'
+    head -c 20000000 /dev/zero > s
+    expect 2 steps s
+    says err 'larger than'
+    echo "refused sheets: 40 to 46 by every command, shown as text and put together again, no output left"
+}
+
+# one_sheet FILE RESULTS: the chain, the steps and the refusal are the second program's; the chain leaves what the sheet means.
+one_sheet() {
+    set -- "$1" "$2" $(words "$2" 0 2)
+    case $3 in
+    4[0-6])
+        refused_sheet "$3" "$4" "$1"
+        return
+        ;;
+    esac
+    expect 0 build "$1" -o chain
+    if test "$3" = 0; then
+        slice "$2" 12 "$4" > wanted
+        same chain wanted "the chain of $1"
+    fi
+    round sheet "$1"
+    round chain chain
+    expect 0 play "$1" -o played
+    expect 0 meaning "$1" -o meant
+    expect 0 compare meant played
+    says out 'equal'
+}
+
+# The sheets of the second program's cases, cut out of their file.
+generated_sheets() {
+    "$second" generate-sheet 1 200 > sheets || fail 'generate-sheet'
+    size=$(wc -c < sheets)
+    step=$(((every + 4) / 5))
+    at=0 number=0 tried=0
+    while test $at -lt "$size"; do
+        length=$(words sheets $((at + 4)) 1)
+        whole=$((300 + (length + 3) / 4 * 4))
+        if test $((number % step)) = 0; then
+            slice sheets $at $whole > case
+            slice case 300 $((length)) > "sheet"
+            "$second" sheet < case > results || fail "second sheet, case $number"
+            one_sheet sheet results
+            tried=$((tried + 1))
+        fi
+        at=$((at + whole)) number=$((number + 1))
+    done
+    echo "generated sheets: $tried of $number built as the second program builds them, to text and back, played as they are meant"
+}
+
+# replayed: reads the results of the case for its calls; sets where the last state block, the last run and its memories are, and whether a call was
+# refused and whether none did anything.
+replayed() {
+    data=$1 code=$2 log=$3 calls=$4
+    at=0 block=none run=none memories=none any_refused=0 idle=1
+    for kind in $(words case 292 $((4 * calls)) | awk '{ print $1 }'); do
+        answer=$(($(words results $at 1)))
+        case $answer in
+        0 | 90 | 91) idle=0 ;;
+        *) any_refused=1 ;;
+        esac
+        if test "$kind" = 2 && test $(($(words results $((at + 4)) 1))) != 0; then idle=0; fi
+        if test "$kind" = 1; then
+            block=$((at + 4))
+            at=$((at + 256))
+        else
+            run=$at block=$((at + 12)) memories=$((at + 264))
+            at=$((at + 264 + 4 * data + (code + 3) / 4 * 4 + 8 * log))
+        fi
+    done
+    test "$at" = $(($(wc -c < results))) || fail 'results of another length'
+}
+
+# wanted_result FILE OFFSET: what the run of the case has to leave, from the results, with the state block of a file.
+wanted_result() {
+    printf 'TRES'
+    if test $run = none; then printf '\0\0\0\0\0\0\0\0\0\0\0\0'; else slice results "$run" 12; fi
+    slice "$1" "$2" 252
+    slice case 20 4
+    if test $memories != none; then slice results "$memories" $((32768 + 8 * log)); fi
+}
+
+# one_capture: the case to text and back, and run; its result is replay's.
+one_capture() {
+    set -- $(words case 4 9)
+    round capture case
+    slice case 40 252 > state
+    round state state
+    if test "$2" -gt 0 && test $(($2 % 4)) = 0 && test "$2" -le 262144; then
+        slice case $((292 + 16 * $9)) $((4 * $2)) > main
+        round chain main
+    fi
+    { slice case 0 32; printf '\1\0\0\0'; tail -c +37 case; } > whole
+    "$replay" < whole > results || fail 'replay'
+    replayed "$3" "$4" "$5" "$9"
+    rm -f result
+    if test "$3" != 4096 || test "$4" != 16384 || test $(($5 % 2)) != 0 || test "$5" -gt 131072; then
+        expect $((2 - any_refused)) run case -o result
+        says err 'not written'
+        absent result
+        return
+    fi
+    expect $any_refused run case -o result
+    if test $block = none; then wanted_result case 40 > wanted; else wanted_result results "$block" > wanted; fi
+    if test $memories = none; then head -c 272 result > part; else cp result part; fi
+    # A refusal changes no buffer: then the words that mean nothing may stand as they were given, where replay writes zero.
+    if test $idle = 1 && ! cmp -s part wanted; then wanted_result case 40 > wanted; fi
+    same part wanted "capture $number"
+    if test $run != none; then says out "answer $(($(words results $run 1))), "; fi
+    round result result
+}
+
+generated_captures() {
+    "$second" generate-capture 2 100 > captures || fail 'generate-capture'
+    size=$(wc -c < captures)
+    at_case=0 number=0 tried=0
+    while test $at_case -lt "$size"; do
+        set -- $(words captures $((at_case + 8)) 8)
+        length=$((292 + 16 * $8 + 4 * $1))
+        if test $((number % every)) = 0; then
+            slice captures $at_case $length > case
+            one_capture
+            tried=$((tried + 1))
+        fi
+        at_case=$((at_case + length)) number=$((number + 1))
+    done
+    echo "generated captures: $tried of $number to text and back (capture, state, main memory, result), run as replay runs them"
+}
+
+examples() {
+    for name in all-kinds.sheet difference.capture; do
+        kind=${name#*.}
+        expect 0 assemble "$kind" "$here/../examples/$name.txt" -o "$name"
+        expect 0 dump "$name"
+        round "$kind" "$name"
+    done
+    expect 0 run difference.capture -o difference.result
+    says out 'answer 0, done; 1042 steps'
+    says out '256 quadwords changed, first 0, last 255'
+    expect 0 run difference.capture -o some.result --allowance 100
+    says out 'answer 90, the step allowance is used; 100 steps'
+    expect 0 run difference.capture -o none.result --allowance 0x0
+    says out 'answer 90, the step allowance is used; 0 steps'
+    says out 'data memory: nothing changed'
+    expect 0 run difference.capture -o enough.result --allowance 0x412
+    says out 'answer 0, done; 1042 steps'
+    same difference.result enough.result
+    sed 's/^  NOP/  NOP irq=1/' "$here/../examples/difference.capture.txt" > mark.txt
+    expect 0 assemble capture mark.txt -o mark.capture
+    expect 0 run mark.capture -o mark.result
+    says out 'answer 91, stopped at an interrupt mark; 4 steps'
+    sed 's/mode=2/mode=3/' "$here/../examples/difference.capture.txt" > refused.txt
+    expect 0 assemble capture refused.txt -o refused.capture
+    expect 1 run refused.capture -o refused.result
+    says out 'answer 23, refused: STMOD with mode 3; 2 steps'
+    expect 0 dump refused.result
+    says out 'result answer=23 steps=2'
+    sh "$here/../examples/demo.sh" "$command" demo > out 2> err || fail "the demonstration: $(cat err)"
+    says out '-1 count'
+    echo "examples: assembled, run with allowances, an interrupt mark and a refusal; the demonstration"
+}
+
+# edited TEXT FROM TO: the result of the text with an edit, as board.
+edited() {
+    sed "$2" "$1" > edited.txt
+    if cmp -s "$1" edited.txt; then fail "no edit: $2"; fi
+    expect 0 assemble result edited.txt -o board
+}
+
+comparisons() {
+    expect 0 play all-kinds.sheet -o a
+    expect 0 compare a a
+    says out 'equal'
+    "$command" dump a > a.txt
+    edited a.txt 's/^quadword 1023 0x00000001/quadword 1023 0x00000000/'
+    expect 1 compare a board
+    says out 'data memory: 1 quadword differs, the first is 1023'
+    says out 'X  0x00000001           1   0x00000000           0   -1 count'
+    says out 'Y  0xFFFFFFFE          -2   0xFFFFFFFE          -2   same'
+    says out 'different'
+    edited a.txt 's/ 0x80000000$/ 0x7FFFFFFE/'
+    expect 1 compare a board
+    says out 'W  0x80000000 -2147483648   0x7FFFFFFE  2147483646   -2 counts'
+    edited a.txt 's/^instruction 1 0x8000033C400002FF/instruction 2000 0xFF/'
+    expect 1 compare a board
+    says out 'code memory: 2 instructions differ, the first is 1'
+    says out 'instruction 1 (0x1): result 0x8000033C400002FF, board 0x0000000000000000'
+    expect 1 compare a board --all
+    says out 'instruction 2000 (0x7D0): result 0x0000000000000000, board 0x00000000000000FF'
+    edited a.txt 's/^entry 3 TEST_1 .*/entry 3 0xFE 0x10/'
+    expect 1 compare a board
+    says out 'log: 1 entry differs, the first is 3'
+    says out 'result register 0x47 TEST_1, value 0x000000000005000D'
+    says out 'board  register 0xFE (no name), value 0x0000000000000010 (16)'
+    edited a.txt 's/used=7/used=5/'
+    expect 1 compare a board
+    says out 'log: the same, 5 entries compared'
+    says out 'the result has 7 entries, the board 5; only the result has 5 to 6'
+    says out 'result register 0x100 MSCAL, value 0x00000000000007FF'
+    expect 1 compare board a
+    says out 'only the board has 5 to 6'
+    edited a.txt 's/used=7/used=65537/'
+    expect 1 compare a board
+    says err 'refused 4: '
+    expect 2 compare a missing
+    expect 2 compare a a.txt
+    says err 'a.txt: no result'
+    echo "comparisons: equal; a field, an instruction, a log entry, the number of entries; refused; every difference"
+}
+
+# damaged KIND FILE COMMAND..: the file cut short, with a byte more, and without its mark is not read.
+damaged() {
+    kind=$1 file=$2
+    shift 2
+    size=$(wc -c < "$file")
+    for length in 0 1 3 4 100 251 271 291 $((size / 2)) $((size - 1)); do
+        test "$length" -lt "$size" || continue
+        head -c "$length" "$file" > broken
+        expect 2 dump "$kind" broken
+        test $# = 0 || expect 2 "$@"
+    done
+    { cat "$file"; printf x; } > broken
+    expect 2 dump "$kind" broken
+    test $# = 0 || expect 2 "$@"
+    { printf x; tail -c +2 "$file"; } > broken
+    test $# = 0 || { expect 2 dump "$kind" broken; expect 2 "$@"; says err 'does not begin with the mark'; }
+    absent broken.out
+}
+
+# limit OFFSET BYTES: a capture with these bytes in its head is not read.
+limit() {
+    { slice difference.capture 0 "$1"; printf '%b' "$2"; tail -c +$(($1 + 5)) difference.capture; } > broken
+    expect 2 run broken -o broken.out
+    says err 'damaged capture'
+    expect 2 dump broken
+    absent broken.out
+}
+
+damaged_files() {
+    damaged capture difference.capture run broken -o broken.out
+    damaged result difference.result compare difference.result broken
+    expect 2 dump broken
+    limit 4 '\0041\0000\0020\0000'
+    limit 8 '\0001\0010\0000\0000'
+    limit 12 '\0005\0020\0000\0000'
+    limit 16 '\0011\0100\0000\0000'
+    limit 20 '\0011\0000\0002\0000'
+    limit 32 '\0002\0000\0000\0000'
+    limit 36 '\0000\0000\0001\0000'
+    limit 292 '\0003\0000\0000\0000'
+    cat difference.capture difference.capture > broken
+    expect 2 run broken -o broken.out
+    says err 'give a capture of one case'
+    slice difference.capture 40 252 > state
+    damaged state state
+    for length in 0 1 3 17 100; do
+        head -c $length difference.capture > broken
+        expect 2 dump chain broken
+        says err 'no chain'
+    done
+    head -c 1048592 /dev/zero > broken
+    expect 2 dump chain broken
+    head -c 1048576 /dev/zero > broken
+    round chain broken
+    expect 2 dump state
+    expect 2 dump broken
+    says err 'begins with no mark; give its kind'
+    expect 2 build all-kinds.sheet -o missing-folder/x
+    says err 'missing-folder/x: cannot be written'
+    mkdir folder
+    expect 2 build all-kinds.sheet -o folder
+    expect 0 build all-kinds.sheet -o /dev/null
+    test -c /dev/null || fail '/dev/null was replaced'
+    if test -c /dev/full; then
+        expect 2 build all-kinds.sheet -o /dev/full
+        "$command" dump all-kinds.sheet > /dev/full 2> err
+        test $? = 2 || fail 'standard output full'
+    fi
+    absent broken.out missing-folder
+    echo "damaged files: cut, longer, without mark, beyond each limit; outputs that cannot be written"
+}
+
+# bad_text KIND LINE MESSAGE TEXT: the text is not assembled; the message names the line.
+bad_text() {
+    printf '%b' "$4" > bad.txt
+    expect 2 assemble "$1" bad.txt -o bad.out
+    says err "bad.txt${2:+:$2}: $3"
+    absent bad.out
+}
+
+bad_texts() {
+    bad_text sheet 1 "'nonsense' is no line of a sheet" 'nonsense\n'
+    bad_text sheet 2 "'vector' belongs to a record 'data'" 'gs\nvector 1 2 3 4\n'
+    bad_text sheet 1 "'write' belongs to a record 'gs'" 'write 1 2\n'
+    bad_text sheet 3 "after 'vector' come four words" '# one\ndata addr=1\nvector 1 2 3\n'
+    bad_text sheet 2 "'4294967296' is no word" 'data addr=1\nvector 1 2 3 4294967296\n'
+    bad_text sheet 2 "'-2147483649' is no word" 'data addr=1\nvector 1 2 3 -2147483649\n'
+    bad_text sheet 1 'addr=65536: the field has 16 bits' 'data addr=65536\n'
+    bad_text sheet 1 "'data' has no field 'adr'" 'data adr=5\n'
+    bad_text sheet 1 "'addr' is given twice" 'data addr=5 addr=5\n'
+    bad_text sheet 1 "'5' after 'data': expected field=value" 'data 5\n'
+    bad_text sheet 2 "'NAME' is no register" 'gs\nwrite NAME 1\n'
+    bad_text sheet 2 'register MSCAL has no place in a byte' 'gs\nwrite MSCAL 1\n'
+    bad_text sheet 2 "'0x10000000000000000' is no number of 64 bits" 'code addr=0\ninstruction 0x10000000000000000\n'
+    bad_text sheet 1 "'256' is no number of 8 bits" 'byte 1 256\n'
+    bad_text sheet 1 'more than 64 items' "byte $(seq -s ' ' 1 64)\n"
+    bad_text sheet 257 'a record counts at most 255' "data addr=0\n$(yes 'vector 1 2 3 4' | head -n 256)\n"
+    bad_text sheet '' 'no text: it has a zero byte' 'start addr=5\n\0000'
+    bad_text chain 2 "'cnt' at 0x4: it begins at a multiple of 16" 'NOP\ncnt qwc=1\n'
+    bad_text chain 2 "'NOP' at 0x1: it begins at a multiple of 4" 'byte 1\nNOP\n'
+    bad_text chain 1 'qwc=65536: the field has 16 bits' 'cnt qwc=65536\n'
+    bad_text chain 1 'format=V5-32: the field has 4 bits' 'UNPACK format=V5-32\n'
+    bad_text chain 2 'at 0x4: the lines before reach 0x10 already' 'end\nat 4\n'
+    bad_text chain 1 'at 0xFFFFFFFFFFFFFFFF: main memory ends' 'at 0xFFFFFFFFFFFFFFFF\n'
+    bad_text chain 1 "'vector' is no tag, code, giftag, word, byte or at" 'vector 1 2 3 4\n'
+    bad_text chain '' 'makes 4 bytes; a chain is whole quadwords' 'NOP\n'
+    bad_text chain '' 'makes 0 bytes' '\n# nothing\n'
+    bad_text chain '' 'makes 1048592 bytes' 'at 0x100010\n'
+    bad_text state 1 "'channel=1': a state's lines begin with state" 'channel=1\n'
+    bad_text state 2 "'cl' is given twice" 'state cl=1\nstate cl=1\n'
+    bad_text state '' 'has no line that begins with state' ''
+    bad_text capture '' "has no line 'capture'" 'state channel=1\n'
+    bad_text capture 2 "'capture' is given twice" 'capture\ncapture\n'
+    bad_text capture '' 'damaged capture: 4101 words of data memory; the most is 4100' 'capture data-words=4101\n'
+    bad_text capture '' 'damaged capture: 4 words given of main memory; the most is 3' 'capture main-bytes=15\nend\n'
+    bad_text capture '' 'makes 1 bytes of main memory; give whole words' 'capture\nbyte 1\n'
+    bad_text capture 2 "'start' has no field 'allowance'" 'capture\nstart allowance=1\n'
+    bad_text result 1 "'state': the first line is 'result'" 'state channel=1\nresult\n'
+    bad_text result 2 'quadword 1024: the last is 1023' 'result\nquadword 1024 1 2 3 4\n'
+    bad_text result 2 'instruction 2048: the last is 2047' 'result\ninstruction 2048 1\n'
+    bad_text result 2 'entry 65536: the last is 65535' 'result\nentry 65536 1 1\n'
+    bad_text result 2 'entry 2: the log has 4 numbers' 'result log-numbers=4\nentry 2 1 1\n'
+    bad_text result '' 'not written: a result keeps a log of an even length' 'result log-numbers=3\n'
+    bad_text result '' "has no line 'result'" ''
+    printf 'start addr=5\r\n\tstart addr=6 # no line end' > good.txt
+    expect 0 assemble sheet good.txt -o good.sheet
+    as_sheet wanted '\236\121\4\0\5\0\236\121\4\0\6\0'
+    same good.sheet wanted
+    echo "texts: each kind of mistake with its line, no output left"
+}
+
+usage
+bench_points
+refused_sheets
+examples
+comparisons
+damaged_files
+bad_texts
+generated_sheets
+generated_captures
+echo "host/test.sh: all as it has to be"

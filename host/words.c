@@ -1,0 +1,98 @@
+/* The meanings of numbers in words. */
+#include "words.h"
+
+#include <stddef.h>
+#include <string.h>
+
+struct meaning {
+    uint32_t number;
+    const char *words;
+};
+
+const char *meaning_of(uint32_t answer)
+{
+    static const struct meaning meanings[] = {
+        {0, "done"},
+        {1, "main memory has length 0, no multiple of 16 or more than 1,048,576 bytes"},
+        {2, "data memory is not 4,096 words"},
+        {3, "code memory is not 16,384 bytes"},
+        {4, "the log's length is odd, above 131,072 numbers or below twice the entries used"},
+        {5, "a state or start value is outside the range of its field"},
+        {10, "TADR lies outside main memory"},
+        {11, "ADDR of the tag is no multiple of 16"},
+        {12, "SPR is set in a tag that uses ADDR"},
+        {13, "call with two addresses on the stack"},
+        {14, "payload or pending words lie outside main memory"},
+        {20, "a VIF code whose CMD is not listed"},
+        {21, "UNPACK with vl 3 and vn below 3"},
+        {22, "UNPACK with WL 0 or WL above CL"},
+        {23, "STMOD with mode 3"},
+        {24, "DIRECT payload is due and the next word is not word 0 of its quadword"},
+        {30, "GIF descriptor B is met at its data"},
+        {31, "the log lacks room"},
+        {40, "the record does not begin with the mark 9E 51"},
+        {41, "the record's kind is none of 1 to 4"},
+        {42, "the record's count is not one of its kind"},
+        {43, "the record's address is not one of its kind"},
+        {44, "the record's header or body is cut off by the sheet's end"},
+        {45, "a GS entry's pad is not zero"},
+        {46, "the sheet is longer than 131,072 bytes"},
+        {47, "the chain is longer than the output"},
+        {60, "a state block that is not 63 words, or a result with too few numbers"},
+        {90, "the step allowance is used"},
+        {91, "stopped at an interrupt mark"},
+    };
+    for (size_t i = 0; i < sizeof meanings / sizeof meanings[0]; i++)
+        if (meanings[i].number == answer)
+            return meanings[i].words;
+    return "a number without a meaning";
+}
+
+struct named {
+    int number;
+    const char *name;
+};
+
+/* Registers of the GS, and the log's entries of program starts. */
+static const struct named registers[] = {
+    {0x00, "PRIM"},       {0x01, "RGBAQ"},      {0x02, "ST"},        {0x03, "UV"},         {0x04, "XYZF2"},     {0x05, "XYZ2"},
+    {0x06, "TEX0_1"},     {0x07, "TEX0_2"},     {0x08, "CLAMP_1"},   {0x09, "CLAMP_2"},    {0x0A, "FOG"},       {0x0C, "XYZF3"},
+    {0x0D, "XYZ3"},       {0x14, "TEX1_1"},     {0x15, "TEX1_2"},    {0x16, "TEX2_1"},     {0x17, "TEX2_2"},    {0x18, "XYOFFSET_1"},
+    {0x19, "XYOFFSET_2"}, {0x1A, "PRMODECONT"}, {0x1B, "PRMODE"},    {0x1C, "TEXCLUT"},    {0x22, "SCANMSK"},   {0x34, "MIPTBP1_1"},
+    {0x35, "MIPTBP1_2"},  {0x36, "MIPTBP2_1"},  {0x37, "MIPTBP2_2"}, {0x3B, "TEXA"},       {0x3D, "FOGCOL"},    {0x3F, "TEXFLUSH"},
+    {0x40, "SCISSOR_1"},  {0x41, "SCISSOR_2"},  {0x42, "ALPHA_1"},   {0x43, "ALPHA_2"},    {0x44, "DIMX"},      {0x45, "DTHE"},
+    {0x46, "COLCLAMP"},   {0x47, "TEST_1"},     {0x48, "TEST_2"},    {0x49, "PABE"},       {0x4A, "FBA_1"},     {0x4B, "FBA_2"},
+    {0x4C, "FRAME_1"},    {0x4D, "FRAME_2"},    {0x4E, "ZBUF_1"},    {0x4F, "ZBUF_2"},     {0x50, "BITBLTBUF"}, {0x51, "TRXPOS"},
+    {0x52, "TRXREG"},     {0x53, "TRXDIR"},     {0x54, "HWREG"},     {0x60, "SIGNAL"},     {0x61, "FINISH"},    {0x62, "LABEL"},
+    {256, "MSCAL"},       {257, "MSCALF"},      {258, "MSCNT"},
+};
+
+const char *register_name(uint64_t number)
+{
+    for (size_t i = 0; i < sizeof registers / sizeof registers[0]; i++)
+        if ((uint64_t)registers[i].number == number)
+            return registers[i].name;
+    return NULL;
+}
+
+int register_named(const char *name)
+{
+    for (size_t i = 0; i < sizeof registers / sizeof registers[0]; i++)
+        if (strcmp(registers[i].name, name) == 0)
+            return registers[i].number;
+    return -1;
+}
+
+const char *descriptor_name(unsigned descriptor)
+{
+    static const char *const names[16] = {
+        "PRIM",    "RGBAQ",   "ST",  "UV", "XYZF2", "XYZ2", "TEX0_1", "TEX0_2",
+        "CLAMP_1", "CLAMP_2", "FOG", "B",  "XYZF3", "XYZ3", "A+D",    "nothing",
+    };
+    return names[descriptor % 16];
+}
+
+const char *plural(uint64_t count, const char *one, const char *many)
+{
+    return count == 1 ? one : many;
+}

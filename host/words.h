@@ -1,0 +1,22 @@
+/* The meanings of numbers in words. */
+#ifndef WORDS_H
+#define WORDS_H
+
+#include <stdint.h>
+
+/* The meaning of an answer or refusal. */
+const char *meaning_of(uint32_t answer);
+
+/* The name of a register of the log; null where it has none. */
+const char *register_name(uint64_t number);
+
+/* The number of a register by its name; -1 where there is none. */
+int register_named(const char *name);
+
+/* The name of a GIF descriptor, 0 to 15. */
+const char *descriptor_name(unsigned descriptor);
+
+/* The one or the many, for counts: "entry" or "entries". */
+const char *plural(uint64_t count, const char *one, const char *many);
+
+#endif
