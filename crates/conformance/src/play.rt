@@ -1,0 +1,89 @@
+// A sheet's chain built at an address in main memory, started and run.
+use super::PlayAnswer;
+use super::PlayResult;
+use chain::StartAnswer;
+use chain::State;
+use sheet::BuildAnswer;
+ghost use mathlib.Core.Path.{_≡_};
+ghost use Rattle.vif.specs.Step.{lent};
+ghost use Rattle.conformance.specs.Play.{playRefusal, played, playOf};
+
+// The refusal of the lengths, 0 where there is none.
+fn length_refusal(main: &[u8], data: &[u32], code: &[u8], log: &[u64], used: u64) -> u32 {
+    if main.len() == 0 {
+        return 1;
+    }
+    if main.len() % 16 != 0 {
+        return 1;
+    }
+    if 1048576 < main.len() {
+        return 1;
+    }
+    if data.len() != 4096 {
+        return 2;
+    }
+    if code.len() != 16384 {
+        return 3;
+    }
+    if gif::log_refused(log, used) {
+        return 4;
+    }
+    0
+}
+
+fn refused(number: u32, offset: usize, state: State) -> PlayResult {
+    PlayResult {
+        answer: PlayAnswer::Refused { number, offset },
+        state,
+        steps: 0,
+    }
+}
+
+// The place in main memory, its end where the address lies beyond.
+fn place(address: u32, size: usize) -> usize {
+    let a = address as usize;
+    if size < a { size } else { a }
+}
+
+fn build_at(sheet: &[u8], main: &mut [u8], address: u32) -> BuildAnswer {
+    let at = place(address, main.len());
+    sheet::build(sheet, &mut main[at..])
+}
+
+// Builds the chain of a sheet at an address in main memory, starts it on channel 1 and runs it. A refusal leaves everything as it is.
+pub fn build_and_run(
+    sheet: &[u8],
+    main: &mut [u8],
+    address: u32,
+    data: &mut [u32],
+    code: &mut [u8],
+    log: &mut [u64],
+    state: State,
+    allowance: u64,
+) -> PlayResult
+    ensures { λ r. ⌜ played (r .answer) (r .state) (r .steps) (now (main .exit)) (lent (now («data» .exit)) (now (code .exit)) (now (log .exit))) ≡ playOf (now (sheet .entry)) (now (main .entry)) address state (lent (now («data» .entry)) (now (code .entry)) (now (log .entry))) allowance ⌝ }
+{
+    let number = length_refusal(main, data, code, log, state.used);
+    if number != 0 {
+        return refused(number, 0, state);
+    }
+    let started = chain::start(state, 1, address, false);
+    let start_answer = started.answer;
+    let begun = started.state;
+    match start_answer {
+        StartAnswer::Refused(n) => refused(n, 0, state),
+        StartAnswer::Started => match build_at(sheet, main, address) {
+            BuildAnswer::Refused { number, offset } => refused(number, offset, state),
+            BuildAnswer::Built(size) => {
+                let r = chain::run(main, data, code, log, begun, allowance);
+                let answer = r.answer;
+                let left = r.state;
+                PlayResult {
+                    answer: PlayAnswer::Ended(answer),
+                    state: left,
+                    steps: r.steps,
+                }
+            }
+        },
+    }
+}
