@@ -5,4 +5,8 @@ pub mod TagLaws
 pub mod MeaningLaws
 pub mod RecordLaws
 pub mod SheetLaws
+pub mod StartLaws
 pub mod Theorem
+pub mod NotEmpty
+pub mod AnswerLaws
+pub mod PlayLaws

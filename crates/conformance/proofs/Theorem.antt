@@ -75,7 +75,7 @@ accepted sheet output size h = accepted-by (contentsOf sheet) sheet output size 
 -- ---- the start
 
 -- a start that answers Started has made its state
-start-made : (s : State) (a : ℕ) → startOf s 1 a false .answer ≡ Started → startOf s 1 a false .state ≡ startedFrom s 1 a false
+pub start-made : (s : State) (a : ℕ) → startOf s 1 a false .answer ≡ Started → startOf s 1 a false .state ≡ startedFrom s 1 a false
 unfolding startOf
 start-made s a h =
     if-ind-by (λ (r : StartResult). r .answer ≡ Started → r .state ≡ startedFrom s 1 a false) (stateInRange s && startInRange 1 a false) (λ t q. refl) (λ t q. absurd (let z : _≡_ {A = ℕ} 0 1 = cc in omega arith)) h

@@ -1,12 +1,16 @@
 -- A sheet built in main memory, started and run: the builder, the start and the run one after another.
-use Prim.Native.Nat.{ℕ}
+use Prim.Native.Nat.{ℕ, _*_, _≤_}
 use mathlib.Core.Bool.{false, not, _&&_}
 use mathlib.Core.List.{List, _++_}
+use mathlib.Core.Path.{_≡_}
 use lib.ListN.{length, take, drop}
 use lib.Dec.{eqb}
 use Rattle.fields.specs.Fields.{if}
 use Rattle.gif.specs.Log.{logRefused}
+use Rattle.gif.specs.declared.Place.the-variants.{Idle}
+use Rattle.vif.specs.declared.Waiting.the-variants.{Nothing}
 use Rattle.vif.specs.Step.{Lent}
+use Rattle.chain.specs.declared.Answer.the-variants.{Done}
 use Rattle.chain.specs.declared.State.{State}
 use Rattle.chain.specs.Range.{mainRefused, stateInRange, startInRange}
 use Rattle.chain.specs.Start.{startOf}
@@ -14,6 +18,8 @@ use Rattle.chain.specs.Run.{Ran, numberOf, runOf}
 use Rattle.sheet.specs.declared.BuildAnswer.{BuildAnswer}
 use Rattle.sheet.specs.declared.BuildAnswer.the-variants.{Built, Refused as BuildRefused}
 use Rattle.sheet.specs.Build.{Left, buildOf}
+use Rattle.sheet.specs.Results.{entriesIn}
+use Rattle.conformance.specs.Demand.{stepsOfSheet, meansFrom}
 use Rattle.conformance.specs.declared.PlayAnswer.{PlayAnswer}
 use Rattle.conformance.specs.declared.PlayAnswer.the-variants.{Ended, Refused}
 
@@ -64,3 +70,35 @@ playOf sheet main a s m allowance =
 abbrev pub playNumber : PlayAnswer → ℕ
 playNumber (Ended r) = numberOf r
 playNumber (Refused n offset) = n
+
+-- demand 3's premises where the chain is built at a in main memory
+pub record PlayPremises (sheet main : List ℕ) (a allowance : ℕ) (s : State) (m : Lent) : Type 0 where
+  -- the lengths, the state and the address are accepted
+  pub passed : playRefusal main m s a ≡ 0
+  -- the builder accepts the sheet, with main memory from the address on as its output
+  pub size : ℕ
+  pub built : buildOf sheet (drop a main) .answer ≡ Built size
+  -- nothing waits in VIF1, and path 2 is idle
+  pub idle : s .vif .waiting ≡ Nothing
+  pub path-idle : s .path2 .place ≡ Idle
+  -- the log has room for every entry of the meaning
+  pub room : 2 * length (meansFrom sheet s m .entries) ≤ length (m .log)
+  -- the allowance is at least the sheet's steps
+  pub allowed : stepsOfSheet sheet ≤ allowance
+
+-- and its conclusion, of what is left
+pub record PlayConclusion (sheet main : List ℕ) (a : ℕ) (s : State) (m : Lent) (r : Played) : Type 0 where
+  -- "ends with done in exactly the sheet's steps"
+  pub done : r .answer ≡ Ended Done
+  pub steps : r .steps ≡ stepsOfSheet sheet
+  -- main memory has the builder's output from the address on
+  pub main-memory : r .main ≡ take a main ++ buildOf sheet (drop a main) .output
+  -- "and leaves exactly the sheet's plain meaning": both memories
+  pub mem : r .memories .mem ≡ meansFrom sheet s m .mem
+  pub code : r .memories .code ≡ meansFrom sheet s m .code
+  -- the list of entries in the log, and their number
+  pub used : r .state .used ≡ length (meansFrom sheet s m .entries)
+  pub entries : entriesIn (r .memories .log) (r .state .used) ≡ meansFrom sheet s m .entries
+  -- the log's length and its numbers past the list stay
+  pub log-length : length (r .memories .log) ≡ length (m .log)
+  pub log-rest : drop (2 * length (meansFrom sheet s m .entries)) (r .memories .log) ≡ drop (2 * length (meansFrom sheet s m .entries)) (m .log)

@@ -5,11 +5,16 @@ use chain::StartAnswer;
 use chain::State;
 use sheet::BuildAnswer;
 ghost use mathlib.Core.Path.{_≡_};
+ghost use Prim.Native.Nat.{_≤_};
 ghost use Rattle.vif.specs.Step.{lent};
-ghost use Rattle.conformance.specs.Play.{playRefusal, played, playOf};
+ghost use Rattle.sheet.specs.Build.{left};
+ghost use Rattle.conformance.specs.Play.{played, playOf};
+ghost use Rattle.conformance.specs.Inner.{lengthsRefusal, refusedWith, placeOf, builtAt};
 
 // The refusal of the lengths, 0 where there is none.
-fn length_refusal(main: &[u8], data: &[u32], code: &[u8], log: &[u64], used: u64) -> u32 {
+fn length_refusal(main: &[u8], data: &[u32], code: &[u8], log: &[u64], used: u64) -> u32
+    ensures { λ r. ⌜ r ≡ lengthsRefusal (now (main .entry)) (lent (now («data» .entry)) (now (code .entry)) (now (log .entry))) used ⌝ }
+{
     if main.len() == 0 {
         return 1;
     }
@@ -31,7 +36,9 @@ fn length_refusal(main: &[u8], data: &[u32], code: &[u8], log: &[u64], used: u64
     0
 }
 
-fn refused(number: u32, offset: usize, state: State) -> PlayResult {
+fn refused(number: u32, offset: usize, state: State) -> PlayResult
+    ensures { λ r. ⌜ r ≡ refusedWith number offset state ⌝ }
+{
     PlayResult {
         answer: PlayAnswer::Refused { number, offset },
         state,
@@ -40,12 +47,16 @@ fn refused(number: u32, offset: usize, state: State) -> PlayResult {
 }
 
 // The place in main memory, its end where the address lies beyond.
-fn place(address: u32, size: usize) -> usize {
+fn place(address: u32, size: usize) -> usize
+    ensures { λ r. ⌜ (r ≡ placeOf address size) × (r ≤ size) ⌝ }
+{
     let a = address as usize;
     if size < a { size } else { a }
 }
 
-fn build_at(sheet: &[u8], main: &mut [u8], address: u32) -> BuildAnswer {
+fn build_at(sheet: &[u8], main: &mut [u8], address: u32) -> BuildAnswer
+    ensures { λ r. ⌜ left r (now (main .exit)) ≡ builtAt (now (sheet .entry)) (now (main .entry)) address ⌝ }
+{
     let at = place(address, main.len());
     sheet::build(sheet, &mut main[at..])
 }

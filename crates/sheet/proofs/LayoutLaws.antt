@@ -1,8 +1,7 @@
 -- The chain's layout.
-use mathlib.Core.Path.{_≡_, refl, sym, _∙_}
-use mathlib.Core.List.{List, [], _∷_, _++_, append-assoc}
+use mathlib.Core.Path.{_≡_, refl, _∙_}
+use mathlib.Core.List.{List, [], _∷_, _++_}
 use Prim.Native.Nat.{ℕ, zero, suc, _+_, _*_, _-_, _/_, _%_, _<_, _≤_}
-use native.Mathlib.Nat.{mod-lt}
 use native.Mathlib.Omega.{arith}
 use lib.ListN.{length, getD, set, length-append}
 use lib.Seq.{sets}
@@ -11,8 +10,8 @@ use Rattle.sheet.specs.declared.Kind.the-variants.{Data, Code, Gs, Start
 use Rattle.sheet.specs.Records.{Record, recordOf, bodyLength}
 use Rattle.sheet.specs.Whole.{AllMeet, none, more}
 use Rattle.sheet.specs.Sizes.{quadwordsOf, sheetQuadwords}
-use Rattle.sheet.specs.Layout.{wordBytes, wordsBytes, tagWords, codeWords, gifTagWords, oddPadding, paddingWords, leadWords, laidOut, chainOf}
-use Rattle.sheet.proofs.ListLaws.{sets-then, sets-next}
+use Rattle.sheet.specs.Layout.{wordBytes, wordsBytes, codeWords, gifTagWords, oddPadding, paddingWords, leadWords, laidOut, chainOf}
+use Rattle.sheet.proofs.ListLaws.{sets-next}
 
 -- ---- words
 

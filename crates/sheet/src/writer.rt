@@ -7,7 +7,6 @@ use super::reader::read_record;
 use super::totals::Measured;
 use super::totals::measure;
 ghost use mathlib.Core.Path.{_≡_};
-ghost use mathlib.Core.List.{[], _∷_, _++_};
 ghost use Prim.Native.Nat.{_+_, _*_, _<_, _≤_};
 ghost use lib.ListN.{length};
 ghost use lib.Seq.{sets};
@@ -210,6 +209,6 @@ pub extern "C" fn tejborun_build(sheet: &[u8], output: &mut [u8]) -> usize
 {
     match build(sheet, output) {
         BuildAnswer::Built(n) => n,
-        BuildAnswer::Refused { number, offset } => number as usize,
+        BuildAnswer::Refused { number, offset: _ } => number as usize,
     }
 }

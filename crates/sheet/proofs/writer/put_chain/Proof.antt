@@ -1,7 +1,7 @@
 use Rattle.sheet.proofs.ChainLaws.{end-room, end-chain, found-room, found-fits, found-chain}
 use Rattle.sheet.proofs.RestLaws.{found-after, rest-never}
-use mathlib.Core.Path.{_≡_, refl, sym, _∙_}
-use Prim.Native.Nat.{_+_, _-_, _≤_}
+use mathlib.Core.Path.{_≡_, refl, _∙_}
+use Prim.Native.Nat.{_-_}
 use native.Mathlib.Omega.{arith}
 use borrow.Author.Needs.{needs}
 use lib.ListN.{length}

@@ -1,5 +1,5 @@
 use native.Mathlib.Omega.{arith}
-use mathlib.Core.Path.{_≡_, refl}
+use mathlib.Core.Path.{refl}
 use borrow.Author.Needs.{needs}
 use Rattle.sheet.proofs.writer.put_gif_tag.Statement.{statement}
 use Rattle.sheet.proofs.writer.put_gif_tag.Tie as tie

@@ -1,6 +1,6 @@
 use Rattle.sheet.specs.Layout.{wordBytes}
 use Rattle.sheet.proofs.ListLaws.{sets-next}
-use mathlib.Core.Path.{_≡_, refl}
+use mathlib.Core.Path.{refl}
 use native.Mathlib.Omega.{arith}
 use Rattle.sheet.proofs.LayoutLaws.{odd-padding}
 use borrow.Author.Needs.{needs}

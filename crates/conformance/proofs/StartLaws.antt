@@ -1,0 +1,37 @@
+-- A start that is accepted, and the run's entry tests on what it leaves.
+use mathlib.Core.Path.{_≡_, refl}
+use mathlib.Core.Bool.{true, false}
+use mathlib.Core.List.{List}
+use Prim.Native.Nat.{ℕ}
+use lib.ListN.{length}
+use Rattle.fields.specs.Fields.{if}
+use Rattle.gif.specs.Log.{logRefused}
+use Rattle.vif.specs.Step.{Lent}
+use Rattle.chain.specs.declared.StartAnswer.the-variants.{Started}
+use Rattle.chain.specs.declared.State.{State}
+use Rattle.chain.specs.Range.{mainRefused, stateInRange, startInRange, stackInRange, tagsInRange, payloadInRange, tagsInside, payloadInside}
+use Rattle.chain.specs.Start.{startResult, startedFrom, startOf}
+use Rattle.chain.specs.Inner.{Ready}
+use Rattle.chain.proofs.ReadyLaws.{fields-of, ready-of}
+
+module _ (s : State) (a : ℕ) (ranged : stateInRange s ≡ true) (starts : startInRange 1 a false ≡ true) where
+  pub start-accepted : startOf s 1 a false ≡ startResult Started (startedFrom s 1 a false)
+  unfolding startOf if
+  start-accepted = rw (ranged, starts)
+
+  -- a start drops what is pending, so the lengths are all that is left to test
+  pub start-ready : (main : List ℕ) (m : Lent) → mainRefused (length main) ≡ false → length (m .mem) ≡ 4096 → length (m .code) ≡ 16384
+      → logRefused (m .log) (s .used) ≡ false → Ready main (startedFrom s 1 a false) m
+  unfolding tagsInside payloadInside stackInRange tagsInRange payloadInRange
+  start-ready main m size words bytes logged =
+      let f = fields-of s ranged in
+      ready-of
+      (record {
+        size = size;
+        long = words;
+        wide = bytes;
+        logged = logged;
+        fields = record { start = starts; stack = refl; tags = refl; payload = refl; unit = f .unit; path2 = f .path2; path3 = f .path3 };
+        tags-in = refl;
+        payload-in = refl;
+      })
