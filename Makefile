@@ -21,6 +21,7 @@ test:
 	$(SECOND) compare-gif target/bin/gif_replay 1,2,3 20000
 	$(SECOND) compare-vif target/bin/vif_replay 1,2,3 100000
 	$(SECOND) compare-capture target/bin/replay 1,2,3 2000
+	$(SECOND) compare-sheet target/bin/sheet_replay 1,2,3 2000
 	$(MAKE) host-test
 	@tail -n 1 build/ci.log
 
@@ -33,9 +34,10 @@ second:
 
 # Times beside the second program, in one run.
 bench: second
-	rt check gif_bench chain_bench
+	rt check gif_bench chain_bench sheet_bench
 	$(SECOND) bench-gif target/bin/gif_bench
 	$(SECOND) bench-chain target/bin/chain_bench
+	$(SECOND) bench-sheet target/bin/sheet_bench
 
 # The command for the bench, over the proved library.
 host:

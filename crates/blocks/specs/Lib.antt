@@ -1,0 +1,2 @@
+-- State blocks of cases, as results show them.
+pub mod Shown

@@ -1,0 +1,2 @@
+-- What the programs that run cases share.
+pub mod Memories

@@ -1,0 +1,86 @@
+// The sheet's chain built in main memory and run, and the result.
+use super::parts::Head;
+use super::parts::fill_of;
+use super::parts::tell_head;
+use blocks::shown_block;
+use cases::emit_bytes;
+use cases::emit_memories;
+use cases::fill_bytes;
+use cases::fill_memories;
+use cases::read_words;
+use chain::Answer;
+use conformance::PlayAnswer;
+use wire::emit_all;
+use wire::emit_long;
+use wire::joined;
+use wire::word_at;
+
+fn run_number(answer: Answer) -> u32 {
+    match answer {
+        Answer::Done => 0,
+        Answer::Allowance => 90,
+        Answer::Interrupt => 91,
+        Answer::Refused(n) => n,
+    }
+}
+
+fn play_head(answer: PlayAnswer) -> Head {
+    match answer {
+        PlayAnswer::Ended(a) => Head {
+            number: run_number(a),
+            beside: 0,
+        },
+        PlayAnswer::Refused { number, offset } => Head {
+            number,
+            beside: offset,
+        },
+    }
+}
+
+fn block_of(header: &[u8]) -> [u32; 63] {
+    let mut block = [0u32; 63];
+    read_words(header, 48, &mut block);
+    block
+}
+
+// Builds and runs, and tells all but the memories.
+fn play(
+    out: &mut [u8; 65536],
+    at: usize,
+    header: &[u8],
+    sheet: &[u8],
+    main: &mut [u8],
+    data: &mut [u32],
+    code: &mut [u8],
+    log: &mut [u64],
+) -> usize {
+    let block = block_of(header);
+    let address = word_at(header, 16);
+    let allowance = joined(word_at(header, 40), word_at(header, 44));
+    let given = chain::state_in_block(block);
+    let state = given.state;
+    let r = conformance::build_and_run(sheet, main, address, data, code, log, state, allowance);
+    let answer = r.answer;
+    let left = r.state;
+    let shown = shown_block(block, left);
+    let a = tell_head(out, at, play_head(answer));
+    let b = emit_long(out, a, r.steps);
+    emit_all(out, b, &shown)
+}
+
+pub(crate) fn tell_play(
+    out: &mut [u8; 65536],
+    at: usize,
+    header: &[u8],
+    sheet: &[u8],
+    main: &mut [u8],
+    data: &mut [u32],
+    code: &mut [u8],
+    log: &mut [u64],
+) -> usize {
+    fill_memories(data, code, log, fill_of(header, 0));
+    fill_bytes(main, fill_of(header, 4));
+    let a = play(out, at, header, sheet, main, data, code, log);
+    let b = emit_memories(out, a, data, code, log);
+    emit_bytes(out, b, main)
+}
