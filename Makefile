@@ -1,4 +1,4 @@
-# Nothing but calls of rt, cargo and the programs that they build. What is built here goes to build/ and target/.
+# Nothing but calls of rt, cargo, cc and the programs that they build. What is built here goes to build/ and target/.
 .POSIX:
 .PHONY: test check second bench host command host-test demo clean
 

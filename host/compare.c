@@ -33,7 +33,8 @@ static void print_entry(const char *who, const struct board *board, size_t numbe
 {
     uint64_t log_register = board->log[2 * number], value = board->log[2 * number + 1];
     const char *name = register_name(log_register);
-    printf("    %s register 0x%02" PRIX64 " %s, value 0x%016" PRIX64 " (%" PRIu64 ")\n", who, log_register, name != NULL ? name : "(no name)", value, value);
+    printf("    %s register 0x%02" PRIX64 " %s, value 0x%016" PRIX64 " (%" PRIu64 ")\n", who, log_register, name != NULL ? name : "(no name)", value,
+           value);
 }
 
 static void show_entry(const struct board *a, const struct board *b, size_t number)

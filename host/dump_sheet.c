@@ -18,7 +18,10 @@ struct body {
 
 static void print_vector(const uint8_t *at)
 {
-    printf("  vector 0x%08" PRIX32 " 0x%08" PRIX32 " 0x%08" PRIX32 " 0x%08" PRIX32 "\n", get_word(at), get_word(at + 4), get_word(at + 8), get_word(at + 12));
+    printf("  vector");
+    for (size_t i = 0; i < 4; i++)
+        printf(" 0x%08" PRIX32, get_word(at + 4 * i));
+    putchar('\n');
 }
 
 static void print_instruction(const uint8_t *at)

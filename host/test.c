@@ -1,5 +1,6 @@
-/* Calls every function of tejborun.h with good, short and wrong buffers. Each buffer lies against a page that cannot be touched, first behind it and then
- * before it; what is only read lies in pages that cannot be written. To be built with AddressSanitizer and UBSan. Stops at the first thing that is wrong. */
+/* Calls every function of tejborun.h with good, short and wrong buffers. Each buffer lies against a page that cannot be touched, first before it and then
+ * behind it; what is only read lies in pages that cannot be written. To be built with AddressSanitizer and UBSan. Stops at the first thing that is
+ * wrong. */
 #define _DEFAULT_SOURCE
 
 #include <stdbool.h>
@@ -322,9 +323,10 @@ static void try_meaning(const uint8_t *bytes, size_t count, struct lengths lengt
 static void test_meaning(bool end)
 {
     static const struct wrong wrong[] = {
-        {{256, 4095, 16384, 64, 63, 2}, 2}, {{256, 4097, 16384, 64, 63, 2}, 2},     {{256, 0, 16384, 64, 63, 2}, 2},   {{256, 4096, 16383, 64, 63, 2}, 3},
-        {{256, 4096, 16392, 64, 63, 2}, 3}, {{256, 4096, 0, 64, 63, 2}, 3},         {{256, 4096, 16384, 63, 63, 2}, 4}, {{256, 4096, 16384, 131074, 63, 2}, 4},
-        {{256, 4096, 16384, 2, 63, 2}, 4},  {{256, 4096, 16384, 4, 63, 2}, 31},     {{256, 4096, 16384, 8, 63, 2}, 31}, {{256, 4096, 16384, 64, 63, 1}, TEJBORUN_SHORT},
+        {{256, 4095, 16384, 64, 63, 2}, 2}, {{256, 4097, 16384, 64, 63, 2}, 2}, {{256, 0, 16384, 64, 63, 2}, 2},
+        {{256, 4096, 16383, 64, 63, 2}, 3}, {{256, 4096, 16392, 64, 63, 2}, 3}, {{256, 4096, 0, 64, 63, 2}, 3},
+        {{256, 4096, 16384, 63, 63, 2}, 4}, {{256, 4096, 16384, 131074, 63, 2}, 4}, {{256, 4096, 16384, 2, 63, 2}, 4},
+        {{256, 4096, 16384, 4, 63, 2}, 31}, {{256, 4096, 16384, 8, 63, 2}, 31}, {{256, 4096, 16384, 64, 63, 1}, TEJBORUN_SHORT},
         {{256, 4096, 16384, 64, 63, 0}, TEJBORUN_SHORT},
     };
     struct lengths full = good;
@@ -446,12 +448,13 @@ static void test_stops(bool end)
     }
 }
 
-/* What a run and build and run refuse at entry; most entries used are 2. */
+/* What a run and build and run refuse at entry; the entries used are 2. */
 static const struct wrong wrong_entry[] = {
-    {{0, 4096, 16384, 64, 63, 2}, 1},      {{8, 4096, 16384, 64, 63, 2}, 1},      {{257, 4096, 16384, 64, 63, 2}, 1},    {{1048592, 4096, 16384, 64, 63, 2}, 1},
-    {{256, 4095, 16384, 64, 63, 2}, 2},    {{256, 4097, 16384, 64, 63, 2}, 2},    {{256, 0, 16384, 64, 63, 2}, 2},       {{256, 4096, 16383, 64, 63, 2}, 3},
-    {{256, 4096, 16385, 64, 63, 2}, 3},    {{256, 4096, 0, 64, 63, 2}, 3},        {{256, 4096, 16384, 63, 63, 2}, 4},    {{256, 4096, 16384, 131074, 63, 2}, 4},
-    {{256, 4096, 16384, 2, 63, 2}, 4},     {{256, 4096, 16384, 64, 62, 2}, TEJBORUN_SHORT}, {{256, 4096, 16384, 64, 64, 2}, TEJBORUN_SHORT},
+    {{0, 4096, 16384, 64, 63, 2}, 1}, {{8, 4096, 16384, 64, 63, 2}, 1}, {{257, 4096, 16384, 64, 63, 2}, 1},
+    {{1048592, 4096, 16384, 64, 63, 2}, 1}, {{256, 4095, 16384, 64, 63, 2}, 2}, {{256, 4097, 16384, 64, 63, 2}, 2},
+    {{256, 0, 16384, 64, 63, 2}, 2}, {{256, 4096, 16383, 64, 63, 2}, 3}, {{256, 4096, 16385, 64, 63, 2}, 3},
+    {{256, 4096, 0, 64, 63, 2}, 3}, {{256, 4096, 16384, 63, 63, 2}, 4}, {{256, 4096, 16384, 131074, 63, 2}, 4},
+    {{256, 4096, 16384, 2, 63, 2}, 4}, {{256, 4096, 16384, 64, 62, 2}, TEJBORUN_SHORT}, {{256, 4096, 16384, 64, 64, 2}, TEJBORUN_SHORT},
     {{256, 4096, 16384, 64, 0, 2}, TEJBORUN_SHORT}, {{256, 4096, 16384, 64, 63, 0}, TEJBORUN_SHORT},
 };
 
@@ -476,7 +479,10 @@ static void test_wrong_state(bool end)
     static const struct {
         size_t word;
         uint32_t value, answer;
-    } states[] = {{0, 3, 5}, {1, 4, 5}, {2, 2, 5}, {3, 2, 5}, {4, 3, 5}, {7, 1, 5}, {9, 262144, 5}, {9, 4, 0}, {9, 260, 14}, {13, 256, 5}, {22, 3, 5}, {34, 9, 5}, {55, 1, 5}};
+    } states[] = {
+        {0, 3, 5}, {1, 4, 5},  {2, 2, 5},    {3, 2, 5},  {4, 3, 5}, {7, 1, 5},  {9, 262144, 5},
+        {9, 4, 0}, {9, 260, 14}, {13, 256, 5}, {22, 3, 5}, {34, 9, 5}, {55, 1, 5},
+    };
     for (size_t i = 0; i < sizeof states / sizeof states[0]; i++) {
         struct bench bench;
         new_bench(&bench, good, NULL, 0, end);
@@ -542,8 +548,8 @@ static uint32_t call_compare(struct pair *pair)
     struct lent *const read[6] = {&pair->data[0], &pair->code[0], &pair->log[0], &pair->data[1], &pair->code[1], &pair->log[1]};
     for (int i = 0; i < 6; i++)
         only_read(read[i], true);
-    uint32_t answer = tejborun_compare(words(read[0]), read[0]->bytes / 4, read[1]->at, read[1]->bytes, numbers(read[2]), read[2]->bytes / 8, pair->used[0],
-                                       words(read[3]), read[3]->bytes / 4, read[4]->at, read[4]->bytes, numbers(read[5]), read[5]->bytes / 8,
+    uint32_t answer = tejborun_compare(words(read[0]), read[0]->bytes / 4, read[1]->at, read[1]->bytes, numbers(read[2]), read[2]->bytes / 8,
+                                       pair->used[0], words(read[3]), read[3]->bytes / 4, read[4]->at, read[4]->bytes, numbers(read[5]), read[5]->bytes / 8,
                                        pair->used[1], numbers(&pair->result), pair->result.bytes / 8);
     for (int i = 0; i < 6; i++)
         only_read(read[i], false);

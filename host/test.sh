@@ -447,7 +447,13 @@ damaged_files() {
         "$command" dump all-kinds.sheet > /dev/full 2> err
         test $? = 2 || fail 'standard output full'
     fi
+    # A write that fails halfway, at a limit of 512 bytes for a file, leaves the file that stood there and nothing else.
+    cp kept limited
+    (trap '' XFSZ && ulimit -f 1 && "$command" play all-kinds.sheet -o limited > /dev/null 2>&1)
+    test $? = 2 || fail 'a write that fails halfway'
+    same kept limited
     absent broken.out missing-folder
+    if test -e limited.partial; then fail 'limited.partial was left behind'; fi
     echo "damaged files: cut, longer, without mark, beyond each limit; outputs that cannot be written"
 }
 
