@@ -32,7 +32,7 @@ static const struct command commands[] = {
     {"compare", 2, 2, TAKES_ALL, command_compare, "compare RESULT BOARD [--all]",
      "Compares data memory, code memory and log of two result files; shows the first difference of each and how many there are.\n"
      "  --all  shows every difference, not only the first of each\n"
-     "Registers, answer and step count are shown and not compared.\n"},
+     "Answer and step count are shown and not compared; registers are neither.\n"},
     {"dump", 1, 2, 0, command_dump, "dump [KIND] FILE",
      "Prints a file as text (docs/TEXT.md). KIND is sheet, chain, state, capture or result; it may be left out where the file\n"
      "begins with a mark (sheet, capture, result).\n"},
