@@ -61,15 +61,15 @@ uint32_t tejborun_start(uint32_t *block, size_t block_words, uint32_t channel, u
 uint32_t tejborun_run(const uint8_t *main, size_t main_bytes, uint32_t *data, size_t data_words, uint8_t *code, size_t code_bytes, uint64_t *log,
                       size_t log_numbers, uint32_t *block, size_t block_words, uint64_t allowance, uint64_t *result, size_t result_numbers);
 
-/* Builds a sheet's chain at an address in main memory, starts it on channel 1 and runs it. Answers the run's answer, or, before anything is changed, 1 to 5
- * or the builder's refusal. result[0]: the steps completed; result[1]: the offset of the refused record, 0 where there is none. */
+/* Builds a sheet's chain at an address in main memory, starts it on channel 1 and runs it. Answers the run's answer, or, before any memory is changed, 1 to
+ * 5 or the builder's refusal. result[0]: the steps completed; result[1]: the offset of the refused record, 0 where there is none. */
 uint32_t tejborun_build_and_run(const uint8_t *sheet, size_t sheet_bytes, uint8_t *main, size_t main_bytes, uint32_t address, uint32_t *data,
                                 size_t data_words, uint8_t *code, size_t code_bytes, uint64_t *log, size_t log_numbers, uint32_t *block,
                                 size_t block_words, uint64_t allowance, uint64_t *result, size_t result_numbers);
 
 /* Compares two boards' memories and logs. Answers 0 where they are the same, 1 where they differ, or TEJBORUN_REFUSED + 2, 3 or 4 for a length that is wrong
  * on either side. result[0], [1]: the first quadword that differs and how many differ; [2], [3]: instructions; [4], [5]: log entries that both have. Where
- * none differs, the first is the number compared. */
+ * none differs, the first is the number compared; where refused, all six are 0. */
 #define TEJBORUN_REFUSED 100u
 uint32_t tejborun_compare(const uint32_t *data_a, size_t data_a_words, const uint8_t *code_a, size_t code_a_bytes, const uint64_t *log_a, size_t log_a_numbers,
                           uint64_t used_a, const uint32_t *data_b, size_t data_b_words, const uint8_t *code_b, size_t code_b_bytes, const uint64_t *log_b,

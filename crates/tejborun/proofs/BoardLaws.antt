@@ -9,7 +9,7 @@ use lib.Dec.{eqb}
 use Rattle.fields.specs.Fields.{if}
 use Rattle.fields.proofs.ChoiceLaws.{if-ind}
 use Rattle.compare.specs.declared.CompareAnswer.{CompareAnswer}
-use Rattle.compare.specs.declared.CompareAnswer.the-variants.{Compared, Refused}
+use Rattle.compare.specs.declared.CompareAnswer.the-variants.{Refused}
 use Rattle.compare.specs.Boards.{Board, refusal, compareOf}
 use Rattle.tejborun.specs.Buffers.{short, Answered, answered}
 use Rattle.tejborun.specs.Boards.{compareAnswered, compareCall}

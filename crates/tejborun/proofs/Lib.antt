@@ -4,3 +4,4 @@ pub mod SheetLaws
 pub mod RunLaws
 pub mod PlayLaws
 pub mod BoardLaws
+pub mod NoState
