@@ -197,6 +197,12 @@ static uint32_t take_odd(struct bytes *in) {
     return take32(in);
 }
 
+/* A place below the limit, often one of the last: what is written from there goes round the end. */
+static uint32_t take_place(struct bytes *in, uint32_t limit) {
+    uint32_t place = take16(in);
+    return place >= 0xC000 ? limit - 1 - place % 8 % limit : place % limit;
+}
+
 static uint8_t filling[ROOM + 8 * 1024];
 
 static void make_filling(void) {
@@ -306,8 +312,8 @@ struct record {
 
 static struct record legal_record(struct bytes *in, uint32_t kind) {
     static const uint32_t addresses[5] = {1, 1024, 2048, 1, 2048};
-    uint32_t count = take8(in), address = take16(in);
-    struct record r = {{0x9E, 0x51}, (uint8_t)kind, (uint8_t)count, address % addresses[kind]};
+    uint32_t count = take8(in), address = take_place(in, addresses[kind]);
+    struct record r = {{0x9E, 0x51}, (uint8_t)kind, (uint8_t)count, address};
     if (count < 224) r.count = (uint8_t)(1 + count % 6);
     if (kind == 4) r.count = 0;
     return r;
@@ -429,12 +435,12 @@ static void put_waiting(struct bytes *in, uint32_t *unit) {
     unit[22] = take8(in) & 1;
     if (code == 4 || code == 7) unit[25] = 1 + take8(in);
     if (code == 2 || code == 3) all = 4;
-    if (code == 4) unit[24] = take16(in) % 2048, all = 2 * unit[25];
+    if (code == 4) unit[24] = take_place(in, 2048), all = 2 * unit[25];
     if (code == 5 || code == 6) all = take8(in) < 192 ? 16 : 65536;
     if (code == 7) {
         uint32_t format = take8(in) % 16;
         unit[26] = format % 4 == 3 ? 15 : format;
-        unit[24] = take16(in) % 1024;
+        unit[24] = take_place(in, 1024);
         unit[27] = take8(in) & 1;
         unit[28] = take8(in) & 1;
         for (int i = 29; i < 32; i++) unit[i] = take32(in);
@@ -531,6 +537,7 @@ static uint32_t legal_code(struct bytes *in) {
     if (command == 5 && imm % 4 == 3 && num % 8 != 0) imm--;
     if (command >= 0x50 && command < 0x60 && imm % 8 != 0) imm %= 8;
     if (command >= 0x4A && num < 224) num = 1 + num % 8;
+    if (command == 0x4A || command >= 0x60) imm |= (imm >> 11 & 3) == 3 ? 0x7F8 : 0;
     return (how >= 200 ? 1u << 31 : 0) | command << 24 | num << 16 | imm;
 }
 
