@@ -1,6 +1,6 @@
-# Nothing but calls of rt, cargo, cc and the programs that they build. What is built here goes to build/ and target/.
+# Nothing but calls of rt, cargo, cc, clang and the programs that they build. What is built here goes to build/ and target/.
 .POSIX:
-.PHONY: test check second bench host command host-test demo clean
+.PHONY: test check second bench host command host-test demo fuzz fuzz-build fuzz-run clean
 
 SECOND = build/second/release/second
 ARCHIVE = target/staticlib/libtejborun.a
@@ -11,6 +11,13 @@ SANITIZE = -g -fsanitize=address,undefined -fno-sanitize-recover=all
 HOST = host/main.c host/files.c host/numbers.c host/words.c host/text.c host/fields.c host/shapes.c host/state_shape.c host/board.c host/result.c \
 	host/capture.c host/sheet.c host/run.c host/changes.c host/compare.c host/roles.c host/dump.c host/dump_sheet.c host/dump_words.c host/dump_chain.c \
 	host/dump_result.c host/assemble.c host/assemble_sheet.c host/assemble_memory.c host/assemble_capture.c host/assemble_result.c
+
+FUZZ_ENTRIES = build steps meaning start run build_and_run compare
+FUZZ_SECONDS = 1200
+FUZZ_CC = clang
+FUZZ_CFLAGS = -std=c11 -Wall -Wextra -Werror -O1 -g -fsanitize=fuzzer,address,undefined -fno-sanitize-recover=all
+FUZZ_OPTIONS = -len_control=0 -max_len=4096 -timeout=60 -verbosity=0 -print_final_stats=1
+JUDGE = build/judge/release/libjudge.a
 
 # The tests. The last line is rt ci's own, printed again only where everything passed.
 test:
@@ -59,6 +66,25 @@ host-test: host
 # The bench's main jobs, as a person does them.
 demo: host
 	sh examples/demo.sh build/tejborun build/demo
+
+# The C interface against the second program, by a fuzzer: each entry point for FUZZ_SECONDS, until the first finding (docs/FUZZING.md).
+fuzz:
+	rt staticlib tejborun
+	$(MAKE) fuzz-build
+	$(MAKE) fuzz-run
+
+fuzz-build:
+	mkdir -p build/fuzz
+	cargo build --quiet --release --offline --manifest-path fuzz/judge/Cargo.toml --target-dir build/judge
+	for e in $(FUZZ_ENTRIES); do \
+		$(FUZZ_CC) $(FUZZ_CFLAGS) -DENTRY=entry_$$e -o build/fuzz/$$e fuzz/fuzz.c $(ARCHIVE) $(JUDGE) -lpthread -ldl -lm || exit 1; \
+	done
+
+fuzz-run:
+	for e in $(FUZZ_ENTRIES); do \
+		mkdir -p build/fuzz/corpus/$$e; \
+		build/fuzz/$$e $(FUZZ_OPTIONS) -max_total_time=$(FUZZ_SECONDS) -artifact_prefix=build/fuzz/$$e- build/fuzz/corpus/$$e fuzz/corpus/$$e || exit 1; \
+	done
 
 clean:
 	rm -rf build target

@@ -1,0 +1,853 @@
+/* The C interface of the proved library against the second program, for libFuzzer. One entry point for each program: -DENTRY=entry_build and so on.
+ *
+ * The fuzzer's bytes are read as a recipe for the inputs of calls. There are three sets of buffers: one keeps what is given, the proved library works
+ * on the second, the judge (the second program) on the third. The program aborts where an answer or any byte of any buffer differs. */
+#define _GNU_SOURCE
+#include "../host/tejborun.h"
+#include "judge.h"
+#include <inttypes.h>
+#include <stdbool.h>
+#include <stdio.h>
+#include <stdlib.h>
+#include <string.h>
+#include <sys/mman.h>
+#include <unistd.h>
+
+/* ---- Buffers ---- */
+
+enum { SHEET, MAIN, DATA, CODE, LOG, BLOCK, RESULT, DATA_B, CODE_B, LOG_B, BUFFERS };
+
+static const char *const names[BUFFERS] = {"sheet", "main memory or output", "data memory", "code memory", "log", "state block", "result",
+                                           "second data memory",     "second code memory",    "second log"};
+
+/* The given and the judge's bytes are allocated as long as they are, for the address sanitizer. The proved library's end at a page that nobody may touch,
+ * as the archive itself is not instrumented. */
+struct buffer {
+    size_t bytes;
+    void *given, *judged, *proved;
+    uint8_t *wall;
+};
+
+enum { ROOM = 1 << 21 };
+
+static struct buffer buffers[BUFFERS];
+
+static void stop(const char *what) {
+    fprintf(stderr, "DIFFERENCE: %s\n", what);
+    abort();
+}
+
+static uint8_t *walled(void) {
+    size_t page = (size_t)sysconf(_SC_PAGESIZE);
+    uint8_t *start = mmap(NULL, ROOM + page, PROT_READ | PROT_WRITE, MAP_PRIVATE | MAP_ANONYMOUS | MAP_NORESERVE, -1, 0);
+    if (start == MAP_FAILED || mprotect(start + ROOM, page, PROT_NONE) != 0) {
+        perror("walled buffer");
+        exit(1);
+    }
+    return start + ROOM;
+}
+
+static void *taken(size_t bytes) {
+    if (bytes == 0) return NULL;
+    void *start = malloc(bytes);
+    if (start == NULL) exit(1);
+    return start;
+}
+
+/* A buffer of so many bytes; what it holds is given next. */
+static void *give(int which, size_t bytes) {
+    struct buffer *b = &buffers[which];
+    if (b->wall == NULL) b->wall = walled();
+    b->bytes = bytes;
+    b->given = taken(bytes);
+    b->judged = taken(bytes);
+    b->proved = bytes == 0 ? NULL : b->wall - bytes;
+    return b->given;
+}
+
+static void lend_all(void) {
+    for (int i = 0; i < BUFFERS; i++) {
+        struct buffer *b = &buffers[i];
+        if (b->bytes == 0) continue;
+        memcpy(b->judged, b->given, b->bytes);
+        memcpy(b->proved, b->given, b->bytes);
+    }
+}
+
+/* What a call left is given to the next one. */
+static void keep_all(void) {
+    for (int i = 0; i < BUFFERS; i++) {
+        struct buffer *b = &buffers[i];
+        if (b->bytes > 0) memcpy(b->given, b->proved, b->bytes);
+    }
+}
+
+static void drop_all(void) {
+    for (int i = 0; i < BUFFERS; i++) {
+        struct buffer *b = &buffers[i];
+        free(b->given);
+        free(b->judged);
+        b->bytes = 0;
+        b->given = b->judged = b->proved = NULL;
+    }
+}
+
+static void show_first(const struct buffer *b, const uint8_t *expected) {
+    const uint8_t *proved = b->proved;
+    size_t at = 0;
+    while (proved[at] == expected[at]) at++;
+    fprintf(stderr, "first at byte %zu of %zu (word %zu): %02x, expected %02x\n", at, b->bytes, at / 4, proved[at], expected[at]);
+}
+
+/* The proved library's buffers are the judge's. */
+static void same_buffers(void) {
+    for (int i = 0; i < BUFFERS; i++) {
+        struct buffer *b = &buffers[i];
+        if (b->bytes == 0 || memcmp(b->proved, b->judged, b->bytes) == 0) continue;
+        show_first(b, b->judged);
+        stop(names[i]);
+    }
+}
+
+/* A buffer that is only read is as it was given. */
+static void only_read(int which) {
+    struct buffer *b = &buffers[which];
+    if (b->bytes == 0 || memcmp(b->proved, b->given, b->bytes) == 0) return;
+    show_first(b, b->given);
+    stop("a buffer that is only read was written");
+}
+
+#define PROVED(which) buffers[which].proved
+#define JUDGED(which) buffers[which].judged
+#define BYTES(which) buffers[which].bytes
+#define WORDS(which) (buffers[which].bytes / 4)
+#define NUMBERS(which) (buffers[which].bytes / 8)
+
+/* ---- Counters ---- */
+
+enum { ANSWERS = 128 };
+
+static uint64_t calls, answers[ANSWERS], built, longest_chain, longest_sheet, longest_run, completed;
+
+/* Coverage that the fuzzer would not see: the archive is not instrumented, so what a call left is shown to it as counters. */
+enum { KINDS = 1 << 14 };
+__attribute__((section("__libfuzzer_extra_counters"))) static uint8_t kinds[KINDS];
+
+static void show_kind(uint32_t a, uint32_t b, uint32_t c, uint32_t d) {
+    uint32_t hash = ((a * 31 + b) * 131 + c) * 1031 + d;
+    kinds[(hash * 2654435761u) >> 18] = 1;
+}
+
+
+static uint32_t magnitude(uint64_t n) {
+    uint32_t bits = 0;
+    for (; n > 0; n >>= 1) bits++;
+    return bits;
+}
+
+static void most(uint64_t *counter, uint64_t n) {
+    if (n > *counter) *counter = n;
+}
+
+static void agreed(uint32_t proved, uint32_t judged) {
+    if (proved != judged) {
+        fprintf(stderr, "answer %" PRIu32 ", the judge's %" PRIu32 "\n", proved, judged);
+        stop("the answer");
+    }
+    same_buffers();
+    calls++;
+    if (proved >= ANSWERS) stop("an answer that the header does not have");
+    answers[proved]++;
+    show_kind(1, proved, 0, 0);
+}
+
+/* ---- The recipe's bytes; zeros after the last one ---- */
+
+struct bytes {
+    const uint8_t *at;
+    size_t left;
+};
+
+static uint32_t take8(struct bytes *in) {
+    if (in->left == 0) return 0;
+    in->left--;
+    return *in->at++;
+}
+
+static uint32_t take16(struct bytes *in) {
+    uint32_t low = take8(in);
+    return low | take8(in) << 8;
+}
+
+static uint32_t take32(struct bytes *in) {
+    uint32_t low = take16(in);
+    return low | take16(in) << 16;
+}
+
+static uint64_t take64(struct bytes *in) {
+    uint64_t low = take32(in);
+    return low | (uint64_t)take32(in) << 32;
+}
+
+/* Mostly small, sometimes anything. */
+static uint32_t take_odd(struct bytes *in) {
+    uint32_t how = take8(in);
+    if (how < 128) return how % 8;
+    if (how < 192) return take16(in);
+    return take32(in);
+}
+
+/* A place below the limit, often one of the last: what is written from there goes round the end. */
+static uint32_t take_place(struct bytes *in, uint32_t limit) {
+    uint32_t place = take16(in);
+    return place >= 0xC000 ? limit - 1 - place % 8 % limit : place % limit;
+}
+
+static uint8_t filling[ROOM + 8 * 1024];
+
+static void make_filling(void) {
+    uint64_t x = 0;
+    for (size_t i = 0; i < sizeof filling; i += 8) {
+        x += 0x9E3779B97F4A7C15u;
+        uint64_t mixed = x ^ x >> 29;
+        memcpy(filling + i, &mixed, 8);
+    }
+}
+
+static void fill(void *buffer, size_t bytes, uint32_t seed) {
+    if (bytes > 0) memcpy(buffer, filling + 8 * (seed % 1024), bytes);
+}
+
+/* ---- Lengths ---- */
+
+struct lengths {
+    size_t main, data, code, log, block, result;
+};
+
+static size_t spoiled(struct bytes *in, size_t right) {
+    switch (take8(in) % 8) {
+    case 0: return 0;
+    case 1: return 1;
+    case 2: return right > 0 ? right - 1 : 1;
+    case 3: return right + 1;
+    case 4: return right + 16;
+    case 5: return right / 2;
+    case 6: return right + take8(in);
+    default: return right > 255 ? right - take8(in) : take8(in);
+    }
+}
+
+/* One length in eight recipes is wrong. */
+static void spoil(struct bytes *in, struct lengths *n) {
+    size_t *const all[] = {&n->main, &n->data, &n->code, &n->log, &n->block, &n->result};
+    uint32_t which = take8(in);
+    if (which < 224) return;
+    size_t *one = all[which % 6];
+    *one = spoiled(in, *one);
+}
+
+/* The numbers of a log: few, sometimes many, rarely odd or above the most. */
+static size_t log_numbers(struct bytes *in) {
+    uint32_t how = take8(in);
+    if (how < 160) return 2 * (size_t)how;
+    if (how < 240) return 2 * (size_t)(take16(in) % 4096);
+    if (how < 250) return TEJBORUN_LOG_NUMBERS;
+    if (how < 253) return TEJBORUN_LOG_NUMBERS - 2 * (size_t)take8(in);
+    if (how < 254) return TEJBORUN_LOG_NUMBERS + 2;
+    return take16(in);
+}
+
+static uint64_t used_entries(struct bytes *in, size_t numbers) {
+    uint32_t how = take8(in);
+    if (how < 96) return 0;
+    if (how < 200) return take16(in) % (numbers / 2 + 1);
+    if (how < 248) return numbers / 2 - (numbers / 2 > how % 4 ? how % 4 : 0);
+    if (how < 252) return numbers / 2 + 1;
+    return take64(in);
+}
+
+/* The bytes of main memory: few, sometimes many, rarely wrong. */
+static size_t main_bytes(struct bytes *in) {
+    uint32_t how = take8(in);
+    if (how < 128) return 16 * (size_t)(how + 1);
+    if (how < 244) return 16 * (size_t)(1 + take16(in) % 2048);
+    if (how < 250) return 16 * (size_t)(1 + take16(in));
+    if (how < 252) return TEJBORUN_MAIN_BYTES + 16;
+    if (how < 253) return 0;
+    return take16(in);
+}
+
+static void give_memories(struct bytes *in, const struct lengths *n) {
+    uint32_t seed = take8(in);
+    fill(give(DATA, 4 * n->data), 4 * n->data, seed);
+    fill(give(CODE, n->code), n->code, seed + 1);
+    fill(give(LOG, 8 * n->log), 8 * n->log, seed + 2);
+}
+
+static void give_result(size_t numbers) {
+    fill(give(RESULT, 8 * numbers), 8 * numbers, 77);
+}
+
+/* ---- Sheets ---- */
+
+enum { SHEET_ROOM = 131072 + 4096 + 64 };
+
+struct sheet {
+    size_t bytes;
+    uint8_t at[SHEET_ROOM];
+};
+
+static struct sheet sheet;
+
+static void add(struct sheet *s, const void *from, size_t bytes) {
+    if (bytes > SHEET_ROOM - s->bytes) bytes = SHEET_ROOM - s->bytes;
+    memcpy(s->at + s->bytes, from, bytes);
+    s->bytes += bytes;
+}
+
+struct record {
+    uint8_t mark[2], kind, count;
+    uint32_t address;
+};
+
+static struct record legal_record(struct bytes *in, uint32_t kind) {
+    static const uint32_t addresses[5] = {1, 1024, 2048, 1, 2048};
+    uint32_t count = take8(in), address = take_place(in, addresses[kind]);
+    struct record r = {{0x9E, 0x51}, (uint8_t)kind, (uint8_t)count, address};
+    if (count < 224) r.count = (uint8_t)(1 + count % 6);
+    if (kind == 4) r.count = 0;
+    return r;
+}
+
+static size_t body_bytes(const struct record *r) {
+    if (r->kind == 4) return 0;
+    return (size_t)r->count * (r->kind == 2 ? 8 : 16);
+}
+
+/* The body: from a seed, with its first entry raw. */
+static void make_body(struct bytes *in, const struct record *r, uint8_t *body) {
+    size_t bytes = body_bytes(r);
+    fill(body, bytes, take8(in));
+    for (size_t i = 0; i < 8 && i < bytes; i++) body[i] = (uint8_t)take8(in);
+    if (r->kind != 3) return;
+    for (size_t i = 0; i < bytes; i++)
+        if (i % 16 > 8) body[i] = 0;
+}
+
+/* Starts in a row: the densest sheets, up to the longest and beyond. */
+static void add_starts(struct bytes *in, struct sheet *s) {
+    uint32_t count = take16(in) % 21848;
+    for (uint32_t i = 0; i < count; i++) {
+        const uint8_t start[6] = {0x9E, 0x51, 4, 0, (uint8_t)i, (uint8_t)(i >> 8 & 7)};
+        add(s, start, 6);
+    }
+}
+
+static void add_raw(struct bytes *in, struct sheet *s) {
+    for (uint32_t count = take8(in) % 32; count > 0; count--) {
+        uint8_t raw = (uint8_t)take8(in);
+        add(s, &raw, 1);
+    }
+}
+
+/* One fault in a record, by number. */
+static void spoil_record(struct bytes *in, uint32_t fault, struct record *r) {
+    switch (fault) {
+    case 0: r->mark[take8(in) % 2] = (uint8_t)take8(in); break;
+    case 1: r->kind = (uint8_t)take8(in); break;
+    case 2: r->count = (uint8_t)take8(in) % 3; break;
+    default: r->address = take16(in); break;
+    }
+}
+
+static void add_record(struct bytes *in, struct sheet *s) {
+    static uint8_t body[255 * 16];
+    uint32_t op = take8(in), fault = op >> 2;
+    if (fault == 63) return add_raw(in, s);
+    if (fault == 62) return add_starts(in, s);
+    struct record r = legal_record(in, 1 + op % 4);
+    size_t bytes = body_bytes(&r);
+    make_body(in, &r, body);
+    if (fault >= 58) spoil_record(in, fault - 58, &r);
+    if (fault == 57 && bytes > 0) body[take16(in) % bytes] ^= (uint8_t)(1 + take8(in) % 255);
+    if (fault == 56 && bytes > 0) bytes -= 1 + take16(in) % bytes;
+    const uint8_t header[6] = {r.mark[0], r.mark[1], r.kind, r.count, (uint8_t)r.address, (uint8_t)(r.address >> 8)};
+    add(s, header, 6);
+    add(s, body, bytes);
+}
+
+static void give_sheet(struct bytes *in) {
+    sheet.bytes = 0;
+    while (in->left > 0 && sheet.bytes <= TEJBORUN_SHEET_BYTES) add_record(in, &sheet);
+    void *to = give(SHEET, sheet.bytes);
+    if (sheet.bytes > 0) memcpy(to, sheet.at, sheet.bytes);
+    most(&longest_sheet, sheet.bytes);
+}
+
+/* The bytes of the sheet's chain, or 0 where it is refused: the judge says it. */
+static size_t chain_bytes(void) {
+    static uint8_t output[TEJBORUN_CHAIN_BYTES + 64];
+    size_t answer = judge_build(buffers[SHEET].given, BYTES(SHEET), output, sizeof output);
+    return answer % 16 == 0 ? answer : 0;
+}
+
+/* ---- State blocks ---- */
+
+static void put_path(struct bytes *in, uint32_t *path) {
+    path[0] = take32(in);
+    path[1] = take8(in) & 1;
+    if (path[1] == 0) return;
+    uint32_t how = take8(in);
+    path[2] = how % 3;
+    path[3] = 1 + (how < 200 ? take8(in) % 16 : take16(in) % 32767);
+    path[4] = how >> 7;
+    path[5] = 1 + take8(in) % 16;
+    path[6] = take32(in);
+    path[7] = take32(in);
+    uint32_t units = path[3] * path[5];
+    uint32_t all = path[2] == 0 ? units : path[2] == 1 ? (units + 1) / 2 : path[3];
+    path[8] = 1 + take32(in) % all;
+}
+
+static void put_registers(struct bytes *in, uint32_t *unit) {
+    unit[0] = take8(in);
+    unit[1] = take8(in);
+    if (unit[1] > unit[0] && take8(in) < 224) unit[1] = 1 + unit[1] % (unit[0] + 1);
+    for (int i = 2; i < 8; i++) unit[i] = take16(in) % 1024;
+    unit[8] = take8(in) & 1;
+    unit[9] = take8(in) % 3;
+    unit[10] = take8(in) & 1;
+    unit[11] = take16(in);
+    unit[12] = take32(in);
+    for (int i = 13; i < 21; i++) unit[i] = take32(in);
+}
+
+/* All words of the payload of an UNPACK. */
+static uint32_t unpack_words(uint32_t format, uint32_t count) {
+    uint32_t bits = format == 15 ? 16 : ((format >> 2) + 1) * (32 >> (format & 3));
+    return (bits * count + 31) / 32;
+}
+
+static void put_waiting(struct bytes *in, uint32_t *unit) {
+    uint32_t code = take8(in) % 8, all = 1;
+    unit[21] = code;
+    if (code == 0) return;
+    unit[22] = take8(in) & 1;
+    if (code == 4 || code == 7) unit[25] = 1 + take8(in);
+    if (code == 2 || code == 3) all = 4;
+    if (code == 4) unit[24] = take_place(in, 2048), all = 2 * unit[25];
+    if (code == 5 || code == 6) all = take8(in) < 192 ? 16 : 65536;
+    if (code == 7) {
+        uint32_t format = take8(in) % 16;
+        unit[26] = format % 4 == 3 ? 15 : format;
+        unit[24] = take_place(in, 1024);
+        unit[27] = take8(in) & 1;
+        unit[28] = take8(in) & 1;
+        for (int i = 29; i < 32; i++) unit[i] = take32(in);
+        all = unpack_words(unit[26], unit[25]);
+    }
+    unit[23] = 1 + take16(in) % all;
+}
+
+/* Where the chain stands. */
+static void put_place(struct bytes *in, uint32_t *block, size_t quadwords) {
+    uint32_t limit = (uint32_t)quadwords + 2;
+    block[0] = 1 + take8(in) % 2;
+    block[1] = 16 * (take16(in) % limit);
+    block[2] = block[0] == 1 ? take8(in) & 1 : 0;
+    block[3] = take8(in) < 32;
+    block[4] = take8(in) % 3;
+    for (uint32_t i = 0; i < block[4]; i++) block[5 + i] = 16 * (take16(in) % limit % 65537);
+    if (block[2] == 1 && take8(in) % 2 == 1) {
+        block[7] = 1;
+        block[8] = 16 * (take16(in) % limit) + (take8(in) % 2 == 1 ? 12 : 8);
+    }
+    uint32_t pending = take8(in) % 64;
+    if (pending == 0) return;
+    uint32_t words = block[0] == 2 ? 4 * pending : pending;
+    block[9] = words;
+    block[10] = 16 * (take16(in) % limit) + 4 * (-words & 3);
+}
+
+/* A few words raw. */
+static void put_raw(struct bytes *in, uint32_t *block) {
+    for (uint32_t count = 1 + take8(in) % 3; count > 0; count--) {
+        uint32_t which = take8(in) % TEJBORUN_BLOCK_WORDS;
+        block[which] = take_odd(in);
+    }
+}
+
+/* A state block, in range but for the raw words. */
+static void give_block(struct bytes *in, const struct lengths *n) {
+    uint32_t block[TEJBORUN_BLOCK_WORDS] = {0};
+    uint32_t shape = take8(in);
+    block[0] = 1;
+    if (shape & 1) put_place(in, block, n->main / 16);
+    uint64_t used = used_entries(in, n->log);
+    block[11] = (uint32_t)used;
+    block[12] = (uint32_t)(used >> 32);
+    if (shape & 2) put_registers(in, block + 13);
+    if (shape & 4) put_waiting(in, block + 13);
+    if (shape & 8) put_path(in, block + 45);
+    if (shape & 16) put_path(in, block + 54);
+    if (shape >= 192) put_raw(in, block);
+    uint32_t *to = give(BLOCK, 4 * n->block);
+    fill(to, 4 * n->block, shape);
+    if (n->block > 0) memcpy(to, block, 4 * (n->block < TEJBORUN_BLOCK_WORDS ? n->block : TEJBORUN_BLOCK_WORDS));
+}
+
+/* ---- Main memory with a chain ---- */
+
+struct writer {
+    uint8_t *main;
+    size_t words, at, tag; /* tag: the word of the open tag, or `words` where none is */
+};
+
+static void put_word(struct writer *w, uint32_t word) {
+    if (w->at >= w->words) return;
+    memcpy(w->main + 4 * w->at, &word, 4);
+    w->at++;
+}
+
+static void align(struct writer *w, size_t place) {
+    while (w->at < w->words && w->at % 4 != place) put_word(w, 0);
+}
+
+/* The open tag gets the quadwords after it, and what follows them for an address where it has none. */
+static void close_tag(struct writer *w) {
+    align(w, 0);
+    size_t tag = w->tag;
+    w->tag = w->words;
+    if (tag + 4 > w->at) return;
+    uint32_t words[2];
+    memcpy(words, w->main + 4 * tag, 8);
+    words[0] = (words[0] & 0xFFFF0000u) | (uint32_t)(((w->at - tag) / 4 - 1) & 0xFFFF);
+    if (words[1] == 0) words[1] = (uint32_t)(4 * w->at);
+    memcpy(w->main + 4 * tag, words, 8);
+}
+
+static uint32_t legal_code(struct bytes *in) {
+    static const uint8_t commands[] = {0x00, 0x01, 0x01, 0x02, 0x03, 0x04, 0x05, 0x05, 0x06, 0x07, 0x10, 0x11, 0x13, 0x14, 0x14, 0x15, 0x17, 0x17, 0x20, 0x30,
+                                       0x31, 0x4A, 0x50, 0x51, 0x60, 0x61, 0x62, 0x64, 0x65, 0x66, 0x68, 0x69, 0x6A, 0x6C, 0x6D, 0x6E, 0x6F, 0x70, 0x71, 0x72,
+                                       0x74, 0x75, 0x76, 0x78, 0x79, 0x7A, 0x7C, 0x7D, 0x7E, 0x7F};
+    uint32_t how = take8(in), num = take8(in), imm = take16(in);
+    if (how >= 250) return how << 24 | num << 16 | imm;
+    uint32_t command = commands[how % sizeof commands];
+    if (command == 1 && imm % 4 != 0) imm = ((imm & 7) + 1) | (1 + (imm >> 8) % ((imm & 7) + 1)) << 8;
+    if (command == 5 && imm % 4 == 3 && num % 8 != 0) imm--;
+    if (command >= 0x50 && command < 0x60 && imm % 8 != 0) imm %= 8;
+    if (command >= 0x4A && num < 224) num = 1 + num % 8;
+    if (command == 0x4A || command >= 0x60) imm |= (imm >> 11 & 3) == 3 ? 0x7F8 : 0;
+    return (how >= 200 ? 1u << 31 : 0) | command << 24 | num << 16 | imm;
+}
+
+static void put_gif_tag(struct bytes *in, struct writer *w) {
+    uint32_t how = take8(in), low = take16(in), high = take16(in);
+    uint32_t nloop = how < 224 ? low % 6 : low & 0x7FFF;
+    align(w, 0);
+    put_word(w, nloop | (low & 0x8000));
+    put_word(w, high << 14 | (how & 3) << 26 | (how >> 2 & 15) << 28);
+    put_word(w, take32(in));
+    put_word(w, take32(in));
+}
+
+static void put_tag(struct bytes *in, struct writer *w) {
+    close_tag(w);
+    static const uint8_t ids[16] = {1, 0, 1, 2, 1, 3, 1, 4, 1, 5, 1, 6, 2, 7, 5, 6};
+    uint32_t how = take8(in), id = ids[how % 16];
+    uint32_t addr = how & 16 ? 0 : 16 * (take16(in) % (uint32_t)(w->words / 4 + 1));
+    if (how < 64 || id == 0 || id == 3 || id == 4) w->tag = w->words;
+    else w->tag = w->at;
+    if (how >= 248) addr = take32(in);
+    put_word(w, id << 28 | (take8(in) % 8 == 0 ? take16(in) : take8(in) % 8));
+    put_word(w, addr);
+    put_word(w, take8(in) % 4 == 0 ? legal_code(in) : 0);
+    put_word(w, take8(in) % 4 == 0 ? legal_code(in) : 0);
+}
+
+/* DIRECT in the last word of a quadword, then the GIF's tag. */
+static void put_direct(struct bytes *in, struct writer *w) {
+    align(w, 3);
+    put_word(w, 0x50000000u | (take8(in) & 1) << 24 | take8(in) % 9);
+    put_gif_tag(in, w);
+}
+
+static void put_filling(struct bytes *in, struct writer *w) {
+    uint32_t count = take8(in), seed = take8(in);
+    for (uint32_t i = 0; i < count; i++) {
+        uint32_t word;
+        memcpy(&word, filling + 8 * seed + 4 * i, 4);
+        put_word(w, word);
+    }
+}
+
+static void put_piece(struct bytes *in, struct writer *w) {
+    uint32_t op = take8(in);
+    switch (op % 8) {
+    case 0:
+    case 1: put_tag(in, w); break;
+    case 2:
+    case 3:
+    case 4: put_word(w, legal_code(in)); break;
+    case 5: op < 128 ? put_gif_tag(in, w) : put_direct(in, w); break;
+    case 6: put_word(w, take32(in)); break;
+    default: put_filling(in, w); break;
+    }
+}
+
+static void give_main(struct bytes *in, size_t bytes) {
+    uint8_t *main = give(MAIN, bytes);
+    if (bytes > 0) memset(main, 0, bytes);
+    struct writer w = {main, bytes / 4, 0, bytes / 4};
+    while (in->left > 0 && w.at < w.words) put_piece(in, &w);
+    close_tag(&w);
+    put_word(&w, 0x70000000u);
+}
+
+/* ---- The entry points ---- */
+
+static void count_run(uint32_t answer) {
+    if (NUMBERS(RESULT) == 0 || WORDS(BLOCK) != TEJBORUN_BLOCK_WORDS || answer == TEJBORUN_SHORT) return;
+    uint64_t steps;
+    memcpy(&steps, PROVED(RESULT), 8);
+    const uint32_t *block = PROVED(BLOCK);
+    most(&longest_run, steps);
+    completed += steps;
+    show_kind(2, answer, magnitude(steps), block[13 + 21]);
+    show_kind(3, answer, block[0] * 8 + block[2] * 4 + block[4], block[46] + 2 * block[55]);
+    show_kind(4, block[13 + 21], block[13 + 26], block[13 + 9]);
+    if (block[46] == 1) show_kind(5, answer, block[47], block[50]);
+    if (block[55] == 1) show_kind(6, answer, block[56], block[59]);
+}
+
+static void fuzz_build(struct bytes *in) {
+    uint32_t how = take8(in), by = take8(in);
+    give_sheet(in);
+    size_t room = chain_bytes();
+    if (how >= 192) room = how >= 224 ? room + by : room - (room < by ? room : by);
+    fill(give(MAIN, room), room, by);
+    lend_all();
+    size_t proved = tejborun_build(PROVED(SHEET), BYTES(SHEET), PROVED(MAIN), BYTES(MAIN));
+    size_t judged = judge_build(JUDGED(SHEET), BYTES(SHEET), JUDGED(MAIN), BYTES(MAIN));
+    if (proved != judged) fprintf(stderr, "answer %zu, the judge's %zu\n", proved, judged), stop("the answer");
+    only_read(SHEET);
+    bool whole = proved % 16 == 0;
+    agreed(whole ? 0 : (uint32_t)proved, whole ? 0 : (uint32_t)judged);
+    if (!whole) return;
+    built++;
+    most(&longest_chain, proved);
+    show_kind(7, magnitude(proved), 0, 0);
+}
+
+static void fuzz_steps(struct bytes *in) {
+    uint32_t how = take8(in);
+    give_sheet(in);
+    give_result(how < 240 ? 2 : how % 4);
+    lend_all();
+    uint32_t proved = tejborun_steps(PROVED(SHEET), BYTES(SHEET), PROVED(RESULT), NUMBERS(RESULT));
+    agreed(proved, judge_steps(JUDGED(SHEET), BYTES(SHEET), JUDGED(RESULT), NUMBERS(RESULT)));
+    only_read(SHEET);
+    if (proved == TEJBORUN_SHORT) return;
+    const uint64_t *result = PROVED(RESULT);
+    most(&longest_run, result[0]);
+    show_kind(8, proved, magnitude(result[0]), magnitude(result[1]));
+}
+
+static void fuzz_meaning(struct bytes *in) {
+    struct lengths n = {0, TEJBORUN_DATA_WORDS, TEJBORUN_CODE_BYTES, log_numbers(in), TEJBORUN_BLOCK_WORDS, 2};
+    spoil(in, &n);
+    uint64_t used = used_entries(in, n.log);
+    give_memories(in, &n);
+    give_result(n.result);
+    give_sheet(in);
+    lend_all();
+    uint32_t proved = tejborun_meaning(PROVED(SHEET), BYTES(SHEET), PROVED(DATA), WORDS(DATA), PROVED(CODE), BYTES(CODE), PROVED(LOG), NUMBERS(LOG), used,
+                                       PROVED(RESULT), NUMBERS(RESULT));
+    agreed(proved, judge_meaning(JUDGED(SHEET), BYTES(SHEET), JUDGED(DATA), WORDS(DATA), JUDGED(CODE), BYTES(CODE), JUDGED(LOG), NUMBERS(LOG), used,
+                                 JUDGED(RESULT), NUMBERS(RESULT)));
+    only_read(SHEET);
+    if (proved == 0) most(&longest_run, *(const uint64_t *)PROVED(RESULT) - used);
+    if (proved == 0) show_kind(9, magnitude(*(const uint64_t *)PROVED(RESULT)), magnitude(used), 0);
+}
+
+static uint32_t call_reset(void) {
+    uint32_t proved = tejborun_reset(PROVED(BLOCK), WORDS(BLOCK));
+    agreed(proved, judge_reset(JUDGED(BLOCK), WORDS(BLOCK)));
+    return proved;
+}
+
+static uint32_t call_start(struct bytes *in) {
+    uint32_t how = take8(in);
+    uint32_t channel = how < 232 ? 1 + how % 2 : take_odd(in);
+    uint32_t tadr = take8(in) < 232 ? 16 * take16(in) : take32(in);
+    uint32_t tte = take8(in) < 232 ? (channel == 1 ? how >> 1 & 1 : how >= 200) : take_odd(in);
+    uint32_t proved = tejborun_start(PROVED(BLOCK), WORDS(BLOCK), channel, tadr, tte);
+    agreed(proved, judge_start(JUDGED(BLOCK), WORDS(BLOCK), channel, tadr, tte));
+    return proved;
+}
+
+/* A start on the block that is given, then a reset and another start. */
+static void fuzz_start(struct bytes *in) {
+    struct lengths n = {1048576, TEJBORUN_DATA_WORDS, TEJBORUN_CODE_BYTES, 256, TEJBORUN_BLOCK_WORDS, 2};
+    spoil(in, &n);
+    give_block(in, &n);
+    lend_all();
+    uint32_t answer = call_start(in);
+    const uint32_t *block = PROVED(BLOCK);
+    if (WORDS(BLOCK) == TEJBORUN_BLOCK_WORDS) show_kind(10, answer, block[13 + 21], block[46] * 2 + block[55]);
+    call_reset();
+    call_start(in);
+    call_start(in);
+}
+
+static uint32_t judged_run(uint64_t allowance) {
+    return judge_run(JUDGED(MAIN), BYTES(MAIN), JUDGED(DATA), WORDS(DATA), JUDGED(CODE), BYTES(CODE), JUDGED(LOG), NUMBERS(LOG), JUDGED(BLOCK), WORDS(BLOCK),
+                     allowance, JUDGED(RESULT), NUMBERS(RESULT));
+}
+
+/* The allowance of a run. A chain may never end: a large allowance is given only where the judge came to an end with a smaller one. */
+static uint64_t run_allowance(struct bytes *in) {
+    uint32_t how = take8(in);
+    if (how < 64) return how;
+    if (how < 160) return take16(in);
+    const uint64_t limit = 20000;
+    lend_all();
+    if (judged_run(limit) == TEJBORUN_ALLOWANCE) return limit;
+    return how < 240 ? UINT64_MAX : UINT64_MAX - take32(in);
+}
+
+static void one_run(struct bytes *in) {
+    uint64_t allowance = run_allowance(in);
+    lend_all();
+    uint32_t proved = tejborun_run(PROVED(MAIN), BYTES(MAIN), PROVED(DATA), WORDS(DATA), PROVED(CODE), BYTES(CODE), PROVED(LOG), NUMBERS(LOG), PROVED(BLOCK),
+                                   WORDS(BLOCK), allowance, PROVED(RESULT), NUMBERS(RESULT));
+    agreed(proved, judged_run(allowance));
+    only_read(MAIN);
+    count_run(proved);
+    keep_all();
+}
+
+/* Up to four runs, each on what the one before left; between them perhaps a start. */
+static void fuzz_run(struct bytes *in) {
+    struct lengths n = {main_bytes(in), TEJBORUN_DATA_WORDS, TEJBORUN_CODE_BYTES, log_numbers(in), TEJBORUN_BLOCK_WORDS, 1};
+    spoil(in, &n);
+    uint8_t calls_of[24];
+    for (size_t i = 0; i < sizeof calls_of; i++) calls_of[i] = (uint8_t)take8(in);
+    give_block(in, &n);
+    give_memories(in, &n);
+    give_result(n.result);
+    give_main(in, n.main);
+    struct bytes order = {calls_of, sizeof calls_of};
+    for (uint32_t runs = 1 + take8(&order) % 4; runs > 0; runs--) {
+        one_run(&order);
+        if (take8(&order) < 192) continue;
+        lend_all();
+        call_start(&order);
+        keep_all();
+    }
+}
+
+static void fuzz_build_and_run(struct bytes *in) {
+    struct lengths n = {main_bytes(in), TEJBORUN_DATA_WORDS, TEJBORUN_CODE_BYTES, log_numbers(in), TEJBORUN_BLOCK_WORDS, 2};
+    uint32_t roomy = take8(in), how = take8(in), quadword = take16(in);
+    uint64_t allowance = how < 64 ? take16(in) : UINT64_MAX;
+    uint32_t address = how < 240 ? 16 * (how % 2 == 0 ? 0 : quadword % 256) : take32(in);
+    struct lengths wrong = n;
+    spoil(in, &wrong);
+    give_block(in, &wrong);
+    give_memories(in, &wrong);
+    give_result(wrong.result);
+    give_sheet(in);
+    size_t needed = chain_bytes() + address;
+    if (roomy < 224 && wrong.main == n.main && needed <= TEJBORUN_MAIN_BYTES && needed > 0) wrong.main = needed + 15 - (needed + 15) % 16;
+    fill(give(MAIN, wrong.main), wrong.main, roomy);
+    lend_all();
+    uint32_t proved = tejborun_build_and_run(PROVED(SHEET), BYTES(SHEET), PROVED(MAIN), BYTES(MAIN), address, PROVED(DATA), WORDS(DATA), PROVED(CODE),
+                                             BYTES(CODE), PROVED(LOG), NUMBERS(LOG), PROVED(BLOCK), WORDS(BLOCK), allowance, PROVED(RESULT), NUMBERS(RESULT));
+    agreed(proved, judge_build_and_run(JUDGED(SHEET), BYTES(SHEET), JUDGED(MAIN), BYTES(MAIN), address, JUDGED(DATA), WORDS(DATA), JUDGED(CODE), BYTES(CODE),
+                                       JUDGED(LOG), NUMBERS(LOG), JUDGED(BLOCK), WORDS(BLOCK), allowance, JUDGED(RESULT), NUMBERS(RESULT)));
+    only_read(SHEET);
+    count_run(proved);
+}
+
+/* A change to a buffer, where it has the place. */
+static void change(struct bytes *in, int which) {
+    uint8_t *to = buffers[which].given;
+    uint32_t at = take32(in);
+    if (BYTES(which) > 0) to[at % BYTES(which)] ^= (uint8_t)take8(in);
+}
+
+static void give_second(int first, int second, size_t bytes) {
+    uint8_t *to = give(second, bytes);
+    fill(to, bytes, 5);
+    size_t common = bytes < BYTES(first) ? bytes : BYTES(first);
+    if (common > 0) memcpy(to, buffers[first].given, common);
+}
+
+/* The second board is the first with a few changes. */
+static void fuzz_compare(struct bytes *in) {
+    struct lengths a = {0, TEJBORUN_DATA_WORDS, TEJBORUN_CODE_BYTES, log_numbers(in), TEJBORUN_BLOCK_WORDS, 6}, b = a;
+    uint32_t how = take8(in);
+    if (how < 96) b.log = log_numbers(in);
+    spoil(in, &a);
+    spoil(in, &b);
+    uint64_t used_a = used_entries(in, a.log), used_b = how % 2 == 0 ? used_a : used_entries(in, b.log);
+    give_memories(in, &a);
+    give_second(DATA, DATA_B, 4 * b.data);
+    give_second(CODE, CODE_B, b.code);
+    give_second(LOG, LOG_B, 8 * b.log);
+    give_result(a.result);
+    while (in->left > 0) change(in, DATA_B + (int)(take8(in) % 3));
+    lend_all();
+    uint32_t proved = tejborun_compare(PROVED(DATA), WORDS(DATA), PROVED(CODE), BYTES(CODE), PROVED(LOG), NUMBERS(LOG), used_a, PROVED(DATA_B), WORDS(DATA_B),
+                                       PROVED(CODE_B), BYTES(CODE_B), PROVED(LOG_B), NUMBERS(LOG_B), used_b, PROVED(RESULT), NUMBERS(RESULT));
+    agreed(proved, judge_compare(JUDGED(DATA), WORDS(DATA), JUDGED(CODE), BYTES(CODE), JUDGED(LOG), NUMBERS(LOG), used_a, JUDGED(DATA_B), WORDS(DATA_B),
+                                 JUDGED(CODE_B), BYTES(CODE_B), JUDGED(LOG_B), NUMBERS(LOG_B), used_b, JUDGED(RESULT), NUMBERS(RESULT)));
+    for (int i = 0; i < BUFFERS; i++)
+        if (i != RESULT) only_read(i);
+    if (proved > 1) return;
+    const uint64_t *result = PROVED(RESULT);
+    for (uint32_t i = 0; i < 6; i++) show_kind(11, i, magnitude(result[i]), proved);
+    most(&longest_run, result[1] + result[3] + result[5]);
+}
+
+/* ---- The program ---- */
+
+enum { entry_build, entry_steps, entry_meaning, entry_start, entry_run, entry_build_and_run, entry_compare };
+
+static const struct {
+    const char *name, *longest;
+    void (*fuzz)(struct bytes *in);
+} entries[] = {
+    {"build", "", fuzz_build},
+    {"steps", "most steps of a sheet", fuzz_steps},
+    {"meaning", "most entries of a sheet", fuzz_meaning},
+    {"start", "", fuzz_start},
+    {"run", "longest run", fuzz_run},
+    {"build_and_run", "longest run", fuzz_build_and_run},
+    {"compare", "most differences", fuzz_compare},
+};
+
+static void print_counters(void) {
+    fprintf(stderr, "%s: %" PRIu64 " calls; answers", entries[ENTRY].name, calls);
+    for (int i = 0; i < ANSWERS; i++)
+        if (answers[i] > 0) fprintf(stderr, " %d: %" PRIu64 ",", i, answers[i]);
+    if (built > 0) fprintf(stderr, " (0 is built) longest chain %" PRIu64 " bytes,", longest_chain);
+    if (longest_sheet > 0) fprintf(stderr, " longest sheet %" PRIu64 " bytes,", longest_sheet);
+    if (completed > 0) fprintf(stderr, " steps completed %" PRIu64 ",", completed);
+    if (*entries[ENTRY].longest) fprintf(stderr, " %s %" PRIu64 ",", entries[ENTRY].longest, longest_run);
+    fprintf(stderr, " nothing differs\n");
+}
+
+int LLVMFuzzerTestOneInput(const uint8_t *data, size_t size) {
+    static bool begun;
+    if (!begun) {
+        make_filling();
+        atexit(print_counters);
+    }
+    begun = true;
+    struct bytes in = {data, size};
+    entries[ENTRY].fuzz(&in);
+    drop_all();
+    return 0;
+}

@@ -1,0 +1,23 @@
+/* The second program's side of host/tejborun.h: the same functions under other names. */
+#ifndef JUDGE_H
+#define JUDGE_H
+
+#include <stddef.h>
+#include <stdint.h>
+
+size_t judge_build(const uint8_t *sheet, size_t sheet_bytes, uint8_t *output, size_t output_bytes);
+uint32_t judge_steps(const uint8_t *sheet, size_t sheet_bytes, uint64_t *result, size_t result_numbers);
+uint32_t judge_meaning(const uint8_t *sheet, size_t sheet_bytes, uint32_t *data, size_t data_words, uint8_t *code, size_t code_bytes, uint64_t *log,
+                       size_t log_numbers, uint64_t used, uint64_t *result, size_t result_numbers);
+uint32_t judge_reset(uint32_t *block, size_t block_words);
+uint32_t judge_start(uint32_t *block, size_t block_words, uint32_t channel, uint32_t tadr, uint32_t tte);
+uint32_t judge_run(const uint8_t *main, size_t main_bytes, uint32_t *data, size_t data_words, uint8_t *code, size_t code_bytes, uint64_t *log,
+                   size_t log_numbers, uint32_t *block, size_t block_words, uint64_t allowance, uint64_t *result, size_t result_numbers);
+uint32_t judge_build_and_run(const uint8_t *sheet, size_t sheet_bytes, uint8_t *main, size_t main_bytes, uint32_t address, uint32_t *data, size_t data_words,
+                             uint8_t *code, size_t code_bytes, uint64_t *log, size_t log_numbers, uint32_t *block, size_t block_words, uint64_t allowance,
+                             uint64_t *result, size_t result_numbers);
+uint32_t judge_compare(const uint32_t *data_a, size_t data_a_words, const uint8_t *code_a, size_t code_a_bytes, const uint64_t *log_a, size_t log_a_numbers,
+                       uint64_t used_a, const uint32_t *data_b, size_t data_b_words, const uint8_t *code_b, size_t code_b_bytes, const uint64_t *log_b,
+                       size_t log_b_numbers, uint64_t used_b, uint64_t *result, size_t result_numbers);
+
+#endif

@@ -1,0 +1,335 @@
+//! The second program behind the C interface of host/tejborun.h, under the names judge_*.
+//! The proved library has no part in it.
+
+// The modules bring more than the interface needs.
+#![allow(dead_code)]
+
+#[path = "../../../second/src/capture_cases.rs"]
+mod capture_cases;
+#[path = "../../../second/src/capture_counts.rs"]
+mod capture_counts;
+#[path = "../../../second/src/chain.rs"]
+mod chain;
+#[path = "../../../second/src/gif.rs"]
+mod gif;
+#[path = "../../../second/src/gif_cases.rs"]
+mod gif_cases;
+#[path = "../../../second/src/gif_counts.rs"]
+mod gif_counts;
+#[path = "../../../second/src/sheet.rs"]
+mod sheet;
+#[path = "../../../second/src/vif.rs"]
+mod vif;
+#[path = "../../../second/src/vif_cases.rs"]
+mod vif_cases;
+#[path = "../../../second/src/vif_counts.rs"]
+mod vif_counts;
+#[path = "../../../second/src/vif_unpack.rs"]
+mod vif_unpack;
+#[path = "../../../second/src/words.rs"]
+mod words;
+
+mod boards;
+
+use boards::Board;
+use capture_cases::Block;
+use chain::{Memories, State};
+use std::slice::{from_raw_parts, from_raw_parts_mut};
+
+const SHORT: u32 = 60;
+const REFUSED: u32 = 100;
+
+unsafe fn view<'a, T>(start: *const T, count: usize) -> &'a [T] {
+    if count == 0 {
+        return &[];
+    }
+    from_raw_parts(start, count)
+}
+
+unsafe fn lent<'a, T>(start: *mut T, count: usize) -> &'a mut [T] {
+    if count == 0 {
+        return &mut [];
+    }
+    from_raw_parts_mut(start, count)
+}
+
+/// The state of a block of 63 words; none where it exists in no state. A waiting STMASK with other
+/// than one word due exists in none (docs/FORMATS.md); the second program's own reader takes it as
+/// a state out of its range, which is refused alike but written back in its plain form.
+fn read_block(block: &[u32]) -> Option<State> {
+    let block: &Block = block.try_into().unwrap();
+    if block[34] == 1 && block[36] != 1 {
+        return None;
+    }
+    capture_cases::read_block(block)
+}
+
+fn write_block(block: &mut [u32], state: &State) {
+    block.copy_from_slice(&capture_cases::write_block(state));
+}
+
+/// The entries used of a block that may be no state's.
+fn used_in_block(block: &[u32]) -> u64 {
+    block[11] as u64 | (block[12] as u64) << 32
+}
+
+#[no_mangle]
+pub unsafe extern "C" fn judge_build(
+    sheet: *const u8,
+    sheet_bytes: usize,
+    output: *mut u8,
+    output_bytes: usize,
+) -> usize {
+    sheet::exported_number(view(sheet, sheet_bytes), lent(output, output_bytes))
+}
+
+#[no_mangle]
+pub unsafe extern "C" fn judge_steps(
+    sheet: *const u8,
+    sheet_bytes: usize,
+    result: *mut u64,
+    result_numbers: usize,
+) -> u32 {
+    if result_numbers < 2 {
+        return SHORT;
+    }
+    let (answer, steps, offset) = match sheet::steps(view(sheet, sheet_bytes)) {
+        Ok(steps) => (0, steps, 0),
+        Err((refusal, offset)) => (refusal, 0, offset),
+    };
+    lent(result, result_numbers)[..2].copy_from_slice(&[steps, offset as u64]);
+    answer
+}
+
+/// The entries used afterwards, or the refusal.
+fn meaning(sheet: &[u8], memories: &mut Memories, used: u64) -> Result<u64, sheet::Refusal> {
+    let (data, code, log) = (&mut memories.data, &mut memories.code, &mut memories.log);
+    vif::check_lengths(data.len(), code.len(), log.len(), used).map_err(|refusal| (refusal, 0))?;
+    let after = used + sheet::entries(sheet)?;
+    if 2 * after > log.len() as u64 {
+        return Err((gif::REFUSED_ROOM, 0));
+    }
+    let mut entries = Vec::new();
+    sheet::meaning(sheet, data, code, &mut entries)?;
+    let free = log[2 * used as usize..].chunks_mut(2);
+    for (place, (register, value)) in free.zip(entries) {
+        place.copy_from_slice(&[register, value]);
+    }
+    Ok(after)
+}
+
+#[no_mangle]
+pub unsafe extern "C" fn judge_meaning(
+    sheet: *const u8,
+    sheet_bytes: usize,
+    data: *mut u32,
+    data_words: usize,
+    code: *mut u8,
+    code_bytes: usize,
+    log: *mut u64,
+    log_numbers: usize,
+    used: u64,
+    result: *mut u64,
+    result_numbers: usize,
+) -> u32 {
+    if result_numbers < 2 {
+        return SHORT;
+    }
+    let mut memories = Memories {
+        main: &[],
+        data: lent(data, data_words),
+        code: lent(code, code_bytes),
+        log: lent(log, log_numbers),
+    };
+    let (answer, after, offset) = match meaning(view(sheet, sheet_bytes), &mut memories, used) {
+        Ok(after) => (0, after, 0),
+        Err((refusal, offset)) => (refusal, used, offset),
+    };
+    lent(result, result_numbers)[..2].copy_from_slice(&[after, offset as u64]);
+    answer
+}
+
+#[no_mangle]
+pub unsafe extern "C" fn judge_reset(block: *mut u32, block_words: usize) -> u32 {
+    if block_words != 63 {
+        return SHORT;
+    }
+    write_block(lent(block, block_words), &State::reset());
+    0
+}
+
+#[no_mangle]
+pub unsafe extern "C" fn judge_start(
+    block: *mut u32,
+    block_words: usize,
+    channel: u32,
+    tadr: u32,
+    tte: u32,
+) -> u32 {
+    if block_words != 63 {
+        return SHORT;
+    }
+    let block = lent(block, block_words);
+    let (Some(tte), Some(mut state)) = (vif_cases::bit(tte), read_block(block)) else {
+        return gif::REFUSED_RANGE;
+    };
+    let started = chain::start(&mut state, channel, tadr, tte);
+    write_block(block, &state);
+    started.err().unwrap_or(0)
+}
+
+/// The answer and the steps completed.
+fn run(memories: &mut Memories, block: &mut [u32], allowance: u64) -> (u32, u64) {
+    let Some(mut state) = read_block(block) else {
+        let lengths = chain::check_lengths(memories, used_in_block(block));
+        return (lengths.err().unwrap_or(gif::REFUSED_RANGE), 0);
+    };
+    let done = chain::run(&mut state, memories, allowance, |_, _, _| {});
+    write_block(block, &state);
+    done
+}
+
+#[no_mangle]
+pub unsafe extern "C" fn judge_run(
+    main: *const u8,
+    main_bytes: usize,
+    data: *mut u32,
+    data_words: usize,
+    code: *mut u8,
+    code_bytes: usize,
+    log: *mut u64,
+    log_numbers: usize,
+    block: *mut u32,
+    block_words: usize,
+    allowance: u64,
+    result: *mut u64,
+    result_numbers: usize,
+) -> u32 {
+    if block_words != 63 || result_numbers < 1 {
+        return SHORT;
+    }
+    let mut memories = Memories {
+        main: view(main, main_bytes),
+        data: lent(data, data_words),
+        code: lent(code, code_bytes),
+        log: lent(log, log_numbers),
+    };
+    let (answer, steps) = run(&mut memories, lent(block, block_words), allowance);
+    lent(result, result_numbers)[0] = steps;
+    answer
+}
+
+/// Builds the chain in main memory and starts it in the block, or refuses; a refusal changes
+/// nothing but the words of the block that mean nothing.
+fn build_and_start(
+    sheet: &[u8],
+    main: &mut [u8],
+    address: u32,
+    block: &mut [u32],
+) -> Result<(), sheet::Refusal> {
+    let given = read_block(block).ok_or((gif::REFUSED_RANGE, 0))?;
+    write_block(block, &given);
+    let mut started = given;
+    chain::start(&mut started, 1, address, false).map_err(|refusal| (refusal, 0))?;
+    let from = main.len().min(address as usize);
+    sheet::build(sheet, &mut main[from..])?;
+    write_block(block, &started);
+    Ok(())
+}
+
+#[no_mangle]
+pub unsafe extern "C" fn judge_build_and_run(
+    sheet: *const u8,
+    sheet_bytes: usize,
+    main: *mut u8,
+    main_bytes: usize,
+    address: u32,
+    data: *mut u32,
+    data_words: usize,
+    code: *mut u8,
+    code_bytes: usize,
+    log: *mut u64,
+    log_numbers: usize,
+    block: *mut u32,
+    block_words: usize,
+    allowance: u64,
+    result: *mut u64,
+    result_numbers: usize,
+) -> u32 {
+    if block_words != 63 || result_numbers < 2 {
+        return SHORT;
+    }
+    let (main, block) = (lent(main, main_bytes), lent(block, block_words));
+    let (data, code) = (lent(data, data_words), lent(code, code_bytes));
+    let log = lent(log, log_numbers);
+    let result = &mut lent(result, result_numbers)[..2];
+    result.fill(0);
+    let lengths = Memories {
+        main,
+        data,
+        code,
+        log,
+    };
+    if let Err(refusal) = chain::check_lengths(&lengths, used_in_block(block)) {
+        if let Some(state) = read_block(block) {
+            write_block(block, &state);
+        }
+        return refusal;
+    }
+    if let Err((refusal, offset)) = build_and_start(view(sheet, sheet_bytes), main, address, block)
+    {
+        result[1] = offset as u64;
+        return refusal;
+    }
+    let mut memories = Memories {
+        main,
+        data,
+        code,
+        log,
+    };
+    let (answer, steps) = run(&mut memories, block, allowance);
+    result[0] = steps;
+    answer
+}
+
+#[no_mangle]
+pub unsafe extern "C" fn judge_compare(
+    data_a: *const u32,
+    data_a_words: usize,
+    code_a: *const u8,
+    code_a_bytes: usize,
+    log_a: *const u64,
+    log_a_numbers: usize,
+    used_a: u64,
+    data_b: *const u32,
+    data_b_words: usize,
+    code_b: *const u8,
+    code_b_bytes: usize,
+    log_b: *const u64,
+    log_b_numbers: usize,
+    used_b: u64,
+    result: *mut u64,
+    result_numbers: usize,
+) -> u32 {
+    if result_numbers < 6 {
+        return SHORT;
+    }
+    let a = Board {
+        data: view(data_a, data_a_words),
+        code: view(code_a, code_a_bytes),
+        log: view(log_a, log_a_numbers),
+        used: used_a,
+    };
+    let b = Board {
+        data: view(data_b, data_b_words),
+        code: view(code_b, code_b_bytes),
+        log: view(log_b, log_b_numbers),
+        used: used_b,
+    };
+    let (answer, numbers) = match boards::compare(&a, &b) {
+        Ok((same, numbers)) => (!same as u32, numbers),
+        Err(refusal) => (REFUSED + refusal, [0; 6]),
+    };
+    lent(result, result_numbers)[..6].copy_from_slice(&numbers);
+    answer
+}
