@@ -1,8 +1,32 @@
-// State blocks of cases, as results show them.
+// State blocks of cases, and states and answers as results show them.
+use chain::Answer;
 use chain::State;
 ghost use mathlib.Core.Path.{_≡_};
 ghost use lib.ListN.{set};
+ghost use Rattle.chain.specs.Run.{numberOf};
+ghost use Rattle.cases.specs.Memories.{ruled, wordFrom};
 ghost use Rattle.blocks.specs.Shown.{otherStmask, shownStmask, givenBlock, shownBlock};
+
+// The state block that starts at a place of a header.
+pub fn block_at(header: &[u8], at: u32) -> [u32; 63]
+    ensures { λ r. ⌜ r ≡ ruled (wordFrom (now (header .entry)) at) 63 ⌝ }
+{
+    let mut block = [0; 63];
+    cases::read_words(header, at, &mut block);
+    block
+}
+
+// The number of a run's answer.
+pub fn answer_number(answer: Answer) -> u32
+    ensures { λ r. ⌜ r ≡ numberOf answer ⌝ }
+{
+    match answer {
+        Answer::Done => 0,
+        Answer::Allowance => 90,
+        Answer::Interrupt => 91,
+        Answer::Refused(n) => n,
+    }
+}
 
 // The block with one word due in its unit block.
 fn with_one_due(block: [u32; 63]) -> [u32; 63]

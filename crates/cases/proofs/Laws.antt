@@ -47,7 +47,7 @@ sent-long xs out at i h f =
     rw (add-one, drop-cons xs i 0, ap (λ (s : Sent). s .out) f, ap (λ (s : Sent). s .at) f)
 
 -- words sent after words
-sent-joined : (xs ys out : List ℕ) (at : ℕ) → sentAll (sentAll out at xs .out) (sentAll out at xs .at) ys ≡ sentAll out at (xs ++ ys)
+pub sent-joined : (xs ys out : List ℕ) (at : ℕ) → sentAll (sentAll out at xs .out) (sentAll out at xs .at) ys ≡ sentAll out at (xs ++ ys)
 sent-joined [] ys out at = refl
 sent-joined (x ∷ xs) ys out at = sent-joined xs ys _ _
 

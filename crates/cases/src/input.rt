@@ -1,12 +1,13 @@
 // Parts of a case read, and the line about a damaged one.
 use wire::word_at;
 ghost use mathlib.Core.Path.{_≡_};
-ghost use lib.ListN.{length, drop};
+ghost use lib.ListN.{length};
 ghost use Rattle.cases.specs.Memories.{ruled, wordFrom};
+ghost use Rattle.cases.specs.Input.{PartRead};
 
 // Fills the start of a buffer from standard input, where the buffer has room; answers whether there was enough.
 pub fn read_part(buffer: &mut [u8], size: usize) -> bool
-    ensures { λ _. ⌜ drop size (now (buffer .exit)) ≡ drop size (now (buffer .entry)) ⌝ }
+    ensures { λ r. ⌜ PartRead (now (buffer .entry)) size r (now (buffer .exit)) ⌝ }
 {
     if buffer.len() < size {
         return false;

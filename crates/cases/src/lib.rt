@@ -1,9 +1,12 @@
-// What the programs that run cases share: words of a header, memories as a case fills them, and memories as results show them.
+// What the programs that run cases share: words of a header, memories as a case fills them, and memories and their changes as results show them.
+mod changes;
 mod fill;
 mod input;
 mod sum;
 mod whole;
 
+pub use changes::tell_changes;
+pub use changes::tell_long_changes;
 pub use fill::fill_bytes;
 pub use fill::fill_longs;
 pub use fill::fill_memories;

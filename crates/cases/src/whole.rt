@@ -15,17 +15,23 @@ fn wide(x: u8) -> u32
 }
 
 // A byte of a memory, 0 beyond its end.
-fn byte_at(memory: &[u8], i: usize) -> u32
-    ensures { λ r. ⌜ (r ≡ getD (now (memory .entry)) i 0) × (r < 256) ⌝ }
+pub(crate) fn byte_in(memory: &[u8], i: usize) -> u8
+    ensures { λ r. ⌜ r ≡ getD (now (memory .entry)) i 0 ⌝ }
 {
     if i < memory.len() {
-        return wide(memory[i]);
+        return memory[i];
     }
     0
 }
 
+fn byte_at(memory: &[u8], i: usize) -> u32
+    ensures { λ r. ⌜ (r ≡ getD (now (memory .entry)) i 0) × (r < 256) ⌝ }
+{
+    wide(byte_in(memory, i))
+}
+
 // Word k of a byte memory; what lies beyond its end is zero.
-fn byte_word(memory: &[u8], k: usize) -> u32
+pub(crate) fn byte_word(memory: &[u8], k: usize) -> u32
     requires { ⌜ 4 * k + 4 ≤ 2 ^ 64 ⌝ }
     ensures { λ r. ⌜ r ≡ byteWord (now (memory .entry)) k ⌝ }
 {

@@ -1,4 +1,7 @@
 // Runs a chain round after round, to be timed (docs/FORMATS.md, "Chain timing input").
+use cases::sum_of_bytes;
+use cases::sum_of_longs;
+use cases::sum_of_words;
 use chain::Answer;
 use chain::State;
 use wire::emit;
@@ -87,51 +90,17 @@ fn rounds(
     s
 }
 
-fn wide(x: u32) -> u64 {
-    x as u64
-}
-
-fn data_sum(data: &[u32]) -> u64 {
-    let mut total: u64 = 0;
-    let mut i = 0;
-    while i < data.len() {
-        total = std::num::wrapping_add_u64(total, wide(data[i]));
-        i += 1;
-    }
-    total
-}
-
-fn wide_byte(x: u8) -> u64 {
-    x as u64
-}
-
-fn code_sum(code: &[u8]) -> u64 {
-    let mut total: u64 = 0;
-    let mut i = 0;
-    while i < code.len() {
-        total = std::num::wrapping_add_u64(total, wide_byte(code[i]));
-        i += 1;
-    }
-    total
-}
-
-fn log_sum(log: &[u64]) -> u64 {
-    let mut total: u64 = 0;
-    let mut i = 0;
-    while i < log.len() {
-        total = std::num::wrapping_add_u64(total, log[i]);
-        i += 1;
-    }
-    total
-}
-
 fn time(main: &[u8], data: &mut [u32], code: &mut [u8], log: &mut [u64], channel: u32, count: u32) {
     let s = rounds(main, data, code, log, channel, count);
-    let sum = std::num::wrapping_add_u64(data_sum(data), code_sum(code));
+    let sum = std::num::wrapping_add_u64(sum_of_words(data), sum_of_bytes(code));
     let mut out = [0u8; 65536];
     let n = emit_long(&mut out, 0, s.steps);
     let n = emit(&mut out, n, s.stopped);
-    let n = emit_long(&mut out, n, std::num::wrapping_add_u64(sum, log_sum(log)));
+    let n = emit_long(
+        &mut out,
+        n,
+        std::num::wrapping_add_u64(sum, sum_of_longs(log)),
+    );
     wire::flush(&out, n);
 }
 

@@ -1,4 +1,5 @@
 // Gives quadwords to a path round after round, to be timed (docs/FORMATS.md, "GIF timing input").
+use cases::sum_of_longs;
 use gif::GifAnswer;
 use gif::Path;
 use gif::Place;
@@ -80,16 +81,6 @@ fn rounds(quads: &[u64], log: &mut [u64], count: u32) -> Running {
     s
 }
 
-fn sum(log: &[u64]) -> u64 {
-    let mut total: u64 = 0;
-    let mut i = 0;
-    while i < log.len() {
-        total = std::num::wrapping_add_u64(total, log[i]);
-        i += 1;
-    }
-    total
-}
-
 fn time(bytes: &[u8], quads: &mut [u64], log: &mut [u64]) {
     read_quads(bytes, quads);
     let s = rounds(quads, log, word_at(bytes, 0));
@@ -99,7 +90,7 @@ fn time(bytes: &[u8], quads: &mut [u64], log: &mut [u64]) {
     let n = emit_long(&mut out, n, s.used);
     let block = gif::path_block(path);
     let n = emit_all(&mut out, n, &block);
-    let n = emit_long(&mut out, n, sum(log));
+    let n = emit_long(&mut out, n, sum_of_longs(log));
     wire::flush(&out, n);
 }
 

@@ -1,4 +1,8 @@
 // Reads GIF cases from standard input and writes what each quadword leaves (docs/FORMATS.md, "GIF cases").
+use cases::fill_longs;
+use cases::read_words;
+use cases::tell_damaged;
+use cases::tell_long_changes;
 use gif::GifAnswer;
 use gif::HeldTag;
 use gif::Path;
@@ -25,90 +29,10 @@ struct Ended {
     whole: bool,
 }
 
-fn block_at(header: &[u8]) -> [u32; 9] {
-    [
-        word_at(header, 28),
-        word_at(header, 32),
-        word_at(header, 36),
-        word_at(header, 40),
-        word_at(header, 44),
-        word_at(header, 48),
-        word_at(header, 52),
-        word_at(header, 56),
-        word_at(header, 60),
-    ]
-}
-
-// The log as a case fills it.
-fn fill(log: &mut [u64], size: usize, first: u64) {
-    let mut x = first;
-    let mut i = 0;
-    while i < size {
-        put(log, i, x);
-        x = std::num::wrapping_add_u64(x, 11400714819323198485);
-        i += 1;
-    }
-}
-
-fn put(log: &mut [u64], i: usize, x: u64) {
-    if i < log.len() {
-        log[i] = x;
-    }
-}
-
-fn changed(log: &[u64], before: &[u64], i: usize) -> bool {
-    if log.len() <= i {
-        return false;
-    }
-    if before.len() <= i {
-        return false;
-    }
-    log[i] != before[i]
-}
-
-fn changes(log: &[u64], before: &[u64]) -> u32 {
-    let mut count: u32 = 0;
-    let mut i = 0;
-    while i < log.len() {
-        if changed(log, before, i) {
-            count = std::num::wrapping_add_u32(count, 1);
-        }
-        i += 1;
-    }
-    count
-}
-
-// Writes a number if it changed, and takes it over.
-fn emit_change(
-    out: &mut [u8; 65536],
-    at: usize,
-    log: &[u64],
-    before: &mut [u64],
-    i: usize,
-) -> usize {
-    if log.len() <= i {
-        return at;
-    }
-    if before.len() <= i {
-        return at;
-    }
-    let x = log[i];
-    if x == before[i] {
-        return at;
-    }
-    before[i] = x;
-    let n = emit(out, at, wire::low_word(i as u64));
-    emit_long(out, n, x)
-}
-
-fn emit_changes(out: &mut [u8; 65536], at: usize, log: &[u64], before: &mut [u64]) -> usize {
-    let mut n = at;
-    let mut i = 0;
-    while i < log.len() {
-        n = emit_change(out, n, log, before, i);
-        i += 1;
-    }
-    n
+fn block_of(header: &[u8]) -> [u32; 9] {
+    let mut block = [0; 9];
+    read_words(header, 28, &mut block);
+    block
 }
 
 fn number_of(answer: GifAnswer) -> u32 {
@@ -145,8 +69,7 @@ fn give(
     let n = emit_long(out, first, r.used);
     let block = shown(after, s.known, given);
     let m = emit_all(out, n, &block);
-    let k = emit(out, m, changes(log, before));
-    let at = emit_changes(out, k, log, before);
+    let at = tell_long_changes(out, m, log, before);
     Running {
         at,
         path: after,
@@ -258,24 +181,19 @@ fn run_whole(
     count: u32,
 ) -> Ended {
     let first = joined(word_at(header, 20), word_at(header, 24));
-    fill(log, log.len(), first);
-    fill(before, before.len(), first);
-    let given = block_at(header);
+    fill_longs(log, first);
+    fill_longs(before, first);
+    let given = block_of(header);
     let s = started(at, given, joined(word_at(header, 12), word_at(header, 16)));
     give_all(out, s, given, count, log, before)
 }
 
-// Writes out the results and the line about a damaged case.
-fn tell_damaged(out: &[u8; 65536], at: usize, number: u64) {
-    wire::flush(out, at);
-    io::write_all(1, b"damaged case ");
-    io::print_decimal(1, number);
-    io::write_all(1, b"\n");
-}
-
-fn run_all(out: &mut [u8; 65536], log: &mut [u64], before: &mut [u64]) {
-    let mut space = [0u8; 64];
-    let header: &mut [u8] = &mut space;
+fn run_all(
+    out: &mut [u8; 65536],
+    header: &mut [u8; 64],
+    log: &mut [u64; 131080],
+    before: &mut [u64; 131080],
+) {
     let mut at = 0;
     let mut number: u64 = 0;
     while number < 18446744073709551615 {
@@ -300,7 +218,8 @@ fn run_all(out: &mut [u8; 65536], log: &mut [u64], before: &mut [u64]) {
 
 fn main() {
     let mut out = [0u8; 65536];
+    let mut header = [0u8; 64];
     let mut log = [0u64; 131080];
     let mut before = [0u64; 131080];
-    run_all(&mut out, &mut log, &mut before);
+    run_all(&mut out, &mut header, &mut log, &mut before);
 }

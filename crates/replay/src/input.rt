@@ -1,4 +1,5 @@
 // What follows a case's header, read into memory: its calls, and main memory.
+use cases::read_part;
 use wire::word_at;
 ghost use Prim.Native.Nat.{_≤_};
 
@@ -11,15 +12,6 @@ pub(crate) fn least(a: usize, b: usize) -> usize
 // Word j of call k.
 pub(crate) fn call_word(calls: &[u8], k: u32, j: u32) -> u32 {
     word_at(calls, k as usize * 16 + j as usize * 4)
-}
-
-// Fills the start of a buffer from standard input, if there is enough.
-fn read_part(buffer: &mut [u8], size: usize) -> bool {
-    if buffer.len() < size {
-        return false;
-    }
-    let got = io::read_full(0, &mut buffer[..size]);
-    got == size
 }
 
 fn call_right(kind: u32) -> bool {

@@ -1,31 +1,25 @@
 // Reads captures from standard input and writes what each call leaves (docs/FORMATS.md, "Captures").
-mod changes;
 mod input;
-mod memories;
 mod run;
 mod start;
 mod sums;
-mod whole;
 
+use cases::fill_memories;
+use cases::tell_damaged;
 use chain::State;
 use input::least;
 use input::read_case;
-use memories::fill_code;
-use memories::fill_data;
-use memories::fill_log;
 use run::run_calls;
 use start::case_of;
 use start::state_of;
 use wire::joined;
 use wire::word_at;
 
-// A case but for its memories and calls: how many calls, whether results show whole memories, and its state block as it is shown where it is no state's.
-// `known` says whether it is a state's.
+// A case but for its memories and calls: how many calls, whether results show whole memories, and its state block.
 struct Case {
     count: u32,
     whole: bool,
-    known: bool,
-    given: [u32; 63],
+    block: [u32; 63],
 }
 
 // Where the results stand, and the state that is given to the next call.
@@ -38,14 +32,6 @@ struct Running {
 struct Ended {
     at: usize,
     whole: bool,
-}
-
-// The memories as a case fills them.
-fn fill_all(header: &[u8], data: &mut [u32], code: &mut [u8], log: &mut [u64]) {
-    let first = joined(word_at(header, 24), word_at(header, 28));
-    fill_data(data, first);
-    fill_code(code, std::num::wrapping_add_u64(first, 1));
-    fill_log(log, std::num::wrapping_add_u64(first, 2));
 }
 
 // Main memory beyond the words that a case gives.
@@ -79,8 +65,9 @@ fn run_case(
     log_before: &mut [u64],
 ) -> Ended {
     clear(main, word_at(header, 8) as usize * 4);
-    fill_all(header, data, code, log);
-    fill_all(header, data_before, code_before, log_before);
+    let first = joined(word_at(header, 24), word_at(header, 28));
+    fill_memories(data, code, log, first);
+    fill_memories(data_before, code_before, log_before, first);
     let n = run_calls(
         out,
         running_of(header, at),
@@ -97,7 +84,7 @@ fn run_case(
     Ended { at: n, whole: true }
 }
 
-// A case that was read, if its memories are within their limits.
+// A case that was read, if data memory, code memory and log are within their limits.
 fn take_case(
     out: &mut [u8; 65536],
     at: usize,
@@ -111,13 +98,9 @@ fn take_case(
     code_before: &mut [u8],
     log_before: &mut [u64],
 ) -> Ended {
-    let m = word_at(header, 4) as usize;
     let d = word_at(header, 12) as usize;
     let c = word_at(header, 16) as usize;
     let l = word_at(header, 20) as usize;
-    if main.len() < m {
-        return Ended { at, whole: false };
-    }
     if least(data.len(), data_before.len()) < d {
         return Ended { at, whole: false };
     }
@@ -132,7 +115,7 @@ fn take_case(
         at,
         header,
         calls,
-        &mut main[..m],
+        main,
         &mut data[..d],
         &mut code[..c],
         &mut log[..l],
@@ -156,7 +139,11 @@ fn next_case(
     code_before: &mut [u8],
     log_before: &mut [u64],
 ) -> Ended {
+    let m = word_at(header, 4) as usize;
     if !read_case(header, calls, main) {
+        return Ended { at, whole: false };
+    }
+    if main.len() < m {
         return Ended { at, whole: false };
     }
     take_case(
@@ -164,7 +151,7 @@ fn next_case(
         at,
         header,
         calls,
-        main,
+        &mut main[..m],
         data,
         code,
         log,
@@ -172,14 +159,6 @@ fn next_case(
         code_before,
         log_before,
     )
-}
-
-// Writes out the results and the line about a damaged case.
-fn tell_damaged(out: &[u8; 65536], at: usize, number: u64) {
-    wire::flush(out, at);
-    io::write_all(1, b"damaged case ");
-    io::print_decimal(1, number);
-    io::write_all(1, b"\n");
 }
 
 // Reads the next header; where there is none, or a part of one, that ends the results.
@@ -198,15 +177,15 @@ fn read_header(out: &[u8; 65536], at: usize, number: u64, header: &mut [u8]) -> 
 
 fn run_all(
     out: &mut [u8; 65536],
-    header: &mut [u8],
-    calls: &mut [u8],
-    main: &mut [u8],
-    data: &mut [u32],
-    code: &mut [u8],
-    log: &mut [u64],
-    data_before: &mut [u32],
-    code_before: &mut [u8],
-    log_before: &mut [u64],
+    header: &mut [u8; 292],
+    calls: &mut [u8; 1048560],
+    main: &mut [u8; 1048608],
+    data: &mut [u32; 4100],
+    code: &mut [u8; 16392],
+    log: &mut [u64; 131080],
+    data_before: &mut [u32; 4100],
+    code_before: &mut [u8; 16392],
+    log_before: &mut [u64; 131080],
 ) {
     let mut at = 0;
     let mut number: u64 = 0;
@@ -236,33 +215,6 @@ fn run_all(
     }
 }
 
-// The two largest buffers, as slices.
-fn run_on(
-    out: &mut [u8; 65536],
-    header: &mut [u8],
-    calls: &mut [u8; 1048560],
-    main: &mut [u8; 1048608],
-    data: &mut [u32],
-    code: &mut [u8],
-    log: &mut [u64],
-    data_before: &mut [u32],
-    code_before: &mut [u8],
-    log_before: &mut [u64],
-) {
-    run_all(
-        out,
-        header,
-        calls,
-        main,
-        data,
-        code,
-        log,
-        data_before,
-        code_before,
-        log_before,
-    );
-}
-
 fn main() {
     let mut out = [0u8; 65536];
     let mut header = [0u8; 292];
@@ -274,7 +226,7 @@ fn main() {
     let mut data_before = [0u32; 4100];
     let mut code_before = [0u8; 16392];
     let mut log_before = [0u64; 131080];
-    run_on(
+    run_all(
         &mut out,
         &mut header,
         &mut calls,

@@ -1,13 +1,12 @@
 // The calls of a case, and their results.
 use super::Case;
 use super::Running;
-use super::changes::tell_code;
-use super::changes::tell_data;
-use super::changes::tell_log;
 use super::input::call_word;
 use super::sums::tell_sums;
-use super::whole::tell_whole;
-use chain::Answer;
+use blocks::answer_number;
+use blocks::shown_block;
+use cases::emit_memories;
+use cases::tell_changes;
 use chain::StartAnswer;
 use chain::StartResult;
 use chain::State;
@@ -23,25 +22,9 @@ fn start_number(answer: StartAnswer) -> u32 {
     }
 }
 
-fn run_number(answer: Answer) -> u32 {
-    match answer {
-        Answer::Done => 0,
-        Answer::Allowance => 90,
-        Answer::Interrupt => 91,
-        Answer::Refused(n) => n,
-    }
-}
-
-// The block that a result shows.
-fn shown(case: Case, state: State) -> [u32; 63] {
-    if case.known {
-        return chain::state_block(state);
-    }
-    case.given
-}
-
 fn tell_state(out: &mut [u8; 65536], at: usize, case: Case, state: State) -> usize {
-    let block = shown(case, state);
+    let given = case.block;
+    let block = shown_block(given, state);
     emit_all(out, at, &block)
 }
 
@@ -71,23 +54,7 @@ fn start_call(out: &mut [u8; 65536], s: Running, case: Case, calls: &[u8], k: u3
     Running { at, state: left }
 }
 
-// What a run changed in the memories, and their sums.
-fn tell_changes(
-    out: &mut [u8; 65536],
-    at: usize,
-    data: &[u32],
-    code: &[u8],
-    log: &[u64],
-    data_before: &mut [u32],
-    code_before: &mut [u8],
-    log_before: &mut [u64],
-) -> usize {
-    let a = tell_data(out, at, data, data_before);
-    let b = tell_code(out, a, code, code_before);
-    let c = tell_log(out, b, log, log_before);
-    tell_sums(out, c, data, code, log)
-}
-
+// Whole memories, or what a run changed in them and their sums.
 fn tell_memories(
     out: &mut [u8; 65536],
     at: usize,
@@ -100,9 +67,9 @@ fn tell_memories(
     log_before: &mut [u64],
 ) -> usize {
     if whole {
-        return tell_whole(out, at, data, code, log);
+        return emit_memories(out, at, data, code, log);
     }
-    tell_changes(
+    let n = tell_changes(
         out,
         at,
         data,
@@ -111,7 +78,8 @@ fn tell_memories(
         data_before,
         code_before,
         log_before,
-    )
+    );
+    tell_sums(out, n, data, code, log)
 }
 
 // A run, and its result but for the memories.
@@ -129,7 +97,7 @@ fn run_chain(
     let r = chain::run(main, data, code, log, state, allowance);
     let answer = r.answer;
     let left = r.state;
-    let a = emit(out, s.at, run_number(answer));
+    let a = emit(out, s.at, answer_number(answer));
     let b = emit_long(out, a, r.steps);
     let at = tell_state(out, b, case, left);
     Running { at, state: left }

@@ -2,32 +2,23 @@
 use super::parts::Head;
 use super::parts::fill_of;
 use super::parts::tell_head;
+use blocks::answer_number;
+use blocks::block_at;
 use blocks::shown_block;
 use cases::emit_bytes;
 use cases::emit_memories;
 use cases::fill_bytes;
 use cases::fill_memories;
-use cases::read_words;
-use chain::Answer;
 use conformance::PlayAnswer;
 use wire::emit_all;
 use wire::emit_long;
 use wire::joined;
 use wire::word_at;
 
-fn run_number(answer: Answer) -> u32 {
-    match answer {
-        Answer::Done => 0,
-        Answer::Allowance => 90,
-        Answer::Interrupt => 91,
-        Answer::Refused(n) => n,
-    }
-}
-
 fn play_head(answer: PlayAnswer) -> Head {
     match answer {
         PlayAnswer::Ended(a) => Head {
-            number: run_number(a),
+            number: answer_number(a),
             beside: 0,
         },
         PlayAnswer::Refused { number, offset } => Head {
@@ -35,12 +26,6 @@ fn play_head(answer: PlayAnswer) -> Head {
             beside: offset,
         },
     }
-}
-
-fn block_of(header: &[u8]) -> [u32; 63] {
-    let mut block = [0u32; 63];
-    read_words(header, 48, &mut block);
-    block
 }
 
 // Builds and runs, and tells all but the memories.
@@ -54,7 +39,7 @@ fn play(
     code: &mut [u8],
     log: &mut [u64],
 ) -> usize {
-    let block = block_of(header);
+    let block = block_at(header, 48);
     let address = word_at(header, 16);
     let allowance = joined(word_at(header, 40), word_at(header, 44));
     let given = chain::state_in_block(block);

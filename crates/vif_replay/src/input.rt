@@ -1,4 +1,5 @@
 // What follows a case's header, read into memory: the lengths of its groups and its words, two of them to a number.
+use cases::read_part;
 use wire::high_word;
 use wire::joined;
 use wire::low_word;
@@ -21,15 +22,6 @@ pub(crate) fn least(a: usize, b: usize) -> usize
     ensures { λ r. ⌜ (r ≤ a) × (r ≤ b) ⌝ }
 {
     if a < b { a } else { b }
-}
-
-// Fills the start of a buffer from standard input, if there is enough.
-fn read_part(buffer: &mut [u8], size: usize) -> bool {
-    if buffer.len() < size {
-        return false;
-    }
-    let got = io::read_full(0, &mut buffer[..size]);
-    got == size
 }
 
 fn put(input: &mut [u64], i: usize, x: u64) {

@@ -1,16 +1,13 @@
 // Reads VIF cases from standard input and writes what each group of calls leaves (docs/FORMATS.md, "VIF cases").
-mod changes;
 mod input;
-mod memories;
 mod run;
 mod start;
 
+use cases::fill_memories;
+use cases::tell_damaged;
 use gif::Path;
 use input::least;
 use input::read_case;
-use memories::fill_code;
-use memories::fill_data;
-use memories::fill_log;
 use run::run_groups;
 use start::case_of;
 use start::running_of;
@@ -44,14 +41,6 @@ struct Ended {
     whole: bool,
 }
 
-// The memories as a case fills them.
-fn fill_all(header: &[u8], data: &mut [u32], code: &mut [u8], log: &mut [u64]) {
-    let first = joined(word_at(header, 24), word_at(header, 28));
-    fill_data(data, first);
-    fill_code(code, std::num::wrapping_add_u64(first, 1));
-    fill_log(log, std::num::wrapping_add_u64(first, 2));
-}
-
 // A case that was read, on its memories.
 fn run_case(
     out: &mut [u8; 65536],
@@ -65,8 +54,9 @@ fn run_case(
     code_before: &mut [u8],
     log_before: &mut [u64],
 ) -> Ended {
-    fill_all(header, data, code, log);
-    fill_all(header, data_before, code_before, log_before);
+    let first = joined(word_at(header, 24), word_at(header, 28));
+    fill_memories(data, code, log, first);
+    fill_memories(data_before, code_before, log_before, first);
     let n = run_groups(
         out,
         running_of(header, at),
@@ -151,14 +141,6 @@ fn next_case(
     )
 }
 
-// Writes out the results and the line about a damaged case.
-fn tell_damaged(out: &[u8; 65536], at: usize, number: u64) {
-    wire::flush(out, at);
-    io::write_all(1, b"damaged case ");
-    io::print_decimal(1, number);
-    io::write_all(1, b"\n");
-}
-
 // Reads the next header; where there is none, or a part of one, that ends the results.
 fn read_header(out: &[u8; 65536], at: usize, number: u64, header: &mut [u8]) -> bool {
     let got = io::read_full(0, header);
@@ -175,14 +157,14 @@ fn read_header(out: &[u8; 65536], at: usize, number: u64, header: &mut [u8]) -> 
 
 fn run_all(
     out: &mut [u8; 65536],
-    header: &mut [u8],
-    input: &mut [u64],
-    data: &mut [u32],
-    code: &mut [u8],
-    log: &mut [u64],
-    data_before: &mut [u32],
-    code_before: &mut [u8],
-    log_before: &mut [u64],
+    header: &mut [u8; 208],
+    input: &mut [u64; 163840],
+    data: &mut [u32; 4100],
+    code: &mut [u8; 16392],
+    log: &mut [u64; 131080],
+    data_before: &mut [u32; 4100],
+    code_before: &mut [u8; 16392],
+    log_before: &mut [u64; 131080],
 ) {
     let mut at = 0;
     let mut number: u64 = 0;

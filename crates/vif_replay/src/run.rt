@@ -1,10 +1,8 @@
 // The calls of a case, group by group.
 use super::Case;
 use super::Running;
-use super::changes::tell_code;
-use super::changes::tell_data;
-use super::changes::tell_log;
 use super::input::nth;
+use cases::tell_changes;
 use gif::Path;
 use gif::ReadPath;
 use vif::Incoming;
@@ -157,22 +155,6 @@ fn read_back(s: Running, at: usize) -> Running {
     }
 }
 
-// What a group changed in the memories.
-fn tell_memories(
-    out: &mut [u8; 65536],
-    at: usize,
-    data: &[u32],
-    code: &[u8],
-    log: &[u64],
-    data_before: &mut [u32],
-    code_before: &mut [u8],
-    log_before: &mut [u64],
-) -> usize {
-    let a = tell_data(out, at, data, data_before);
-    let b = tell_code(out, a, code, code_before);
-    tell_log(out, b, log, log_before)
-}
-
 // One group: its calls, and its result.
 fn group(
     out: &mut [u8; 65536],
@@ -189,7 +171,7 @@ fn group(
 ) -> Running {
     let t = calls(out, s, case, nth(input, k), input, data, code, log);
     let first = tell_state(out, t, case);
-    let at = tell_memories(
+    let at = tell_changes(
         out,
         first,
         data,

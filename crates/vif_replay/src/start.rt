@@ -1,6 +1,7 @@
 // What a case starts from, by its header.
 use super::Case;
 use super::Running;
+use cases::read_words;
 use gif::HeldTag;
 use gif::Path;
 use gif::Place;
@@ -15,30 +16,15 @@ struct FoundPath {
     path: Path,
 }
 
-fn header_word(header: &[u8], k: u32) -> u32 {
-    word_at(header, k as usize * 4)
-}
-
-// Words of a header, from word `first` on.
-fn read_block(header: &[u8], first: u32, block: &mut [u32]) {
-    let mut k = first;
-    let mut i = 0;
-    while i < block.len() {
-        block[i] = header_word(header, k);
-        k = std::num::wrapping_add_u32(k, 1);
-        i += 1;
-    }
-}
-
 fn unit_words(header: &[u8]) -> [u32; 32] {
     let mut block = [0u32; 32];
-    read_block(header, 8, &mut block);
+    read_words(header, 32, &mut block);
     block
 }
 
 fn path_words(header: &[u8]) -> [u32; 9] {
     let mut block = [0u32; 9];
-    read_block(header, 40, &mut block);
+    read_words(header, 160, &mut block);
     block
 }
 

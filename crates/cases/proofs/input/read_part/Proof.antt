@@ -1,5 +1,6 @@
-use mathlib.Core.Path.{_∙_}
-use mathlib.Core.Path.{sym}
+use Prim.Native.Nat.{ℕ}
+use mathlib.Core.Path.{_≡_, refl, sym, _∙_}
+use native.Mathlib.Omega.{arith}
 use lib.Seq.{length-take-le, drop-at}
 use borrow.Author.Needs.{needs}
 use Rattle.cases.proofs.input.read_part.Statement.{statement}
@@ -8,29 +9,34 @@ use Rattle.cases.proofs.input.read_part.Reads as reads
 use Rattle.cases.proofs.input.read_part.Lts as lts
 use Rattle.io.proofs.read_full.Reads as read-full-reads
 
--- src/input.rt:12:9
+-- src/input.rt:13:9
 returns : tie.Need-returns
-returns c = search needs
+returns c = record { fits = λ h. let z : _≡_ {A = ℕ} 0 1 = cc in omega arith; rest = refl }
 
--- src/input.rt:14:32
+-- src/input.rt:15:32
 slice-relend-prefix-read-full : tie.Need-slice-relend-prefix-read-full
 slice-relend-prefix-read-full c = search needs
 
--- src/input.rt:14:32
+-- src/input.rt:15:32
 slice-aggregate-read-full : tie.Need-slice-aggregate-read-full
 slice-aggregate-read-full c = sym (length-take-le _ _ (c .before .if1 .left))
 
--- src/input.rt:14:9
+-- src/input.rt:15:9
 read-full-requires : tie.Need-read-full-requires
 read-full-requires c κs = search needs
 
--- src/input.rt:8:1
+-- src/input.rt:9:1
 same-length : tie.Need-same-length
 same-length c = search needs
 
--- src/input.rt:8:1
+-- src/input.rt:9:1
 returns-2 : tie.Need-returns-2
-returns-2 c = drop-at (c .before .before .read-full .last .1 .0) _ _ (c .before .before .read-full .kept .1 .0 ∙ length-take-le _ _ (c .before .before .before .before .if1 .left))
+returns-2 c =
+    let h = c .before .before .before .before .if1 .left in
+    record {
+      fits = λ _. h;
+      rest = drop-at (c .before .before .read-full .last .1 .0) _ _ (c .before .before .read-full .kept .1 .0 ∙ length-take-le _ _ h);
+    }
 
 pub read-part-spec : {M : Type 1} → statement M
 read-part-spec =

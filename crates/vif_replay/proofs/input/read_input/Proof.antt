@@ -7,7 +7,7 @@ use Rattle.vif_replay.proofs.input.read_input.Tie as tie
 use Rattle.vif_replay.proofs.input.read_input.Reads as reads
 use Rattle.vif_replay.proofs.input.read_input.Lts as lts
 use Rattle.vif_replay.proofs.input.least.Reads as least-reads
-use Rattle.vif_replay.proofs.input.read_part.Reads as read-part-reads
+use Rattle.cases.proofs.read_part.Reads as read-part-reads
 use Rattle.vif_replay.proofs.input.store.Reads as store-reads
 
 abbrev Inv-loop : tie.InvT-loop
