@@ -32,10 +32,11 @@ use Rattle.chain.specs.declared.StepAnswer.{StepAnswer}
 use Rattle.chain.specs.declared.StepAnswer.the-variants.{Completed, Refused}
 use Rattle.chain.specs.declared.StepResult.{StepResult}
 use Rattle.chain.specs.declared.State.{State}
-use Rattle.chain.specs.Memory.{longAt, quadwordAt}
+use Rattle.fields.specs.Memory.{longAt, quadwordAt}
 use Rattle.chain.specs.Setters.{withPending, withUnit, withPath3}
 use Rattle.chain.specs.Tags.{qwcOf, idOf, addrOf, sprOf, usesAddr, payloadAt, afterPayload, returnTo, nextTadr, isFull, pushed, popped, nextStack, tagWordsOf, payloadOf, tagRefusal, tagState, stepResult, tagRead, tagStep}
-use Rattle.chain.specs.Pending.{incomingAt, tagsAfter, payloadAfter}
+use Rattle.vif.specs.Words.{incomingAt}
+use Rattle.chain.specs.Pending.{tagsAfter, payloadAfter}
 use Rattle.chain.specs.Range.{channelInRange, startInRange, entryInRange, stackInRange, tagWordInRange, tagsInRange, wordsInRange, payloadInRange, tagsInside, payloadInside}
 use Rattle.chain.specs.Inner.{Ready, WordInside, PayloadInside}
 use Rattle.chain.specs.Step.{Machine, Stepped, stepped, steppedBy, afterVif, vifGiven, afterGif, gifGiven, payloadStep, payloadOrTag, pendingOrTag, stepOf}

@@ -24,9 +24,9 @@ use Rattle.chain.specs.declared.Payload.{Payload}
 use Rattle.chain.specs.declared.StepAnswer.the-variants.{Completed, Refused}
 use Rattle.chain.specs.declared.StepResult.{StepResult}
 use Rattle.chain.specs.declared.State.{State}
-use Rattle.chain.specs.Memory.{longAt}
+use Rattle.fields.specs.Memory.{longAt}
 use Rattle.chain.specs.Tags.{stepResult}
-use Rattle.chain.specs.Pending.{incomingAt}
+use Rattle.vif.specs.Words.{incomingAt}
 use Rattle.chain.specs.Inner.{Ready, WordInside, PayloadInside, QuadwordReady, byTaken}
 use Rattle.chain.specs.Step.{Stepped, stepped, steppedBy, afterVif, givenVif, vifGiven, afterGif, givenGif, gifGiven, payloadOrTag, pendingOrTag}
 use Rattle.chain.proofs.ReadyLaws.{unit-ready, facts-of}

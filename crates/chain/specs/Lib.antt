@@ -1,5 +1,4 @@
 -- The chain: state, start and run, as document 01's chapters "Chain tags" and "Steps and how a run stops" have them.
-pub mod Memory
 pub mod Setters
 pub mod Tags
 pub mod Pending

@@ -5,22 +5,11 @@ use mathlib.Core.Bool.{Bool, true, false, _&&_}
 use mathlib.Core.List.{List}
 use lib.Dec.{eqb, leb}
 use Rattle.fields.specs.Fields.{if}
-use Rattle.vif.specs.declared.Incoming.{Incoming}
-use Rattle.vif.specs.declared.Incoming.the-variants.{Word0, Word1, Word2, Word3}
 use Rattle.chain.specs.declared.TagWords.{TagWords}
 use Rattle.chain.specs.declared.TagWords.the-variants.{Nothing as NoTagWords, From}
 use Rattle.chain.specs.declared.Payload.{Payload}
 use Rattle.chain.specs.declared.Payload.the-variants.{Nothing as NoPayload, Words}
 use Rattle.chain.specs.declared.State.{State}
-use Rattle.chain.specs.Memory.{wordAt}
-
--- the word at an address, by its number in its quadword
-unfoldable pub incomingAt : List ℕ → ℕ → Incoming
-incomingAt main a =
-    if (eqb (a / 4 % 4) 0) (Word0 (wordAt main a) (wordAt main (a + 4)) (wordAt main (a + 8)) (wordAt main (a + 12)))
-    (if (eqb (a / 4 % 4) 1) (Word1 (wordAt main a))
-    (if (eqb (a / 4 % 4) 2) (Word2 (wordAt main a))
-    (Word3 (wordAt main a))))
 
 abbrev pub noTags : TagWords → Bool
 noTags NoTagWords = true

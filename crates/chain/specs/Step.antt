@@ -18,10 +18,11 @@ use Rattle.chain.specs.declared.StepAnswer.{StepAnswer}
 use Rattle.chain.specs.declared.StepAnswer.the-variants.{Completed, Refused}
 use Rattle.chain.specs.declared.StepResult.{StepResult}
 use Rattle.chain.specs.declared.State.{State}
-use Rattle.chain.specs.Memory.{quadwordAt}
+use Rattle.fields.specs.Memory.{quadwordAt}
 use Rattle.chain.specs.Setters.{withPending, withUnit, withPath3}
 use Rattle.chain.specs.Tags.{tagStep}
-use Rattle.chain.specs.Pending.{incomingAt, tagsAfter, payloadAfter}
+use Rattle.vif.specs.Words.{incomingAt}
+use Rattle.chain.specs.Pending.{tagsAfter, payloadAfter}
 
 -- the state and the memories
 pub record Machine : Type 0 where

@@ -15,7 +15,7 @@ use Rattle.chain.specs.declared.StepAnswer.{StepAnswer}
 use Rattle.chain.specs.declared.StepAnswer.the-variants.{Completed, Refused}
 use Rattle.chain.specs.declared.StepResult.{StepResult}
 use Rattle.chain.specs.declared.State.{State}
-use Rattle.chain.specs.Memory.{longAt}
+use Rattle.fields.specs.Memory.{longAt}
 use Rattle.chain.specs.Setters.{withTag}
 
 abbrev pub qwcOf : ℕ → ℕ

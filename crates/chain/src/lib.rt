@@ -2,7 +2,6 @@
 mod block;
 mod control;
 mod execution;
-mod memory;
 mod pending;
 mod range;
 mod setters;

@@ -21,7 +21,8 @@ use Rattle.chain.specs.declared.Payload.the-variants.{Nothing as NoPayload, Wor
 use Rattle.chain.specs.declared.StepAnswer.the-variants.{Completed}
 use Rattle.chain.specs.declared.State.{State}
 use Rattle.chain.specs.Setters.{withPending, withUnit}
-use Rattle.chain.specs.Pending.{incomingAt, nothingPending, payloadAfter}
+use Rattle.vif.specs.Words.{incomingAt}
+use Rattle.chain.specs.Pending.{nothingPending, payloadAfter}
 use Rattle.chain.specs.Step.{Machine, machine, Stepped, stepped, givenVif, vifGiven, payloadStep, stepOf}
 use Rattle.chain.specs.Run.{done}
 use Rattle.chain.specs.Stops.{stepFrom, Reaches, here, step}

@@ -17,8 +17,9 @@ use Rattle.vif.specs.Execute.{startProgram, setMode, beginMpg, addressOf, cycle
 use Rattle.vif.specs.Payload.{completes, orNothing, wordPlace, mpgStored}
 use Rattle.vif.specs.Range.{registersInRange, waitingInRange, unitInRange}
 use Rattle.vif.specs.Step.{codeStep, giveQuadword, unpackStep, vifStep}
-use Rattle.chain.specs.Memory.{wordAt, longAt}
-use Rattle.chain.specs.Pending.{incomingAt, payloadAfter}
+use Rattle.fields.specs.Memory.{wordAt, longAt}
+use Rattle.vif.specs.Words.{incomingAt}
+use Rattle.chain.specs.Pending.{payloadAfter}
 use Rattle.chain.specs.Range.{channelInRange, startInRange, stackInRange, tagsInRange, payloadInRange, stateInRange, mainRefused, tagsInside, payloadInside, entryRefusal}
 use Rattle.chain.specs.Tags.{usesAddr, payloadAt, nextTadr, endsChain, tagWordsOf, payloadOf, tagRefusal, tagState, tagRead}
 use Rattle.chain.specs.Start.{resetState, startOf}

@@ -29,9 +29,9 @@ use Rattle.vif.proofs.SheetLaws.{feeds-as, feeds-data, feeds-code, feeds-start,
 use Rattle.chain.specs.declared.TagWords.the-variants.{Nothing as NoTagWords}
 use Rattle.chain.specs.declared.Payload.the-variants.{Nothing as NoPayload}
 use Rattle.chain.specs.declared.State.{State}
-use Rattle.chain.specs.Memory.{wordAt, longAt, quadwordAt}
+use Rattle.fields.specs.Memory.{wordAt, longAt, quadwordAt}
 use Rattle.chain.specs.Setters.{withTag}
-use Rattle.chain.specs.Pending.{incomingAt}
+use Rattle.vif.specs.Words.{incomingAt}
 use Rattle.chain.specs.Step.{Machine, machine}
 use Rattle.chain.specs.Stops.{Reaches}
 use Rattle.chain.proofs.Theorems.{reaches-join}

@@ -20,7 +20,7 @@ use Rattle.chain.specs.declared.Payload.the-variants.{Nothing as NoPayload, Wor
 use Rattle.chain.specs.declared.StepAnswer.the-variants.{Completed}
 use Rattle.chain.specs.declared.StepResult.{StepResult}
 use Rattle.chain.specs.declared.State.{State}
-use Rattle.chain.specs.Memory.{longAt}
+use Rattle.fields.specs.Memory.{longAt}
 use Rattle.chain.specs.Setters.{withTag}
 use Rattle.chain.specs.Tags.{qwcOf, idOf, addrOf, sprOf, usesAddr, payloadAt, nextTadr, endsChain, nextStack, tagWordsOf, payloadOf, tagRefusal, tagState, stepResult, tagRead, tagStep}
 use Rattle.chain.specs.Step.{Machine, machine, Stepped, stepped, steppedBy, pendingOrTag, stepOf}

@@ -7,7 +7,7 @@ use native.Mathlib.Omega.{arith}
 use lib.ListN.{length, getD, take, drop, length-append, length-drop}
 use lib.Seq.{getD-drop, drop-drop, drop-at, take-append-le, drop-append-le}
 use Rattle.unpack.proofs.VectorLaws.{Words, none, more}
-use Rattle.chain.specs.Memory.{wordAt}
+use Rattle.fields.specs.Memory.{wordAt}
 use Rattle.sheet.specs.Records.{bytesAt, number}
 use Rattle.sheet.specs.Layout.{wordBytes, wordsBytes}
 use Rattle.sheet.specs.Whole.{Bytes}

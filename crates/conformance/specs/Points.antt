@@ -10,7 +10,7 @@ use Rattle.fields.specs.Fields.{if}
 use Rattle.vif.specs.declared.Waiting.{Waiting}
 use Rattle.vif.specs.declared.Waiting.the-variants.{Nothing, MaskDue, RowDue, ColDue, MpgDue, DirectDue, DirecthlDue, UnpackDue}
 use Rattle.vif.specs.Step.{Lent, lent}
-use Rattle.chain.specs.Memory.{wordAt}
+use Rattle.fields.specs.Memory.{wordAt}
 use Rattle.chain.specs.Start.{resetState, startOf}
 use Rattle.chain.specs.Run.{Ran, numberOf, runOf}
 use Rattle.sheet.specs.Layout.{wordsBytes, tagWords}

@@ -1,3 +1,4 @@
 -- What every layer's definitions are written with.
 pub mod Fields
+pub mod Memory
 pub mod Parts

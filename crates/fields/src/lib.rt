@@ -1,4 +1,9 @@
-// Definitions and laws: fields of numbers, the choice by a test, and blocks of words put together of parts.
+// Definitions and laws: fields of numbers, the choice by a test, numbers in main memory, and blocks of words put together of parts.
+mod memory;
+
+pub use memory::lies_inside;
+pub use memory::long_at;
+pub use memory::word_at;
 ghost use mathlib.Core.Path.{_≡_};
 ghost use lib.ListN.{set};
 ghost use Rattle.fields.specs.Parts.{withWords};

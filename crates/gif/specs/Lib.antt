@@ -6,4 +6,5 @@ pub mod Reglist
 pub mod Range
 pub mod Step
 pub mod Run
+pub mod Feed
 pub mod Block

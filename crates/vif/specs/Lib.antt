@@ -4,7 +4,9 @@ pub mod Codes
 pub mod Execute
 pub mod Payload
 pub mod Range
+pub mod Words
 pub mod Step
 pub mod Feeds
+pub mod Feed
 pub mod Block
 pub mod Inner

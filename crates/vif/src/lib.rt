@@ -8,11 +8,13 @@ mod payload;
 mod range;
 mod registers;
 mod step;
+mod words;
 
 pub use block::unit_block;
 pub use block::unit_in_block;
 pub use range::unit_in_range;
 pub use step::take;
+pub use words::incoming_at;
 
 // The numbers of an UNPACK code.
 pub struct UnpackCode {

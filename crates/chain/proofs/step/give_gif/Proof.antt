@@ -5,7 +5,6 @@ use Rattle.chain.proofs.step.give_gif.Statement.{statement}
 use Rattle.chain.proofs.step.give_gif.Tie as tie
 use Rattle.chain.proofs.step.give_gif.Reads as reads
 use Rattle.chain.proofs.step.give_gif.Lts as lts
-use Rattle.chain.proofs.memory.long_at.Reads as long-at-reads
 use Rattle.chain.proofs.setters.with_path3.Reads as with-path3-reads
 use Rattle.chain.proofs.setters.with_pending.Reads as with-pending-reads
 use Rattle.chain.proofs.tags.answered.Reads as answered-reads

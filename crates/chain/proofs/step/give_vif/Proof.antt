@@ -8,7 +8,6 @@ use Rattle.chain.proofs.step.give_vif.Statement.{statement}
 use Rattle.chain.proofs.step.give_vif.Tie as tie
 use Rattle.chain.proofs.step.give_vif.Reads as reads
 use Rattle.chain.proofs.step.give_vif.Lts as lts
-use Rattle.chain.proofs.memory.incoming_at.Reads as incoming-at-reads
 use Rattle.chain.proofs.setters.with_pending.Reads as with-pending-reads
 use Rattle.chain.proofs.setters.with_unit.Reads as with-unit-reads
 use Rattle.chain.proofs.tags.answered.Reads as answered-reads

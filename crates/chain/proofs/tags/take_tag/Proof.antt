@@ -1,4 +1,4 @@
-use Rattle.chain.specs.Memory.{longAt}
+use Rattle.fields.specs.Memory.{longAt}
 use Rattle.chain.specs.Tags.{tagRefusal, tagRead}
 use Rattle.fields.specs.Fields.{if}
 use borrow.Author.Tests.{lt-ltb}
@@ -7,7 +7,6 @@ use Rattle.chain.proofs.tags.take_tag.Statement.{statement}
 use Rattle.chain.proofs.tags.take_tag.Tie as tie
 use Rattle.chain.proofs.tags.take_tag.Reads as reads
 use Rattle.chain.proofs.tags.take_tag.Lts as lts
-use Rattle.chain.proofs.memory.word_at.Reads as word-at-reads
 use Rattle.chain.proofs.tags.answered.Reads as answered-reads
 use Rattle.chain.proofs.tags.read_tag.Reads as read-tag-reads
 

@@ -1,10 +1,10 @@
-use Rattle.chain.specs.Memory.{wordAt}
+use Rattle.fields.specs.Memory.{wordAt}
 use borrow.Author.Needs.{needs}
-use Rattle.chain.proofs.memory.word_at.Statement.{statement}
-use Rattle.chain.proofs.memory.word_at.Tie as tie
-use Rattle.chain.proofs.memory.word_at.Reads as reads
-use Rattle.chain.proofs.memory.word_at.Lts as lts
-use Rattle.chain.proofs.memory.wide.Reads as wide-reads
+use Rattle.fields.proofs.memory.word_inside.Statement.{statement}
+use Rattle.fields.proofs.memory.word_inside.Tie as tie
+use Rattle.fields.proofs.memory.word_inside.Reads as reads
+use Rattle.fields.proofs.memory.word_inside.Lts as lts
+use Rattle.fields.proofs.memory.wide.Reads as wide-reads
 
 -- src/memory.rt:21:10
 shared-slice-read-wide : tie.Need-shared-slice-read-wide
@@ -79,8 +79,8 @@ returns : tie.Need-returns
 unfolding wordAt
 returns c = search needs
 
-pub word-at-spec : {M : Type 1} → statement M
-word-at-spec =
+pub word-inside-spec : {M : Type 1} → statement M
+word-inside-spec =
     tie.close
     (tie.spec
     shared-slice-read-wide

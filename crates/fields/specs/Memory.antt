@@ -1,8 +1,10 @@
 -- Main memory: "All numbers are little-endian; a quadword is 16 bytes, four 32-bit words numbered 0 to 3."
 use Prim.Native.Nat.{ℕ, _+_, _*_, _^_}
+use mathlib.Core.Bool.{Bool, _&&_}
 use mathlib.Core.List.{List}
-use lib.ListN.{getD}
+use lib.ListN.{length, getD}
+use lib.Dec.{leb}
 use Rattle.fields.specs.Fields.{quadword}
 
 -- the word at an address
 unfoldable pub wordAt : List ℕ → ℕ → ℕ
@@ -16,3 +18,7 @@ longAt main a = wordAt main a + wordAt main (a + 4) * 2 ^ 32
 -- the quadword at an address
 abbrev pub quadwordAt : List ℕ → ℕ → ℕ
 quadwordAt main a = quadword (longAt main a) (longAt main (a + 8))
+
+-- so many bytes from an address on lie inside a main memory, which has at most 1,048,576
+unfoldable pub inside : List ℕ → ℕ → ℕ → Bool
+inside main a n = leb (length main) 1048576 && leb (a + n) (length main)

@@ -1,13 +1,12 @@
-use Rattle.chain.specs.Pending.{incomingAt}
+use Rattle.vif.specs.Words.{incomingAt}
 use Rattle.fields.specs.Fields.{if}
 use borrow.Author.Tests.{ne-eqb}
 use borrow.Author.Needs.{needs}
-use Rattle.chain.proofs.memory.incoming_at.Statement.{statement}
-use Rattle.chain.proofs.memory.incoming_at.Tie as tie
-use Rattle.chain.proofs.memory.incoming_at.Reads as reads
-use Rattle.chain.proofs.memory.incoming_at.Lts as lts
-use Rattle.chain.proofs.memory.quadword_at.Reads as quadword-at-reads
-use Rattle.chain.proofs.memory.word_at.Reads as word-at-reads
+use Rattle.vif.proofs.words.incoming_at.Statement.{statement}
+use Rattle.vif.proofs.words.incoming_at.Tie as tie
+use Rattle.vif.proofs.words.incoming_at.Reads as reads
+use Rattle.vif.proofs.words.incoming_at.Lts as lts
+use Rattle.vif.proofs.words.quadword_at.Reads as quadword-at-reads
 
 -- src/memory.rt:52:14
 quadword-at-requires : tie.Need-quadword-at-requires

@@ -1,0 +1,65 @@
+-- Words of main memory given to the unit one after another, until they are used up, one is refused or one completes a code with its interrupt bit.
+use Prim.Native.Nat.{ℕ, zero, suc, _+_, _*_, _-_, _/_, _%_}
+use mathlib.Core.Bool.{Bool, true, false, not, _&&_}
+use mathlib.Core.List.{List}
+use lib.ListN.{length}
+use lib.Dec.{eqb}
+use Rattle.fields.specs.Fields.{if}
+use Rattle.fields.specs.Memory.{inside}
+use Rattle.gif.specs.Log.{logRefused}
+use Rattle.gif.specs.Range.{pathInRange}
+use Rattle.vif.specs.declared.VifAnswer.{VifAnswer}
+use Rattle.vif.specs.declared.VifAnswer.the-variants.{Word, Quadword, Refused}
+use Rattle.vif.specs.Range.{unitInRange}
+use Rattle.vif.specs.Words.{incomingAt}
+use Rattle.vif.specs.Step.{Left, vifStep}
+use Rattle.vif.specs.Feeds.{Fed, fed}
+
+-- what they left, how many words and steps that took, and whether the last step completed an interrupt
+pub record FedOn : Type 0 where
+  pub after : Fed
+  pub words : ℕ
+  pub steps : ℕ
+  pub interrupt : Bool
+
+abbrev pub fedOn : Fed → ℕ → ℕ → Bool → FedOn
+fedOn x k n i = record { after = x; words = k; steps = n; interrupt = i }
+
+abbrev pub fedTo : Left → Fed
+fedTo o = fed (o .unit) (o .path2) (o .used) (o .memories)
+
+-- a step more, of k words
+abbrev pub stepMore : ℕ → FedOn → FedOn
+stepMore k r = fedOn (r .after) (k + r .words) (suc (r .steps)) (r .interrupt)
+
+-- by a step's answer; f goes on with the address and the number of the words that are left
+abbrev pub afterWord : (ℕ → ℕ → Fed → FedOn) → VifAnswer → Left → ℕ → ℕ → Fed → FedOn
+afterWord f (Word true) o a count x = fedOn (fedTo o) 1 1 true
+afterWord f (Word false) o a count x = stepMore 1 (f (a + 4) (count - 1) (fedTo o))
+afterWord f (Quadword true) o a count x = fedOn (fedTo o) 4 1 true
+afterWord f (Quadword false) o a count x = stepMore 4 (f (a + 16) (count - 4) (fedTo o))
+afterWord f (Refused n) o a count x = fedOn x 0 0 false
+
+abbrev pub onWord : (ℕ → ℕ → Fed → FedOn) → Left → ℕ → ℕ → Fed → FedOn
+onWord f o a count x = afterWord f (o .answer) o a count x
+
+-- at most n steps, with `count` words from address a on
+unfoldable pub feedsOf : List ℕ → ℕ → ℕ → ℕ → Fed → FedOn
+feedsOf main zero a count x = fedOn x 0 0 false
+feedsOf main (suc n) a count x =
+    if (eqb count 0) (fedOn x 0 0 false)
+    (onWord (feedsOf main n) (vifStep (x .unit) (x .path2) (incomingAt main a) (x .used) (x .memories)) a count x)
+
+-- the words lie inside, start at a word and end with a quadword
+unfoldable pub wordsInside : List ℕ → ℕ → ℕ → Bool
+wordsInside main a count = inside main a (4 * count) && (eqb (a % 4) 0 && eqb ((a / 4 + count) % 4) 0)
+
+-- the unit, path 2, the log and the memories' lengths are those that a step takes
+unfoldable pub takesSteps : Fed → Bool
+takesSteps x =
+    (eqb (length (x .memories .mem)) 4096 && eqb (length (x .memories .code)) 16384)
+    && (not (logRefused (x .memories .log) (x .used)) && (unitInRange (x .unit) && pathInRange (x .path2)))
+
+-- the public function, which tests its own input: none is taken where that is not so
+unfoldable pub feedOf : List ℕ → ℕ → ℕ → ℕ → Fed → FedOn
+feedOf main n a count x = if (wordsInside main a count && takesSteps x) (feedsOf main n a count x) (fedOn x 0 0 false)
