@@ -68,8 +68,8 @@ uint32_t tejborun_build_and_run(const uint8_t *sheet, size_t sheet_bytes, uint8_
                                 size_t block_words, uint64_t allowance, uint64_t *result, size_t result_numbers);
 
 /* Compares two boards' memories and logs. Answers 0 where they are the same, 1 where they differ, or TEJBORUN_REFUSED + 2, 3 or 4 for a length that is wrong
- * on either side. result[0], [1]: the first quadword that differs and how many differ; [2], [3]: instructions; [4], [5]: log entries that both have. Where
- * none differs, the first is the number compared; where refused, all six are 0. */
+ * on either side, the lowest where several are. result[0], [1]: the first quadword that differs and how many differ; [2], [3]: instructions; [4], [5]: log
+ * entries that both have. Where none differs, the first is the number compared; where refused, all six are 0. */
 #define TEJBORUN_REFUSED 100u
 uint32_t tejborun_compare(const uint32_t *data_a, size_t data_a_words, const uint8_t *code_a, size_t code_a_bytes, const uint64_t *log_a, size_t log_a_numbers,
                           uint64_t used_a, const uint32_t *data_b, size_t data_b_words, const uint8_t *code_b, size_t code_b_bytes, const uint64_t *log_b,
