@@ -10,7 +10,7 @@ use lib.ListN.{length}
 use lib.Dec.{leb}
 use Rattle.fields.specs.Fields.{if, quadword}
 use Rattle.fields.specs.Memory.{longAt, quadwordAt, inside}
-use Rattle.fields.proofs.ChoiceLaws.{and-left, and-right}
+use Rattle.fields.proofs.ChoiceLaws.{if-ind, and-left, and-right}
 use Rattle.gif.specs.declared.Path.{Path}
 use Rattle.gif.specs.declared.GifAnswer.{GifAnswer}
 use Rattle.gif.specs.declared.GifAnswer.the-variants.{Taken, Refused}
@@ -19,6 +19,7 @@ use Rattle.gif.specs.Log.{logRefused, LogFits}
 use Rattle.gif.specs.Range.{pathInRange, PlaceFits}
 use Rattle.gif.specs.Step.{Left, left, refused, gifStep}
 use Rattle.gif.specs.Feed.{Fed, fed, oneMore, afterQuadword, onQuadword, feedsOf, feedOf}
+use Rattle.gif.proofs.LogLaws.{logged-length}
 use Rattle.gif.proofs.RangeLaws.{log-fits}
 use Rattle.gif.proofs.StepLaws.{step-wrote, step-ranged}
 
@@ -84,14 +85,14 @@ module _ (main : List ℕ) (a count : ℕ) (p : Path) (used : ℕ) (log : List �
 
 -- a step keeps what the next one asks
 module _ (p : Path) (quad used : ℕ) (log : List ℕ) {r : GifResult} {log′ : List ℕ} (e : left r log′ ≡ gifStep p quad used log) where
-  pub log-stays : LogFits log used → length log′ ≡ length log → LogFits log′ (r .used)
-  log-stays f n =
+  pub next-log-fits : LogFits log used → length log′ ≡ length log → LogFits log′ (r .used)
+  next-log-fits f n =
       let s = f .short in
       let o : 2 * (r .used) ≤ length log = rw (← e) at (step-wrote p used log (f .holds) quad .room) in
       record { short = omega arith; holds = omega arith }
 
-  pub place-stays : PlaceFits (p .place) → PlaceFits (r .path .place)
-  place-stays f = record { held = rw (← e) at (step-ranged p (f .held) used log quad) }
+  pub next-place-fits : PlaceFits (p .place) → PlaceFits (r .path .place)
+  next-place-fits f = record { held = rw (← e) at (step-ranged p (f .held) used log quad) }
 
 -- ---- the tests of the public function
 
@@ -122,3 +123,66 @@ module _ (main : List ℕ) (a n : ℕ) (p : Path) (used : ℕ) (log : List ℕ) 
   pub fed-none : b ≡ false → fed p used log 0 ≡ feedOf main a n p used log
   unfolding feedOf if
   fed-none h = rw (sym t ∙ h)
+
+-- ---- for callers: the quadwords taken, one step each
+
+-- as many quadwords as were taken, from address a on, each taken by a step of its own, lead to what is left
+pub data Takes (main : List ℕ) : ℕ → Path → ℕ → List ℕ → Fed → Type 0 where
+  none : {a used : ℕ} {p : Path} {log : List ℕ} → Takes main a p used log (fed p used log 0)
+  more : {a used : ℕ} {p : Path} {log : List ℕ} {x : Fed} → gifStep p (quadwordAt main a) used log .answer ≡ Taken
+      → Takes main (a + 16) (gifStep p (quadwordAt main a) used log .path) (gifStep p (quadwordAt main a) used log .used)
+      (gifStep p (quadwordAt main a) used log .log) x
+      → Takes main a p used log (oneMore x)
+
+-- by the answer to a quadword
+answer-ind : (P : Fed → Type 0) (f : Path → ℕ → List ℕ → Fed) (g : GifAnswer) (o : Left) (p : Path) (used : ℕ) (log : List ℕ)
+    → (g ≡ Taken → P (oneMore (f (o .path) (o .used) (o .log)))) → P (fed p used log 0) → P (afterQuadword f g o p used log)
+answer-ind P f Taken o p used log t r = t refl
+answer-ind P f (Refused m) o p used log t r = r
+
+pub feeds-quadwords : (main : List ℕ) (a n : ℕ) (p : Path) (used : ℕ) (log : List ℕ) → Takes main a p used log (feedsOf main a n p used log)
+unfolding feedsOf
+feeds-quadwords main a zero p used log = none
+feeds-quadwords main a (suc n) p used log =
+    let o = gifStep p (quadwordAt main a) used log in
+    answer-ind (Takes main a p used log) (feedsOf main (a + 16) n) (o .answer) o p used log
+    (λ e. more e (feeds-quadwords main (a + 16) n (o .path) (o .used) (o .log)))
+    none
+
+-- what the public function leaves, for any input
+pub feed-quadwords : (main : List ℕ) (a n : ℕ) (p : Path) (used : ℕ) (log : List ℕ) {x : Fed} → x ≡ feedOf main a n p used log → Takes main a p used log x
+unfolding feedOf
+feed-quadwords main a n p used log e = rw e (if-ind (Takes main a p used log) _ (feeds-quadwords main a n p used log) none)
+
+-- no more than were given
+record Few (n : ℕ) (x : Fed) : Type 0 where
+  few : x .taken ≤ n
+
+feeds-few : (main : List ℕ) (a n : ℕ) (p : Path) (used : ℕ) (log : List ℕ) → Few n (feedsOf main a n p used log)
+unfolding feedsOf
+feeds-few main a zero p used log = record { few = omega arith }
+feeds-few main a (suc n) p used log =
+    let o = gifStep p (quadwordAt main a) used log in
+    let h = feeds-few main (a + 16) n (o .path) (o .used) (o .log) .few in
+    answer-ind (Few (suc n)) (feedsOf main (a + 16) n) (o .answer) o p used log (λ e. record { few = omega arith }) (record { few = omega arith })
+
+pub feed-few : (main : List ℕ) (a n : ℕ) (p : Path) (used : ℕ) (log : List ℕ) {x : Fed} → x ≡ feedOf main a n p used log → x .taken ≤ n
+unfolding feedOf
+feed-few main a n p used log e =
+    let z : Few n (fed p used log 0) = record { few = omega arith } in
+    rw e (if-ind (Few n) _ (feeds-few main a n p used log) z .few)
+
+-- the path stays in range, and the log's length and its room for the entries stay
+pub takes-ranged : {main : List ℕ} {a used : ℕ} {p : Path} {log : List ℕ} {x : Fed} → Takes main a p used log x
+    → pathInRange p ≡ true → pathInRange (x .path) ≡ true
+takes-ranged none r = r
+takes-ranged {main} {a} {used} {p} {log} (more e t) r = takes-ranged t (step-ranged p r used log (quadwordAt main a))
+
+pub takes-fits : {main : List ℕ} {a used : ℕ} {p : Path} {log : List ℕ} {x : Fed} → Takes main a p used log x → 2 * used ≤ length log
+    → (length (x .log) ≡ length log) × (2 * (x .used) ≤ length log)
+takes-fits none h = (refl, h)
+takes-fits {main} {a} {used} {p} {log} (more e t) h =
+    let w = step-wrote p used log h (quadwordAt main a) in
+    let n : length (gifStep p (quadwordAt main a) used log .log) ≡ length log = ap length (w .stored) ∙ logged-length log used (w .entries) in
+    let i = takes-fits t (rw n (w .room)) in
+    (i .0 ∙ n, rw (← n) (i .1))

@@ -5,7 +5,7 @@ use lib.ListN.{length}
 use Rattle.gif.specs.Log.{LogFits}
 use Rattle.gif.specs.Range.{PlaceFits}
 use Rattle.gif.specs.Feed.{feedsOf}
-use Rattle.gif.proofs.FeedLaws.{plus, feeds-begin, ends-all, goes-on, ends-refused, log-stays, place-stays}
+use Rattle.gif.proofs.FeedLaws.{plus, feeds-begin, ends-all, goes-on, ends-refused, next-log-fits, next-place-fits}
 use borrow.Author.Needs.{needs}
 use Rattle.gif.proofs.feed.feed.Statement.{statement}
 use Rattle.gif.proofs.feed.feed.Tie as tie
@@ -44,8 +44,8 @@ loop-again c =
     let i = c .before .before .before .before .before .before .before .before .before .before .loop .inv in
     record {
       inner = i .inner;
-      log-fits = log-stays _ _ _ _ (s .ensures) (i .log-fits) (s .kept .1 .1 .1 .0);
-      place-fits = place-stays _ _ _ _ (s .ensures) (i .place-fits);
+      log-fits = next-log-fits _ _ _ _ (s .ensures) (i .log-fits) (s .kept .1 .1 .1 .0);
+      place-fits = next-place-fits _ _ _ _ (s .ensures) (i .place-fits);
       length = s .kept .1 .1 .1 .0 ∙ i .length;
       same =
           goes-on _ _ _ _ _ _ _ (i .same) (c .before .before .before .before .before .before .before .before .before .loop-test .taken) (c .before .before .before .before .before .before .before .before .long-at .ensures) (c .before .before .before .before .before .before .before .long-at2 .ensures) (s .ensures)
