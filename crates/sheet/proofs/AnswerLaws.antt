@@ -6,6 +6,7 @@ use native.Mathlib.Omega.{arith}
 use borrow.Author.Tests.{ne-eqb, eqb-true, lt-ltb, le-ltb, not-false}
 use lib.ListN.{length}
 use Rattle.fields.specs.Fields.{if}
+use Rattle.fields.proofs.ChoiceLaws.{if-zero}
 use Rattle.gif.proofs.RangeLaws.{log-fits}
 use Rattle.sheet.specs.declared.MeaningAnswer.the-variants.{Meant, Refused}
 use Rattle.sheet.specs.declared.totals.Totals.{Totals}
@@ -17,7 +18,6 @@ use Rattle.sheet.specs.Meaning.{plain, meaningOf}
 use Rattle.sheet.specs.Results.{entriesIn, left, lengthRefusal, meaningOfSheet}
 use Rattle.sheet.specs.Inner.{measuredOf}
 use Rattle.sheet.specs.Fed.{Fed, fed, fedIn, Feeds, Means}
-use Rattle.sheet.proofs.ReaderLaws.{if-zero}
 use Rattle.sheet.proofs.WholeLaws.{from-start}
 use Rattle.sheet.proofs.TotalsLaws.{measured-whole, measured-refused}
 use Rattle.sheet.proofs.MeaningLaws.{in-count, log-same}
@@ -32,9 +32,9 @@ pub record Lengths (mem code log : List ℕ) (used : ℕ) : Type 0 where
 pub lengths-of : (mem code log : List ℕ) (used : ℕ) → lengthRefusal mem code log used ≡ 0 → Lengths mem code log used
 unfolding lengthRefusal
 lengths-of mem code log used h =
-    let a = if-zero _ _ _ (λ z. omega arith) h in
-    let b = if-zero _ _ _ (λ z. omega arith) (a .1) in
-    let d = if-zero _ _ _ (λ z. omega arith) (b .1) in
+    let a = if-zero _ _ (omega arith) h in
+    let b = if-zero _ _ (omega arith) (a .1) in
+    let d = if-zero _ _ (omega arith) (b .1) in
     record {
       words = eqb-true _ _ (not-false _ (a .0));
       bytes = eqb-true _ _ (not-false _ (b .0));
