@@ -9,7 +9,7 @@ use lib.ListN.{length}
 use lib.Dec.{eqb, leb, ltb}
 use Rattle.fields.specs.Fields.{if, bits}
 use Rattle.fields.proofs.FieldLaws.{bits-below}
-use Rattle.fields.proofs.ChoiceLaws.{and-left, and-right, or-left, or-right, if-ind, if-ind-by}
+use Rattle.fields.proofs.ChoiceLaws.{and-left, and-right, or-left, or-right, if-ind, if-ind-by, if-zero}
 use Rattle.gif.specs.declared.GifAnswer.{GifAnswer}
 use Rattle.gif.specs.declared.GifAnswer.the-variants.{Taken, Refused as GifRefused}
 use Rattle.gif.specs.Step.{Left as GifLeft, gifStep}
@@ -40,7 +40,7 @@ use Rattle.chain.specs.Pending.{tagsAfter, payloadAfter}
 use Rattle.chain.specs.Range.{channelInRange, startInRange, entryInRange, stackInRange, tagWordInRange, tagsInRange, wordsInRange, payloadInRange, tagsInside, payloadInside}
 use Rattle.chain.specs.Inner.{Ready, WordInside, PayloadInside}
 use Rattle.chain.specs.Step.{Machine, Stepped, stepped, steppedBy, afterVif, vifGiven, afterGif, gifGiven, payloadStep, payloadOrTag, pendingOrTag, stepOf}
-use Rattle.chain.proofs.ReadyLaws.{if-zero, not-false, Fields, Facts, facts-of, ready-of, main-most, main-whole, unit-ready, tadr-below, tadr-whole, tag-word-inside, payload-ready}
+use Rattle.chain.proofs.ReadyLaws.{not-false, Fields, Facts, facts-of, ready-of, main-most, main-whole, unit-ready, tadr-below, tadr-whole, tag-word-inside, payload-ready}
 
 -- ---- a tag
 

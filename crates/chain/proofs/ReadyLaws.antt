@@ -8,7 +8,7 @@ use borrow.Author.Tests.{leb-true, le-leb, ltb-true, ltb-false, lt-ltb, le-ltb, 
 use lib.ListN.{length}
 use lib.Dec.{eqb, leb, ltb}
 use Rattle.fields.specs.Fields.{if}
-use Rattle.fields.proofs.ChoiceLaws.{and-left, and-right, or-left, or-right}
+use Rattle.fields.proofs.ChoiceLaws.{if-zero, and-left, and-right, or-left, or-right}
 use Rattle.gif.specs.Log.{logRefused}
 use Rattle.gif.specs.Range.{pathInRange}
 use Rattle.vif.specs.Step.{Lent}
@@ -22,12 +22,6 @@ use Rattle.chain.specs.declared.Payload.the-variants.{Words}
 use Rattle.chain.specs.declared.State.{State}
 use Rattle.chain.specs.Range.{channelInRange, startInRange, stackInRange, tagWordInRange, tagsInRange, wordsInRange, payloadInRange, stateInRange, mainRefused, tagsInside, payloadInside, entryRefusal}
 use Rattle.chain.specs.Inner.{Ready, WordInside, PayloadInside, QuadwordReady}
-
--- an answer of 0 says that the test was false
-pub if-zero : (b : Bool) (n : ℕ) {r : ℕ} → 0 < n → if b n r ≡ 0 → (b ≡ false) × (r ≡ 0)
-unfolding if
-if-zero true n h e = absurd (omega arith)
-if-zero false n h e = (refl, e)
 
 pub not-false : (b : Bool) → not b ≡ false → b ≡ true
 not-false true h = refl

@@ -1,10 +1,11 @@
 -- Two boards: which are refused, and what the comparison of the others says.
-use Prim.Native.Nat.{ℕ, _*_, _%_}
+use Prim.Native.Nat.{ℕ}
 use mathlib.Core.Bool.{Bool, not, _&&_, _||_}
 use mathlib.Core.List.{List}
 use lib.ListN.{length}
 use lib.Dec.{eqb, ltb}
 use Rattle.fields.specs.Fields.{if}
+use Rattle.gif.specs.Log.{logRefused}
 use Rattle.compare.specs.declared.Comparison.{Comparison}
 use Rattle.compare.specs.declared.CompareAnswer.{CompareAnswer}
 use Rattle.compare.specs.declared.CompareAnswer.the-variants.{Compared, Refused}
@@ -30,11 +31,7 @@ dataRefused mem = not (eqb (length mem) 4096)
 abbrev pub codeRefused : List ℕ → Bool
 codeRefused code = not (eqb (length code) 16384)
 
--- a log has an even number of numbers, at most 131,072, and room for the entries used
-unfoldable pub logRefused : List ℕ → ℕ → Bool
-logRefused log used = eqb (length log % 2) 1 || (ltb 131072 (length log) || ltb (length log) (2 * used))
-
--- the refusal of two boards, 0 where there is none
+-- the refusal of two boards, 0 where there is none; a log is refused as a run refuses it
 unfoldable pub refusal : Board → Board → ℕ
 refusal a b =
     if (dataRefused (a .mem) || dataRefused (b .mem)) 2

@@ -1,19 +1,6 @@
 // The lengths that are compared, and the others.
 ghost use mathlib.Core.Path.{_≡_};
-ghost use Rattle.compare.specs.Boards.{board, logRefused, refusal};
-
-// Whether a log is odd, too long, or too short for the entries used.
-fn log_refused(log: &[u64], used: u64) -> bool
-    ensures { λ r. ⌜ r ≡ logRefused (now (log .entry)) used ⌝ }
-{
-    if log.len() % 2 == 1 {
-        return true;
-    }
-    if 131072 < log.len() {
-        return true;
-    }
-    ((log.len() / 2) as u64) < used
-}
+ghost use Rattle.compare.specs.Boards.{board, refusal};
 
 // The refusal, 0 where there is none.
 pub(crate) fn refusal(
@@ -40,10 +27,10 @@ pub(crate) fn refusal(
     if code_b.len() != 16384 {
         return 3;
     }
-    if log_refused(log_a, used_a) {
+    if gif::log_refused(log_a, used_a) {
         return 4;
     }
-    if log_refused(log_b, used_b) {
+    if gif::log_refused(log_b, used_b) {
         return 4;
     }
     0

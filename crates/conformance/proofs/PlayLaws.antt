@@ -9,7 +9,7 @@ use lib.ListN.{length, take, drop, length-append, length-drop, take-append-drop}
 use lib.Seq.{length-take-le, drop-at}
 use lib.Dec.{eqb, ltb}
 use Rattle.fields.specs.Fields.{if}
-use Rattle.fields.proofs.ChoiceLaws.{if-ind-by, and-left, and-right}
+use Rattle.fields.proofs.ChoiceLaws.{if-ind-by, if-zero, and-left, and-right}
 use Rattle.gif.specs.Log.{logRefused}
 use Rattle.vif.specs.Step.{Lent}
 use Rattle.chain.specs.declared.StartAnswer.the-variants.{Started}
@@ -18,7 +18,7 @@ use Rattle.chain.specs.declared.State.{State}
 use Rattle.chain.specs.Range.{mainRefused, stateInRange, startInRange}
 use Rattle.chain.specs.Start.{startResult, startedFrom, startOf}
 use Rattle.chain.specs.Inner.{Ready}
-use Rattle.chain.proofs.ReadyLaws.{if-zero, not-false, tadr-whole}
+use Rattle.chain.proofs.ReadyLaws.{not-false, tadr-whole}
 use Rattle.sheet.specs.declared.BuildAnswer.the-variants.{Built}
 use Rattle.sheet.specs.Records.{Record}
 use Rattle.sheet.specs.Reader.{Contents, valid, refused, contentsOf}

@@ -2,17 +2,16 @@
 use mathlib.Core.Path.{_≡_, refl, sym, ap, _∙_}
 use mathlib.Core.Bool.{Bool, true, false, not, _&&_, _||_}
 use mathlib.Core.List.{List, [], _∷_, _++_}
-use Prim.Native.Nat.{ℕ, zero, suc, _+_, _*_, _-_, _/_, _%_, _^_, _<_, _≤_}
+use Prim.Native.Nat.{ℕ, zero, suc, _+_, _*_, _-_, _/_, _^_, _<_, _≤_}
 use native.Mathlib.Nat.{add-zero, zero-add, add-sub-of-le}
 use native.Mathlib.Omega.{arith}
-use borrow.Author.Tests.{ltb-false}
 use lib.ListN.{length, take, drop, length-append, length-drop}
 use lib.Seq.{sets, take-at, drop-at, length-sets}
-use lib.Dec.{eqb, ltb}
+use lib.Dec.{ltb}
 use Rattle.fields.specs.Fields.{if}
-use Rattle.fields.proofs.ChoiceLaws.{if-ind-by, or-right}
+use Rattle.fields.proofs.ChoiceLaws.{if-ind-by}
 use Rattle.gif.specs.declared.Place.the-variants.{Idle}
-use Rattle.gif.specs.Log.{logRefused}
+use Rattle.gif.proofs.RangeLaws.{log-fits}
 use Rattle.vif.specs.declared.Waiting.the-variants.{Nothing}
 use Rattle.vif.specs.Step.{Lent, lent}
 use Rattle.chain.specs.declared.Answer.the-variants.{Done}
@@ -97,11 +96,6 @@ log-whole es log h =
     let d = length-drop (2 * length es) log in
     length-append (numbersOf es) (drop (2 * length es) log) ∙ omega arith
 
--- "4 log length ... below twice the entries used": not so
-log-holds : (log : List ℕ) (used : ℕ) → logRefused log used ≡ false → 2 * used ≤ length log
-unfolding logRefused
-log-holds log used h = ltb-false (length log) (2 * used) (or-right (ltb 131072 (length log)) (ltb (length log) (2 * used)) (or-right (eqb (length log % 2) 1) _ h))
-
 -- ---- the run
 
 -- a run that passes its entry tests is its steps
@@ -152,7 +146,7 @@ module _ (sheet output main : List ℕ) (a size allowance : ℕ) (s : State) (m 
   passed = rw begun-same at (p .entered)
 
   holds : 2 * s .used ≤ length (m .log)
-  holds = log-holds (m .log) (s .used) (facts-of {main = main} {s = begun} {m = m} (record { passed = passed }) .logged)
+  holds = log-fits (m .log) (s .used) (facts-of {main = main} {s = begun} {m = m} (record { passed = passed }) .logged) .holds
 
   abbrev means : Plain
   means = meaningOf rs (plain (m .mem) (m .code) (entriesIn (m .log) (s .used)))

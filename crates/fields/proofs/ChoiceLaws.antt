@@ -1,7 +1,7 @@
 -- Laws of the choice by a test, and of tests joined.
 use mathlib.Core.Path.{_≡_, refl}
 use mathlib.Core.Bool.{Bool, true, false, _&&_, _||_}
-use Prim.Native.Nat.{ℕ}
+use Prim.Native.Nat.{ℕ, _<_}
 use native.Mathlib.Omega.{arith}
 use Rattle.fields.specs.Fields.{if}
 
@@ -16,6 +16,12 @@ pub if-ind-by : {A : Type 0} (P : A → Type 0) (b : Bool) {x y : A} → (b ≡ 
 unfolding if
 if-ind-by P true p q = p refl
 if-ind-by P false p q = q refl
+
+-- a refusal that is 0 was not chosen
+pub if-zero : (b : Bool) (n : ℕ) {r : ℕ} → 0 < n → if b n r ≡ 0 → (b ≡ false) × (r ≡ 0)
+unfolding if
+if-zero true n h e = absurd (omega arith)
+if-zero false n h e = (refl, e)
 
 pub and-left : (a b : Bool) → (a && b) ≡ true → a ≡ true
 and-left true b h = refl

@@ -1,4 +1,5 @@
--- Laws of fields, of choices and of parts.
+-- Laws of fields, of choices, of lists and of parts.
 pub mod FieldLaws
 pub mod ChoiceLaws
+pub mod ListLaws
 pub mod PartLaws

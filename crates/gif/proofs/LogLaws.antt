@@ -1,14 +1,13 @@
 -- The log: what entries leave in it.
-use mathlib.Core.Path.{_≡_, refl, sym, _∙_, ap}
+use mathlib.Core.Path.{_≡_, refl, _∙_, ap}
 use mathlib.Core.Bool.{Bool, true, false}
 use mathlib.Core.List.{List, [], _∷_, _++_, append-assoc}
 use Prim.Native.Nat.{ℕ, suc, _+_, _*_, _-_, _/_, _%_, _<_, _≤_}
-use native.Mathlib.Nat.{add-zero}
 use native.Mathlib.Numerals.{add-one}
 use native.Mathlib.Omega.{arith}
 use borrow.Author.Tests.{lt-ltb, le-ltb, ltb-true, ltb-false}
 use lib.ListN.{length, set, take, drop, length-append}
-use lib.Seq.{sets, length-sets, sets-eq, length-take-le, take-at, drop-at}
+use lib.Seq.{length-sets, sets-eq, length-take-le, take-at, drop-at}
 use lib.Dec.{eqb, ltb}
 use Rattle.gif.specs.declared.Entry.{Entry}
 use Rattle.gif.specs.declared.Path.{Path}
@@ -16,6 +15,7 @@ use Rattle.gif.specs.declared.GifAnswer.the-variants.{Taken}
 use Rattle.gif.specs.declared.Writes.{Writes}
 use Rattle.gif.specs.declared.Writes.the-variants.{Nothing, One, Two}
 use Rattle.fields.specs.Fields.{if}
+use Rattle.fields.proofs.ListLaws.{sets-then}
 use Rattle.gif.specs.Log.{numbers, listed, logged, lacksRoom, Entered, entered, entryOf}
 use Rattle.gif.specs.Step.{Left, refused, commit}
 
@@ -70,19 +70,13 @@ pub numbers-append : (es fs : List Entry) → numbers (es ++ fs) ≡ numbers es 
 numbers-append [] fs = refl
 numbers-append (e ∷ es) fs = rw (numbers-append es fs)
 
-sets-append : (l : List ℕ) (i : ℕ) (xs ys : List ℕ) → sets l i (xs ++ ys) ≡ sets (sets l i xs) (i + length xs) ys
-sets-append l i [] ys = rw add-zero
-sets-append l i (x ∷ xs) ys =
-    let e : i + suc (length xs) ≡ suc i + length xs = omega arith in
-    rw e (sets-append (set l i x) (suc i) xs ys)
-
 -- entries, and then more of them
 pub logged-then : (log : List ℕ) (used : ℕ) (es fs : List Entry) → logged (logged log used es) (used + length es) fs ≡ logged log used (es ++ fs)
 unfolding logged
 logged-then log used es fs =
     let n = numbers-length es in
     let e : 2 * (used + length es) ≡ 2 * used + length (numbers es) = omega arith in
-    rw (e, numbers-append es fs) (sym (sets-append log (2 * used) (numbers es) (numbers fs)))
+    rw (e, numbers-append es fs) (sets-then log (2 * used) (numbers es) (numbers fs))
 
 module _ (log : List ℕ) (used : ℕ) (es : List Entry) (h : 2 * (used + length es) ≤ length log) where
   counted-numbers : 2 * used + length (numbers es) ≡ 2 * (used + length es)

@@ -1,13 +1,13 @@
 -- The answers of the meaning.
 use mathlib.Core.Path.{_≡_, sym, ap, _∙_}
 use mathlib.Core.List.{List}
-use Prim.Native.Nat.{ℕ, _+_, _*_, _-_, _/_, _%_, _<_, _≤_}
+use Prim.Native.Nat.{ℕ, _+_, _*_, _-_, _/_, _<_, _≤_}
 use native.Mathlib.Omega.{arith}
-use borrow.Author.Tests.{ne-eqb, eqb-true, eqb-false, lt-ltb, le-ltb, ltb-false, not-false}
+use borrow.Author.Tests.{ne-eqb, eqb-true, lt-ltb, le-ltb, not-false}
 use lib.ListN.{length}
-use lib.Dec.{eqb, ltb}
 use Rattle.fields.specs.Fields.{if}
-use Rattle.fields.proofs.ChoiceLaws.{or-left, or-right}
+use Rattle.fields.proofs.ChoiceLaws.{if-zero}
+use Rattle.gif.proofs.RangeLaws.{log-fits}
 use Rattle.sheet.specs.declared.MeaningAnswer.the-variants.{Meant, Refused}
 use Rattle.sheet.specs.declared.totals.Totals.{Totals}
 use Rattle.sheet.specs.declared.totals.Measured.{Measured}
@@ -18,7 +18,6 @@ use Rattle.sheet.specs.Meaning.{plain, meaningOf}
 use Rattle.sheet.specs.Results.{entriesIn, left, lengthRefusal, meaningOfSheet}
 use Rattle.sheet.specs.Inner.{measuredOf}
 use Rattle.sheet.specs.Fed.{Fed, fed, fedIn, Feeds, Means}
-use Rattle.sheet.proofs.ReaderLaws.{if-zero}
 use Rattle.sheet.proofs.WholeLaws.{from-start}
 use Rattle.sheet.proofs.TotalsLaws.{measured-whole, measured-refused}
 use Rattle.sheet.proofs.MeaningLaws.{in-count, log-same}
@@ -28,23 +27,18 @@ use Rattle.sheet.proofs.FedLaws.{fedPlain, fed-sheet}
 pub record Lengths (mem code log : List ℕ) (used : ℕ) : Type 0 where
   pub words : length mem ≡ 4096
   pub bytes : length code ≡ 16384
-  pub even : length log % 2 ≡ 1 → ⊥
-  pub most : length log ≤ 131072
   pub held : 2 * used ≤ length log
 
 pub lengths-of : (mem code log : List ℕ) (used : ℕ) → lengthRefusal mem code log used ≡ 0 → Lengths mem code log used
 unfolding lengthRefusal
 lengths-of mem code log used h =
-    let a = if-zero _ _ _ (λ z. omega arith) h in
-    let b = if-zero _ _ _ (λ z. omega arith) (a .1) in
-    let d = if-zero _ _ _ (λ z. omega arith) (b .1) .0 in
-    let e = or-right (eqb (length log % 2) 1) _ d in
+    let a = if-zero _ _ (omega arith) h in
+    let b = if-zero _ _ (omega arith) (a .1) in
+    let d = if-zero _ _ (omega arith) (b .1) in
     record {
       words = eqb-true _ _ (not-false _ (a .0));
       bytes = eqb-true _ _ (not-false _ (b .0));
-      even = eqb-false _ _ (or-left _ _ d);
-      most = ltb-false _ _ (or-left _ _ e);
-      held = ltb-false _ _ (or-right (ltb 131072 (length log)) _ e);
+      held = log-fits log used (d .0) .holds;
     }
 
 -- an accepted sheet, and the room of the log

@@ -1,20 +1,14 @@
 -- Lists and runs of stores.
 use mathlib.Core.Path.{_≡_, refl, _∙_}
-use mathlib.Core.List.{List, [], _∷_, _++_}
+use mathlib.Core.List.{List, _++_}
 use Prim.Native.Nat.{ℕ, suc, _+_, _-_, _<_, _≤_}
-use native.Mathlib.Nat.{add-zero, zero-add}
+use native.Mathlib.Nat.{zero-add}
 use native.Mathlib.Omega.{arith}
 use lib.ListN.{length, getD, set, take, drop, length-drop}
 use lib.Seq.{sets, sets-eq, drop-cons, length-take-le}
+use Rattle.fields.proofs.ListLaws.{sets-then}
 
--- a run of stores, and then another after it
-pub sets-then : (l : List ℕ) (i : ℕ) (xs ys : List ℕ) → sets (sets l i xs) (i + length xs) ys ≡ sets l i (xs ++ ys)
-sets-then l i [] ys = rw add-zero
-sets-then l i (x ∷ xs) ys =
-    let e : i + suc (length xs) ≡ suc i + length xs = omega arith in
-    rw e (sets-then (set l i x) (suc i) xs ys)
-
--- the same of lists that are known by equations
+-- a run of stores and then another after it, of lists that are known by equations
 pub sets-next : (l : List ℕ) (i : ℕ) (xs ys : List ℕ) {a b : List ℕ} {j : ℕ} → a ≡ sets l i xs → j ≡ i + length xs → b ≡ sets a j ys
     → b ≡ sets l i (xs ++ ys)
 sets-next l i xs ys p q r = r ∙ rw (p, q) (sets-then l i xs ys)

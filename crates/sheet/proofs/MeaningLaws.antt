@@ -11,7 +11,7 @@ use Rattle.sheet.specs.declared.Kind.{Kind}
 use Rattle.sheet.specs.declared.Kind.the-variants.{Data, Code, Gs, Start}
 use Rattle.sheet.specs.Records.{Record, bytesAt, number}
 use Rattle.sheet.specs.Sizes.{entriesOf, sheetEntries}
-use Rattle.sheet.specs.Meaning.{Entry, Plain, plain, vectorOf, putVectors, putInstructions, entriesAt, entriesBy, memBy, codeBy, fedRecord, meaningOf}
+use Rattle.sheet.specs.Meaning.{Entry, entry, Plain, plain, vectorOf, putVectors, putInstructions, entryAt, entriesAt, entriesBy, memBy, codeBy, fedRecord, meaningOf}
 use Rattle.sheet.specs.Results.{numbersOf, entriesIn, logWith}
 use Rattle.sheet.specs.Fed.{vectorAt}
 use Rattle.sheet.proofs.ByteLaws.{bytes-inside, bytes-more, bytes-four}
@@ -31,36 +31,67 @@ number-long l i h =
     let k : i + 4 ≤ length l = omega arith in
     rw (bytes-four l i 0 k, bytes-four l i 4 k) (omega arith)
 
--- ---- n items from number j on: one more, none left, and what they keep
+-- ---- n items stored one after another
 
-pub record Turns (puts : ℕ → ℕ → List ℕ → List ℕ) (put : ℕ → List ℕ → List ℕ) : Type 0 where
+-- those from number j on; item j goes to its place
+pub record Turns (puts : ℕ → ℕ → List ℕ → List ℕ) (place : ℕ → ℕ) (item : ℕ → List ℕ) : Type 0 where
   pub none : (j : ℕ) (m : List ℕ) → puts 0 j m ≡ m
-  pub more : (n j : ℕ) (m : List ℕ) → puts (suc n) j m ≡ puts n (suc j) (put j m)
-  pub keep : (j : ℕ) (m : List ℕ) → length (put j m) ≡ length m
+  pub more : (n j : ℕ) (m : List ℕ) → puts (suc n) j m ≡ puts n (suc j) (sets m (place j) (item j))
 
-module _ {puts : ℕ → ℕ → List ℕ → List ℕ} {put : ℕ → List ℕ → List ℕ} (t : Turns puts put) where
-  pub turns-more : (n j : ℕ) (m : List ℕ) {m′ : List ℕ} → j < n → m′ ≡ put j m → puts (n - (j + 1)) (j + 1) m′ ≡ puts (n - j) j m
-  turns-more n j m h e =
-      let k : n - j ≡ suc (n - (j + 1)) = omega arith in
-      rw (k, t .more (n - (j + 1)) j m, e, add-one)
+-- a loop that stores them: those from number j on are left
+pub record Going (puts : ℕ → ℕ → List ℕ → List ℕ) (n : ℕ) (first : List ℕ) (j : ℕ) (m : List ℕ) : Type 0 where
+  pub most : j ≤ n
+  pub size : length m ≡ length first
+  pub same : puts (n - j) j m ≡ puts n 0 first
 
-  pub turns-none : (n j : ℕ) (m : List ℕ) → n ≤ j → puts (n - j) j m ≡ m
-  turns-none n j m h =
+-- it begins with all of them
+pub turns-begin : {puts : ℕ → ℕ → List ℕ → List ℕ} {n : ℕ} {m : List ℕ} → Going puts n m 0 m
+turns-begin = record { most = omega arith; size = refl; same = rw sub-zero }
+
+module _ {puts : ℕ → ℕ → List ℕ → List ℕ} {place : ℕ → ℕ} {item : ℕ → List ℕ} (t : Turns puts place item) where
+  -- goes on by one
+  pub turns-on : {n j : ℕ} {first m m′ x : List ℕ} → Going puts n first j m → j < n → m′ ≡ sets m (place j) x → x ≡ item j → Going puts n first (j + 1) m′
+  turns-on {n} {j} {first} {m} {m′} {x} g h e q =
+      let k : n - j ≡ suc (n - suc j) = omega arith in
+      record {
+        most = omega arith;
+        size = ap length e ∙ length-sets m (place j) x ∙ g .size;
+        same = rw (e, q, add-one) (sym (t .more (n - suc j) j m)) ∙ rw k at (g .same);
+      }
+
+  -- and ends with none
+  pub turns-end : {n j : ℕ} {first m : List ℕ} → Going puts n first j m → n ≤ j → m ≡ puts n 0 first
+  turns-end {n} {j} {first} {m} g h =
       let k : n - j ≡ 0 = omega arith in
-      rw k (t .none j m)
+      sym (t .none j m) ∙ rw k at (g .same)
 
   pub turns-keep : (n j : ℕ) (m : List ℕ) → length (puts n j m) ≡ length m
   turns-keep zero j m = ap length (t .none j m)
-  turns-keep (suc n) j m = ap length (t .more n j m) ∙ turns-keep n (suc j) (put j m) ∙ t .keep j m
+  turns-keep (suc n) j m =
+      ap length (t .more n j m) ∙ turns-keep n (suc j) (sets m (place j) (item j)) ∙ length-sets m (place j) (item j)
+
+-- entries into a log, those from number j on behind the ones before them
+unfoldable pub putEntries : ℕ → List ℕ → ℕ → ℕ → List ℕ → List ℕ
+putEntries used body n j log = sets log (2 * (used + j)) (numbersOf (entriesAt body n j))
 
 module _ (a : ℕ) (body : List ℕ) where
-  pub vector-turns : Turns (putVectors a body) (λ (j : ℕ) (m : List ℕ). sets m (4 * ((a + j) % 1024)) (vectorOf body j))
+  pub vector-turns : Turns (putVectors a body) (λ (j : ℕ). 4 * ((a + j) % 1024)) (vectorOf body)
   unfolding putVectors
-  vector-turns = record { none = λ j m. refl; more = λ n j m. refl; keep = λ j m. length-sets m (4 * ((a + j) % 1024)) (vectorOf body j) }
+  vector-turns = record { none = λ j m. refl; more = λ n j m. refl }
 
-  pub instruction-turns : Turns (putInstructions a body) (λ (j : ℕ) (m : List ℕ). sets m (8 * ((a + j) % 2048)) (bytesAt body (8 * j) 8))
+  pub instruction-turns : Turns (putInstructions a body) (λ (j : ℕ). 8 * ((a + j) % 2048)) (λ (j : ℕ). bytesAt body (8 * j) 8)
   unfolding putInstructions
-  instruction-turns = record { none = λ j m. refl; more = λ n j m. refl; keep = λ j m. length-sets m (8 * ((a + j) % 2048)) (bytesAt body (8 * j) 8) }
+  instruction-turns = record { none = λ j m. refl; more = λ n j m. refl }
+
+  pub entry-turns : Turns (putEntries a body) (λ (j : ℕ). 2 * (a + j)) (λ (j : ℕ). numbersOf (entryAt body j ∷ []))
+  unfolding putEntries entriesAt
+  entry-turns =
+      record { none = λ j m. refl; more = λ n j m. let e : 2 * (a + suc j) ≡ suc (suc (2 * (a + j))) = omega arith in rw e }
+
+-- all entries
+pub entries-all : (used : ℕ) (body : List ℕ) (n : ℕ) (log : List ℕ) → putEntries used body n 0 log ≡ sets log (2 * used) (numbersOf (entriesAt body n 0))
+unfolding putEntries
+entries-all used body n log = rw add-zero
 
 -- ---- the items of a body, where the body lies in the sheet
 
@@ -74,7 +105,7 @@ vector-stored m l q i ex ey ez ew =
     rw (ex, ey, ez, ew, e1, e2, e3)
 
 module _ (l : List ℕ) (b n j : ℕ) (h : j < n) where
-  vector-inside : vectorAt l (b + 16 * j) ≡ vectorOf (bytesAt l b (16 * n)) j
+  pub vector-inside : vectorAt l (b + 16 * j) ≡ vectorOf (bytesAt l b (16 * n)) j
   vector-inside =
       rw (
         bytes-inside l b (16 * n) (16 * j) 4 {k = b + 16 * j} (omega arith) refl,
@@ -83,50 +114,19 @@ module _ (l : List ℕ) (b n j : ℕ) (h : j < n) where
         bytes-inside l b (16 * n) (16 * j + 12) 4 {k = b + 16 * j + 12} (omega arith) (omega arith),
       )
 
-  pub vectors-more : (a : ℕ) (m : List ℕ) {m′ : List ℕ} → m′ ≡ sets m (4 * ((a + j) % 1024)) (vectorAt l (b + 16 * j))
-      → putVectors a (bytesAt l b (16 * n)) (n - (j + 1)) (j + 1) m′ ≡ putVectors a (bytesAt l b (16 * n)) (n - j) j m
-  vectors-more a m e = turns-more (vector-turns a (bytesAt l b (16 * n))) n j m h (e ∙ ap (λ (v : List ℕ). sets m (4 * ((a + j) % 1024)) v) vector-inside)
+  pub instruction-inside : bytesAt l (b + 8 * j) 8 ≡ bytesAt (bytesAt l b (8 * n)) (8 * j) 8
+  instruction-inside = rw (bytes-inside l b (8 * n) (8 * j) 8 {k = b + 8 * j} (omega arith) refl)
 
-  pub instructions-more : (a : ℕ) (m : List ℕ) {m′ : List ℕ} → m′ ≡ sets m (8 * ((a + j) % 2048)) (bytesAt l (b + 8 * j) 8)
-      → putInstructions a (bytesAt l b (8 * n)) (n - (j + 1)) (j + 1) m′ ≡ putInstructions a (bytesAt l b (8 * n)) (n - j) j m
-  instructions-more a m e =
-      turns-more (instruction-turns a (bytesAt l b (8 * n))) n j m h (e ∙ rw (bytes-inside l b (8 * n) (8 * j) 8 {k = b + 8 * j} (omega arith) refl))
-
--- ---- entries into the log
-
--- those from number j on, where the ones before them stand in the log
-unfoldable pub logFrom : List ℕ → ℕ → ℕ → ℕ → List ℕ → List ℕ
-logFrom body used n j log = sets log (2 * (used + j)) (numbersOf (entriesAt body (n - j) j))
-
-module _ (l : List ℕ) (b n : ℕ) (f : b + 16 * n ≤ length l) (used j : ℕ) (log : List ℕ) where
-  pub entries-more : {log′ : List ℕ} {r v : ℕ} → j < n → r ≡ getD l (b + 16 * j + 8) 0 → v ≡ number (bytesAt l (b + 16 * j) 8)
-      → log′ ≡ sets log (2 * (used + j)) (r ∷ v ∷ []) → logFrom (bytesAt l b (16 * n)) used n (j + 1) log′ ≡ logFrom (bytesAt l b (16 * n)) used n j log
-  unfolding logFrom entriesAt
-  entries-more h er ev e =
-      let k : n - j ≡ suc (n - (j + 1)) = omega arith in
-      let i : 2 * (used + (j + 1)) ≡ suc (suc (2 * (used + j))) = omega arith in
+  pub entry-inside : {r v : ℕ} → b + 16 * n ≤ length l → r ≡ getD l (b + 16 * j + 8) 0 → v ≡ number (bytesAt l (b + 16 * j) 8)
+      → numbersOf (entry r v ∷ []) ≡ numbersOf (entryAt (bytesAt l b (16 * n)) j ∷ [])
+  entry-inside f er ev =
       rw (
-        k,
-        i,
-        e,
         er,
         ev,
-        add-one,
         bytes-inside l b (16 * n) (16 * j + 8) 1 {k = b + 16 * j + 8} (omega arith) (omega arith),
         bytes-inside l b (16 * n) (16 * j) 8 {k = b + 16 * j} (omega arith) refl,
         number-byte l (b + 16 * j + 8) (omega arith),
       )
-
-module _ (body : List ℕ) (used n : ℕ) (log : List ℕ) where
-  pub entries-none : (j : ℕ) → n ≤ j → logFrom body used n j log ≡ log
-  unfolding logFrom entriesAt
-  entries-none j h =
-      let k : n - j ≡ 0 = omega arith in
-      rw k
-
-  pub entries-all : logFrom body used n 0 log ≡ sets log (2 * used) (numbersOf (entriesAt body n 0))
-  unfolding logFrom
-  entries-all = rw (sub-zero, add-zero)
 
 -- ---- how many entries
 

@@ -8,7 +8,7 @@ use lib.ListN.{length, getD}
 use lib.Dec.{eqb, leb, ltb}
 use borrow.Author.Tests.{lt-ltb, le-ltb, ltb-false, not-true, not-false, leb-true, le-leb, eqb-true, eqb-false}
 use Rattle.fields.specs.Fields.{if}
-use Rattle.fields.proofs.ChoiceLaws.{if-ind-by, and-left, and-right}
+use Rattle.fields.proofs.ChoiceLaws.{if-ind-by, if-zero, and-left, and-right}
 use Rattle.sheet.specs.declared.Kind.{Kind}
 use Rattle.sheet.specs.declared.Reading.{Reading}
 use Rattle.sheet.specs.declared.Reading.the-variants.{End, Found, Refused}
@@ -38,22 +38,16 @@ pub record Stands (sheet : List ℕ) (at : ℕ) : Type 0 where
   pub whole : nextAt sheet at ≤ length sheet
   pub pads : padsFit (kindAt sheet at) sheet (at + 6) (countAt sheet at) ≡ true
 
--- a refusal that is 0 was not chosen
-pub if-zero : (b : Bool) (n m : ℕ) → (n ≡ 0 → ⊥) → if b n m ≡ 0 → (b ≡ false) × (m ≡ 0)
-unfolding if
-if-zero true n m h e = absurd (h e)
-if-zero false n m h e = (refl, e)
-
 pub stands : (sheet : List ℕ) (at : ℕ) → recordRefusal sheet at ≡ 0 → Stands sheet at
 unfolding recordRefusal rowRefusal
 stands sheet at h =
-    let a = if-zero _ _ _ (λ z. omega arith) h in
-    let b = if-zero _ _ _ (λ z. omega arith) (a .1) in
-    let d = if-zero _ _ _ (λ z. omega arith) (b .1) in
-    let e = if-zero _ _ _ (λ z. omega arith) (d .1) in
-    let f = if-zero _ _ _ (λ z. omega arith) (e .1) in
-    let g = if-zero _ _ _ (λ z. omega arith) (f .1) in
-    let i = if-zero _ _ _ (λ z. omega arith) (g .1) in
+    let a = if-zero _ _ (omega arith) h in
+    let b = if-zero _ _ (omega arith) (a .1) in
+    let d = if-zero _ _ (omega arith) (b .1) in
+    let e = if-zero _ _ (omega arith) (d .1) in
+    let f = if-zero _ _ (omega arith) (e .1) in
+    let g = if-zero _ _ (omega arith) (f .1) in
+    let i = if-zero _ _ (omega arith) (g .1) in
     record {
       mark = not-false _ (b .0);
       listed = not-false _ (d .0);

@@ -1,10 +1,11 @@
 -- The steps and the meaning of a sheet as functions answer them, refused sheets included.
-use Prim.Native.Nat.{ℕ, zero, suc, _+_, _*_, _%_}
-use mathlib.Core.Bool.{Bool, not, _||_}
+use Prim.Native.Nat.{ℕ, zero, suc, _+_, _*_}
+use mathlib.Core.Bool.{not}
 use mathlib.Core.List.{List, [], _∷_, _++_}
 use lib.ListN.{length, drop}
 use lib.Dec.{eqb, ltb}
 use Rattle.fields.specs.Fields.{if}
+use Rattle.gif.specs.Log.{logRefused}
 use Rattle.sheet.specs.declared.StepsAnswer.{StepsAnswer}
 use Rattle.sheet.specs.declared.StepsAnswer.the-variants.{Steps, Refused as StepsRefused}
 use Rattle.sheet.specs.declared.MeaningAnswer.{MeaningAnswer}
@@ -63,7 +64,7 @@ unfoldable pub lengthRefusal : List ℕ → List ℕ → List ℕ → ℕ → �
 lengthRefusal mem code log used =
     if (not (eqb (length mem) 4096)) 2
     (if (not (eqb (length code) 16384)) 3
-    (if (eqb (length log % 2) 1 || (ltb 131072 (length log) || ltb (length log) (2 * used))) 4
+    (if (logRefused log used) 4
     0))
 
 unfoldable pub meaningOfSheet : List ℕ → List ℕ → List ℕ → List ℕ → ℕ → Left

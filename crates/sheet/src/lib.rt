@@ -8,7 +8,7 @@ pub use plain::meaning;
 pub use reader::read_record;
 pub use totals::steps;
 pub use writer::build;
-pub use writer::tejborun_build;
+pub use writer::build_number;
 
 pub enum Kind {
     Data,

@@ -172,13 +172,7 @@ fn length_refusal(data: &[u32], code: &[u8], log: &[u64], used: u64) -> u32
     if code.len() != 16384 {
         return 3;
     }
-    if log.len() % 2 == 1 {
-        return 4;
-    }
-    if 131072 < log.len() {
-        return 4;
-    }
-    if ((log.len() / 2) as u64) < used {
+    if gif::log_refused(log, used) {
         return 4;
     }
     0

@@ -202,9 +202,8 @@ pub fn build(sheet: &[u8], output: &mut [u8]) -> BuildAnswer
     }
 }
 
-// What the bench host calls.
-#[no_mangle]
-pub extern "C" fn tejborun_build(sheet: &[u8], output: &mut [u8]) -> usize
+// The same with one number for its answer: the chain's length in bytes, or the refusal without its offset.
+pub fn build_number(sheet: &[u8], output: &mut [u8]) -> usize
     ensures { λ r. ⌜ (r ≡ exportedNumber (buildOf (now (sheet .entry)) (now (output .entry)) .answer)) × (now (output .exit) ≡ buildOf (now (sheet .entry)) (now (output .entry)) .output) ⌝ }
 {
     match build(sheet, output) {

@@ -49,11 +49,11 @@ pub(crate) fn tell_build(
     sheet: &[u8],
     output: &mut [u8],
 ) -> usize {
-    let exported = sheet::tejborun_build(sheet, output);
+    let number = sheet::build_number(sheet, output);
     fill_bytes(output, fill_of(header, 3));
     let answer = sheet::build(sheet, output);
     let a = tell_head(out, at, build_head(answer));
-    let b = emit(out, a, low_word(exported as u64));
+    let b = emit(out, a, low_word(number as u64));
     emit_bytes(out, b, output)
 }
 

@@ -8,11 +8,12 @@ ghost use Rattle.vif.specs.Step.{lent};
 ghost use Rattle.tejborun.specs.Buffers.{answered};
 ghost use Rattle.tejborun.specs.Sheets.{stepsCall, meant, meaningCall};
 
+// What the bench host calls.
 #[no_mangle]
 pub extern "C" fn tejborun_build(sheet: &[u8], output: &mut [u8]) -> usize
     ensures { λ r. ⌜ (r ≡ exportedNumber (buildOf (now (sheet .entry)) (now (output .entry)) .answer)) × (now (output .exit) ≡ buildOf (now (sheet .entry)) (now (output .entry)) .output) ⌝ }
 {
-    sheet::tejborun_build(sheet, output)
+    sheet::build_number(sheet, output)
 }
 
 #[no_mangle]

@@ -4,7 +4,7 @@ use Rattle.sheet_bench.proofs.rounds.Statement.{statement}
 use Rattle.sheet_bench.proofs.rounds.Tie as tie
 use Rattle.sheet_bench.proofs.rounds.Reads as reads
 use Rattle.sheet_bench.proofs.rounds.Lts as lts
-use Rattle.sheet.proofs.tejborun_build.Reads as tejborun-build-reads
+use Rattle.sheet.proofs.build_number.Reads as build-number-reads
 
 abbrev Inv-loop : tie.InvT-loop
 Inv-loop sheet output₀ count last₀ left₀ output last left = left ≤ count
@@ -17,8 +17,8 @@ loop-holds : tie.Need-loop-holds Inv-loop μ-loop
 loop-holds c = search needs
 
 -- src/main.rt:13:9
-tejborun-build-requires : tie.Need-tejborun-build-requires Inv-loop μ-loop
-tejborun-build-requires c κs = search needs
+build-number-requires : tie.Need-build-number-requires Inv-loop μ-loop
+build-number-requires c κs = search needs
 
 -- src/main.rt:14:9
 sub-left : tie.Need-sub-left Inv-loop μ-loop
@@ -43,7 +43,7 @@ rounds-spec =
     Inv-loop
     μ-loop
     loop-holds
-    tejborun-build-requires
+    build-number-requires
     sub-left
     loop-less
     loop-again

@@ -1,42 +1,26 @@
-use mathlib.Core.Path.{_≡_, sym, _∙_}
-use Prim.Native.Nat.{_≤_, _*_, _-_}
-use native.Mathlib.Nat.{sub-zero}
-use native.Mathlib.Omega.{arith}
-use lib.ListN.{length}
+use Prim.Native.Nat.{_*_, _-_}
 use borrow.Author.Needs.{needs}
 use Rattle.sheet.specs.Records.{bytesAt}
 use Rattle.sheet.specs.Meaning.{putVectors}
-use Rattle.sheet.proofs.MeaningLaws.{vector-turns, turns-none, vectors-more}
+use Rattle.sheet.proofs.MeaningLaws.{Going, turns-begin, turns-on, turns-end, vector-turns, vector-inside}
 use Rattle.sheet.proofs.plain.put_vectors.Statement.{statement}
 use Rattle.sheet.proofs.plain.put_vectors.Tie as tie
 
 abbrev Inv-loop : tie.InvT-loop
-Inv-loop sheet body n a data₀ j₀ «data» j =
-    record {
-      most : j ≤ n;
-      size : length «data» ≡ 4096;
-      same : putVectors a (bytesAt sheet body (16 * n)) (n - j) j «data» ≡ putVectors a (bytesAt sheet body (16 * n)) n 0 data₀;
-    }
+Inv-loop sheet body n a data₀ j₀ «data» j = Going (putVectors a (bytesAt sheet body (16 * n))) n data₀ j «data»
 
 abbrev μ-loop : tie.MeasureT-loop
 μ-loop sheet body n a data₀ j₀ «data» j = n - j
-
-loop-holds : tie.Need-loop-holds Inv-loop μ-loop
-loop-holds c = record { most = omega arith; size = search needs; same = rw sub-zero }
 
 loop-again : tie.Need-loop-again Inv-loop μ-loop
 loop-again c =
     let q = c .before .before .before .before in
     let s = q .before .before .before .before in
-    let e = c .before .before .put-vector .ensures in
-    record {
-      most = omega arith;
-      size = search needs;
-      same = vectors-more (s .args .sheet .now) (s .args .body) _ _ (q .loop-test .taken) _ (q .before .loop .«data») e ∙ q .before .loop .inv .same;
-    }
+    turns-on (vector-turns _ _) (q .before .loop .inv) (q .loop-test .taken) (c .before .before .put-vector .ensures)
+    (vector-inside (s .args .sheet .now) (s .args .body) _ _ (q .loop-test .taken))
 
 returns : tie.Need-returns Inv-loop μ-loop
-returns c = sym (turns-none (vector-turns _ _) _ _ _ (c .loop-test .left)) ∙ c .before .loop .inv .same
+returns c = turns-end (vector-turns _ _) (c .before .loop .inv) (c .loop-test .left)
 
 pub put-vectors-spec : {M : Type 1} → statement M
 put-vectors-spec =
@@ -44,7 +28,7 @@ put-vectors-spec =
     (tie.spec
     Inv-loop
     μ-loop
-    loop-holds
+    (λ c. turns-begin)
     (λ c. search needs)
     (λ c. search needs)
     (λ c. search needs)

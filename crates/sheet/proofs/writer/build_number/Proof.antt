@@ -1,9 +1,9 @@
 use Rattle.sheet.proofs.BuildLaws.{exported}
 use borrow.Author.Needs.{needs}
-use Rattle.sheet.proofs.writer.tejborun_build.Statement.{statement}
-use Rattle.sheet.proofs.writer.tejborun_build.Tie as tie
-use Rattle.sheet.proofs.writer.tejborun_build.Reads as reads
-use Rattle.sheet.proofs.writer.tejborun_build.Lts as lts
+use Rattle.sheet.proofs.writer.build_number.Statement.{statement}
+use Rattle.sheet.proofs.writer.build_number.Tie as tie
+use Rattle.sheet.proofs.writer.build_number.Reads as reads
+use Rattle.sheet.proofs.writer.build_number.Lts as lts
 use Rattle.sheet.proofs.writer.build.Reads as build-reads
 
 -- src/writer.rt:211:11
@@ -38,8 +38,8 @@ same-length-2 c = search needs
 returns-2 : tie.Need-returns-2
 returns-2 c = exported (c .before .before .before .before .before .build .ensures) (c .before .number .given .1)
 
-pub tejborun-build-spec : {M : Type 1} → statement M
-tejborun-build-spec =
+pub build-number-spec : {M : Type 1} → statement M
+build-number-spec =
     tie.close
     (tie.spec
     build-requires
