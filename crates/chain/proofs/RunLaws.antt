@@ -28,17 +28,17 @@ by-answer q f x s m h = rw q h
 
 module _ (main : List ℕ) (s : State) (m : Lent) where
   pub run-done : (n : ℕ) → done s ≡ true → stepsOf main n s m ≡ ran Done s 0 m
-  unfolding stepsOf
+  unfolding stepsOf if
   run-done zero h = rw h
   run-done (suc n) h = rw h
 
   pub run-out : (n : ℕ) → n ≡ 0 → done s ≡ false → stepsOf main n s m ≡ ran Allowance s 0 m
-  unfolding stepsOf
+  unfolding stepsOf if
   run-out n z h = rw (z, h)
 
   module _ (n n′ : ℕ) (z : n ≡ suc n′) (h : done s ≡ false) {x : Stepped} (e : x ≡ stepOf main s m) where
     one-turn : stepsOf main n s m ≡ onStep (stepsOf main n′) x s m
-    unfolding stepsOf
+    unfolding stepsOf if
     one-turn = rw (z, h, ← e)
 
     pub run-goes : x .answer ≡ Completed false → stepsOf main n s m ≡ oneMore (stepsOf main n′ (x .after .state) (x .after .memories))
