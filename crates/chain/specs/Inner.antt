@@ -1,5 +1,5 @@
 -- Facts that inner functions require of their input; no promise of a public function cites them.
-use Prim.Native.Nat.{ℕ, _+_, _*_, _-_, _/_, _%_, _<_, _≤_}
+use Prim.Native.Nat.{ℕ, _+_, _*_, _/_, _%_, _<_, _≤_}
 use mathlib.Core.Bool.{true, false}
 use mathlib.Core.List.{List}
 use mathlib.Core.Path.{_≡_}
@@ -17,9 +17,9 @@ use Rattle.chain.specs.Range.{entryRefusal}
 pub record Ready (main : List ℕ) (s : State) (m : Lent) : Type 0 where
   pub passed : entryRefusal main m s ≡ 0
 
--- a word at an address, with what follows it in its quadword, lies inside main memory
+-- the quadword that holds the word at an address lies inside main memory
 pub record WordInside (main : List ℕ) (a : ℕ) : Type 0 where
-  pub inside : a + 4 * (4 - a / 4 % 4) ≤ length main
+  pub inside : 16 * (a / 16 + 1) ≤ length main
   pub most : length main ≤ 1048576
 
 -- pending payload lies inside
