@@ -1,6 +1,6 @@
--- Facts that inner functions require of their input; no promise of a public function cites them.
+-- Facts that inner functions require of their input or promise; no promise of a public function cites them.
 use Prim.Native.Nat.{ℕ, _+_, _*_, _/_, _%_, _<_, _≤_}
-use mathlib.Core.Bool.{true, false}
+use mathlib.Core.Bool.{Bool, true, false}
 use mathlib.Core.List.{List}
 use mathlib.Core.Path.{_≡_}
 use lib.ListN.{length}
@@ -9,9 +9,13 @@ use Rattle.fields.specs.Fields.{if}
 use Rattle.gif.specs.Log.{logRefused}
 use Rattle.gif.specs.Range.{pathInRange}
 use Rattle.vif.specs.Step.{Lent}
+use Rattle.chain.specs.declared.Answer.the-variants.{Interrupt}
 use Rattle.chain.specs.declared.Payload.{Payload}
 use Rattle.chain.specs.declared.State.{State}
 use Rattle.chain.specs.Range.{entryRefusal}
+use Rattle.chain.specs.Step.{Machine}
+use Rattle.chain.specs.Run.{ran, stepsOf}
+use Rattle.chain.specs.Stops.{Reaches}
 
 -- the machine passes the entry tests
 pub record Ready (main : List ℕ) (s : State) (m : Lent) : Type 0 where
@@ -42,3 +46,9 @@ pub record QuadwordReady (main : List ℕ) (a : ℕ) (s : State) (log : List ℕ
 -- what is pending of the payload after one word, and after a quadword
 abbrev pub byTaken : Payload → Payload → ℕ → Payload
 byTaken one four k = if (eqb k 1) one four
+
+-- k steps of a run of at most n, from x to y: i says whether the last of them was an interrupt mark, at which the run stops
+pub record Burst (main : List ℕ) (n : ℕ) (x : Machine) (i : Bool) (k : ℕ) (y : Machine) : Type 0 where
+  pub few : k ≤ n
+  pub goes : i ≡ false → Reaches main k x y
+  pub stops : i ≡ true → stepsOf main n (x .state) (x .memories) ≡ ran Interrupt (y .state) k (y .memories)
