@@ -4,5 +4,6 @@ pub mod RangeLaws
 pub mod TagLaws
 pub mod DataLaws
 pub mod StepLaws
+pub mod FeedLaws
 pub mod SheetLaws
 pub mod BlockLaws

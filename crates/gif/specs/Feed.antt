@@ -7,6 +7,7 @@ use Rattle.fields.specs.Memory.{quadwordAt, inside}
 use Rattle.gif.specs.declared.Path.{Path}
 use Rattle.gif.specs.declared.GifAnswer.{GifAnswer}
 use Rattle.gif.specs.declared.GifAnswer.the-variants.{Taken, Refused}
+use Rattle.gif.specs.declared.QuadwordsResult.{QuadwordsResult}
 use Rattle.gif.specs.Log.{logRefused}
 use Rattle.gif.specs.Range.{pathInRange}
 use Rattle.gif.specs.Step.{Left, gifStep}
@@ -20,6 +21,10 @@ pub record Fed : Type 0 where
 
 abbrev pub fed : Path → ℕ → List ℕ → ℕ → Fed
 fed p used log n = record { path = p; used = used; log = log; taken = n }
+
+-- what a call left, from its result and the log afterwards
+abbrev pub fedBy : QuadwordsResult → List ℕ → Fed
+fedBy r log = fed (r .path) (r .used) log (r .taken)
 
 abbrev pub oneMore : Fed → Fed
 oneMore x = fed (x .path) (x .used) (x .log) (suc (x .taken))

@@ -1,5 +1,6 @@
 // The GIF: tags and data, one quadword at a time, on one path. What each function means is said by the definitions of specs/.
 mod block;
+mod feed;
 mod log;
 mod packed;
 mod range;
@@ -9,6 +10,7 @@ mod tag;
 
 pub use block::path_block;
 pub use block::path_in_block;
+pub use feed::take_quadwords;
 pub use log::log_refused;
 pub use log::write_entry;
 pub use range::path_in_range;
@@ -68,4 +70,11 @@ pub struct GifResult {
     pub answer: GifAnswer,
     pub path: Path,
     pub used: u64,
+}
+
+// What quadwords given one after another left, and how many were taken.
+pub struct QuadwordsResult {
+    pub path: Path,
+    pub used: u64,
+    pub taken: u32,
 }

@@ -136,7 +136,7 @@ fn take_data(path: Path, tag: HeldTag, low: u64, high: u64, log: &mut [u64], use
 }
 
 // Document 01's step, on a log and a path that were tested.
-fn step(path: Path, low: u64, high: u64, log: &mut [u64], used: u64) -> GifResult
+pub(crate) fn step(path: Path, low: u64, high: u64, log: &mut [u64], used: u64) -> GifResult
     requires { ⌜ LogFits (now log) used × PlaceFits (path .place) ⌝ }
     ensures { λ r. ⌜ left r (now (log .exit)) ≡ gifStep path (quadword low high) used (now (log .entry)) ⌝ }
 {

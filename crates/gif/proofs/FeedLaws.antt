@@ -1,0 +1,188 @@
+-- Quadwords given one after another: the turns, and what the tests give.
+use mathlib.Core.Path.{_≡_, refl, sym, ap, _∙_}
+use mathlib.Core.Bool.{Bool, true, false, not, _&&_}
+use mathlib.Core.List.{List}
+use Prim.Native.Nat.{ℕ, zero, suc, _+_, _*_, _-_, _<_, _≤_}
+use native.Mathlib.Nat.{zero-add, add-zero, sub-zero, mul-zero}
+use native.Mathlib.Omega.{arith}
+use borrow.Author.Tests.{leb-true}
+use lib.ListN.{length}
+use lib.Dec.{leb}
+use Rattle.fields.specs.Fields.{if, quadword}
+use Rattle.fields.specs.Memory.{longAt, quadwordAt, inside}
+use Rattle.fields.proofs.ChoiceLaws.{if-ind, and-left, and-right}
+use Rattle.gif.specs.declared.Path.{Path}
+use Rattle.gif.specs.declared.GifAnswer.{GifAnswer}
+use Rattle.gif.specs.declared.GifAnswer.the-variants.{Taken, Refused}
+use Rattle.gif.specs.declared.GifResult.{GifResult}
+use Rattle.gif.specs.Log.{logRefused, LogFits}
+use Rattle.gif.specs.Range.{pathInRange, PlaceFits}
+use Rattle.gif.specs.Step.{Left, left, refused, gifStep}
+use Rattle.gif.specs.Feed.{Fed, fed, oneMore, afterQuadword, onQuadword, feedsOf, feedOf}
+use Rattle.gif.proofs.LogLaws.{logged-length}
+use Rattle.gif.proofs.RangeLaws.{log-fits}
+use Rattle.gif.proofs.StepLaws.{step-wrote, step-ranged}
+
+-- what came with k quadwords before it
+abbrev pub plus : ℕ → Fed → Fed
+plus k x = fed (x .path) (x .used) (x .log) (k + x .taken)
+
+by-answer : {x y : GifAnswer} → x ≡ y → (f : Path → ℕ → List ℕ → Fed) (o : Left) (p : Path) (used : ℕ) (log : List ℕ) {w : Fed}
+    → afterQuadword f y o p used log ≡ w → afterQuadword f x o p used log ≡ w
+by-answer q f o p used log h = rw q h
+
+module _ (main : List ℕ) (a : ℕ) (p : Path) (used : ℕ) (log : List ℕ) where
+  pub feeds-none : (n : ℕ) → n ≡ 0 → feedsOf main a n p used log ≡ fed p used log 0
+  unfolding feedsOf
+  feeds-none n z = rw z
+
+  -- one quadword, by the answer to it
+  module _ (n n′ : ℕ) (z : n ≡ suc n′) {o : Left} (e : o ≡ gifStep p (quadwordAt main a) used log) where
+    one-turn : feedsOf main a n p used log ≡ onQuadword (feedsOf main (a + 16) n′) o p used log
+    unfolding feedsOf
+    one-turn = rw (z, ← e)
+
+    pub feeds-taken : o .answer ≡ Taken → feedsOf main a n p used log ≡ oneMore (feedsOf main (a + 16) n′ (o .path) (o .used) (o .log))
+    feeds-taken q = one-turn ∙ by-answer q (feedsOf main (a + 16) n′) o p used log refl
+
+    pub feeds-refused : {m : ℕ} → o .answer ≡ Refused m → feedsOf main a n p used log ≡ fed p used log 0
+    feeds-refused q = one-turn ∙ by-answer q (feedsOf main (a + 16) n′) o p used log refl
+
+-- ---- the loop's turns, with the quadwords before them
+
+module _ (main : List ℕ) (a count : ℕ) (p : Path) (used : ℕ) (log : List ℕ) where
+  -- before the first quadword all of them are left
+  pub feeds-begin : plus 0 (feedsOf main (a + 16 * 0) (count - 0) p used log) ≡ feedsOf main a count p used log
+  feeds-begin = rw (mul-zero, add-zero, sub-zero, zero-add)
+
+  module _ (k : ℕ) {w : Fed} (i : plus k (feedsOf main (a + 16 * k) (count - k) p used log) ≡ w) where
+    pub ends-all : count ≤ k → fed p used log k ≡ w
+    ends-all l =
+        let z : count - k ≡ 0 = omega arith in
+        sym (ap (plus k) (feeds-none main (a + 16 * k) p used log (count - k) z) ∙ rw add-zero) ∙ i
+
+    module _ (l : k < count) {low high : ℕ} (el : low ≡ longAt main (a + 16 * k)) (eh : high ≡ longAt main (a + 16 * k + 8))
+        {r : GifResult} {log′ : List ℕ} (e : left r log′ ≡ gifStep p (quadword low high) used log) where
+      rest : count - k ≡ suc (count - (k + 1))
+      rest = omega arith
+
+      given : left r log′ ≡ gifStep p (quadwordAt main (a + 16 * k)) used log
+      given = rw (← el, ← eh) e
+
+      pub goes-on : r .answer ≡ Taken → plus (k + 1) (feedsOf main (a + 16 * (k + 1)) (count - (k + 1)) (r .path) (r .used) log′) ≡ w
+      goes-on q =
+          let j = feeds-taken main (a + 16 * k) p used log (count - k) (count - (k + 1)) rest given q in
+          let b : a + 16 * k + 16 ≡ a + 16 * (k + 1) = omega arith in
+          let t = feedsOf main (a + 16 * (k + 1)) (count - (k + 1)) (r .path) (r .used) log′ .taken in
+          let c : k + suc t ≡ k + 1 + t = omega arith in
+          sym (ap (plus k) j ∙ rw (b, c)) ∙ i
+
+      pub ends-refused : {m : ℕ} → r .answer ≡ Refused m → 2 * used ≤ length log → fed p used log′ k ≡ w
+      ends-refused {m} q h =
+          let s : log′ ≡ log = ap (λ (o : Left). o .log) (rw (← e) at (step-wrote p used log h (quadword low high) .same m) q) in
+          rw s
+          (sym (ap (plus k) (feeds-refused main (a + 16 * k) p used log (count - k) (count - (k + 1)) rest given q) ∙ rw add-zero) ∙ i)
+
+-- a step keeps what the next one asks
+module _ (p : Path) (quad used : ℕ) (log : List ℕ) {r : GifResult} {log′ : List ℕ} (e : left r log′ ≡ gifStep p quad used log) where
+  pub next-log-fits : LogFits log used → length log′ ≡ length log → LogFits log′ (r .used)
+  next-log-fits f n =
+      let s = f .short in
+      let o : 2 * (r .used) ≤ length log = rw (← e) at (step-wrote p used log (f .holds) quad .room) in
+      record { short = omega arith; holds = omega arith }
+
+  pub next-place-fits : PlaceFits (p .place) → PlaceFits (r .path .place)
+  next-place-fits f = record { held = rw (← e) at (step-ranged p (f .held) used log quad) }
+
+-- ---- the tests of the public function
+
+pub inside-most : (main : List ℕ) (a n : ℕ) → inside main a n ≡ true → a + n ≤ 1048576
+unfolding inside
+inside-most main a n h =
+    let l = leb-true (length main) 1048576 (and-left _ _ h) in
+    let m = leb-true (a + n) (length main) (and-right (leb (length main) 1048576) _ h) in
+    omega arith
+
+not-true : (b : Bool) → not b ≡ true → b ≡ false
+not-true true h = sym h
+not-true false h = refl
+
+-- by the outcome of the tests
+module _ (main : List ℕ) (a n : ℕ) (p : Path) (used : ℕ) (log : List ℕ) {b : Bool}
+    (t : b ≡ (inside main a (16 * n) && (not (logRefused log used) && pathInRange p))) where
+  pub fed-fits : b ≡ true → (a + 16 * n ≤ 1048576) × (LogFits log used × PlaceFits (p .place))
+  fed-fits h =
+      let g = sym t ∙ h in
+      let g′ = and-right (inside main a (16 * n)) _ g in
+      (inside-most main a (16 * n) (and-left _ _ g), (log-fits log used (not-true _ (and-left _ _ g′)), record { held = and-right (not (logRefused log used)) _ g′ }))
+
+  pub fed-tested : b ≡ true → {x : Fed} → x ≡ feedsOf main a n p used log → x ≡ feedOf main a n p used log
+  unfolding feedOf if
+  fed-tested h e = rw (sym t ∙ h) e
+
+  pub fed-none : b ≡ false → fed p used log 0 ≡ feedOf main a n p used log
+  unfolding feedOf if
+  fed-none h = rw (sym t ∙ h)
+
+-- ---- for callers: the quadwords taken, one step each
+
+-- as many quadwords as were taken, from address a on, each taken by a step of its own, lead to what is left
+pub data Takes (main : List ℕ) : ℕ → Path → ℕ → List ℕ → Fed → Type 0 where
+  none : {a used : ℕ} {p : Path} {log : List ℕ} → Takes main a p used log (fed p used log 0)
+  more : {a used : ℕ} {p : Path} {log : List ℕ} {x : Fed} → gifStep p (quadwordAt main a) used log .answer ≡ Taken
+      → Takes main (a + 16) (gifStep p (quadwordAt main a) used log .path) (gifStep p (quadwordAt main a) used log .used)
+      (gifStep p (quadwordAt main a) used log .log) x
+      → Takes main a p used log (oneMore x)
+
+-- by the answer to a quadword
+answer-ind : (P : Fed → Type 0) (f : Path → ℕ → List ℕ → Fed) (g : GifAnswer) (o : Left) (p : Path) (used : ℕ) (log : List ℕ)
+    → (g ≡ Taken → P (oneMore (f (o .path) (o .used) (o .log)))) → P (fed p used log 0) → P (afterQuadword f g o p used log)
+answer-ind P f Taken o p used log t r = t refl
+answer-ind P f (Refused m) o p used log t r = r
+
+pub feeds-quadwords : (main : List ℕ) (a n : ℕ) (p : Path) (used : ℕ) (log : List ℕ) → Takes main a p used log (feedsOf main a n p used log)
+unfolding feedsOf
+feeds-quadwords main a zero p used log = none
+feeds-quadwords main a (suc n) p used log =
+    let o = gifStep p (quadwordAt main a) used log in
+    answer-ind (Takes main a p used log) (feedsOf main (a + 16) n) (o .answer) o p used log
+    (λ e. more e (feeds-quadwords main (a + 16) n (o .path) (o .used) (o .log)))
+    none
+
+-- what the public function leaves, for any input
+pub feed-quadwords : (main : List ℕ) (a n : ℕ) (p : Path) (used : ℕ) (log : List ℕ) {x : Fed} → x ≡ feedOf main a n p used log → Takes main a p used log x
+unfolding feedOf
+feed-quadwords main a n p used log e = rw e (if-ind (Takes main a p used log) _ (feeds-quadwords main a n p used log) none)
+
+-- no more than were given
+record Few (n : ℕ) (x : Fed) : Type 0 where
+  few : x .taken ≤ n
+
+feeds-few : (main : List ℕ) (a n : ℕ) (p : Path) (used : ℕ) (log : List ℕ) → Few n (feedsOf main a n p used log)
+unfolding feedsOf
+feeds-few main a zero p used log = record { few = omega arith }
+feeds-few main a (suc n) p used log =
+    let o = gifStep p (quadwordAt main a) used log in
+    let h = feeds-few main (a + 16) n (o .path) (o .used) (o .log) .few in
+    answer-ind (Few (suc n)) (feedsOf main (a + 16) n) (o .answer) o p used log (λ e. record { few = omega arith }) (record { few = omega arith })
+
+pub feed-few : (main : List ℕ) (a n : ℕ) (p : Path) (used : ℕ) (log : List ℕ) {x : Fed} → x ≡ feedOf main a n p used log → x .taken ≤ n
+unfolding feedOf
+feed-few main a n p used log e =
+    let z : Few n (fed p used log 0) = record { few = omega arith } in
+    rw e (if-ind (Few n) _ (feeds-few main a n p used log) z .few)
+
+-- the path stays in range, and the log's length and its room for the entries stay
+pub takes-ranged : {main : List ℕ} {a used : ℕ} {p : Path} {log : List ℕ} {x : Fed} → Takes main a p used log x
+    → pathInRange p ≡ true → pathInRange (x .path) ≡ true
+takes-ranged none r = r
+takes-ranged {main} {a} {used} {p} {log} (more e t) r = takes-ranged t (step-ranged p r used log (quadwordAt main a))
+
+pub takes-fits : {main : List ℕ} {a used : ℕ} {p : Path} {log : List ℕ} {x : Fed} → Takes main a p used log x → 2 * used ≤ length log
+    → (length (x .log) ≡ length log) × (2 * (x .used) ≤ length log)
+takes-fits none h = (refl, h)
+takes-fits {main} {a} {used} {p} {log} (more e t) h =
+    let w = step-wrote p used log h (quadwordAt main a) in
+    let n : length (gifStep p (quadwordAt main a) used log .log) ≡ length log = ap length (w .stored) ∙ logged-length log used (w .entries) in
+    let i = takes-fits t (rw n (w .room)) in
+    (i .0 ∙ n, rw (← n) (i .1))

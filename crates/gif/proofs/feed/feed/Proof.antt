@@ -1,0 +1,88 @@
+use mathlib.Core.Path.{_≡_, refl, _∙_}
+use Prim.Native.Nat.{_+_, _*_, _-_, _≤_}
+use native.Mathlib.Omega.{arith}
+use lib.ListN.{length}
+use Rattle.gif.specs.Log.{LogFits}
+use Rattle.gif.specs.Range.{PlaceFits}
+use Rattle.gif.specs.Feed.{feedsOf}
+use Rattle.gif.proofs.FeedLaws.{plus, feeds-begin, ends-all, goes-on, ends-refused, next-log-fits, next-place-fits}
+use borrow.Author.Needs.{needs}
+use Rattle.gif.proofs.feed.feed.Statement.{statement}
+use Rattle.gif.proofs.feed.feed.Tie as tie
+use Rattle.gif.proofs.feed.feed.Reads as reads
+use Rattle.gif.proofs.feed.feed.Lts as lts
+use Rattle.fields.proofs.long_at.Reads as long-at-reads
+use Rattle.gif.proofs.step.step.Reads as step-reads
+
+abbrev Inv-loop : tie.InvT-loop
+Inv-loop main a count log₀ used p₀ entries₀ taken₀ log p entries taken =
+    record {
+      inner : a + 16 * count ≤ 1048576;
+      log-fits : LogFits log entries;
+      place-fits : PlaceFits (p .place);
+      length : length log ≡ length log₀;
+      same : plus taken (feedsOf main (a + 16 * taken) (count - taken) p entries log) ≡ feedsOf main a count p₀ used log₀;
+    }
+
+abbrev μ-loop : tie.MeasureT-loop
+μ-loop main a count log₀ used p₀ entries₀ taken₀ log p entries taken = count - taken
+
+loop-holds : tie.Need-loop-holds Inv-loop μ-loop
+loop-holds c =
+    let h = c .before .before .pre in
+    record { inner = h .0; log-fits = h .1 .0; place-fits = h .1 .1; length = refl; same = feeds-begin _ _ _ _ _ _ }
+
+step-requires : tie.Need-step-requires Inv-loop μ-loop
+step-requires c κs = let i = c .before .before .before .before .loop .inv in (i .log-fits, i .place-fits)
+
+loop-less : tie.Need-loop-less Inv-loop μ-loop
+loop-less c = let l = c .before .before .before .before .before .before .before .before .before .loop-test .taken in omega arith
+
+loop-again : tie.Need-loop-again Inv-loop μ-loop
+loop-again c =
+    let s = c .before .before .before .before .before .step in
+    let i = c .before .before .before .before .before .before .before .before .before .before .loop .inv in
+    record {
+      inner = i .inner;
+      log-fits = next-log-fits _ _ _ _ (s .ensures) (i .log-fits) (s .kept .1 .1 .1 .0);
+      place-fits = next-place-fits _ _ _ _ (s .ensures) (i .place-fits);
+      length = s .kept .1 .1 .1 .0 ∙ i .length;
+      same =
+          goes-on _ _ _ _ _ _ _ (i .same) (c .before .before .before .before .before .before .before .before .before .loop-test .taken) (c .before .before .before .before .before .before .before .before .long-at .ensures) (c .before .before .before .before .before .before .before .long-at2 .ensures) (s .ensures)
+          (c .enum-told .given .1);
+    }
+
+returns : tie.Need-returns Inv-loop μ-loop
+returns c = ends-all _ _ _ _ _ _ _ (c .before .loop .inv .same) (c .loop-test .left)
+
+same-length-2 : tie.Need-same-length-2 Inv-loop μ-loop
+same-length-2 c = c .before .before .before .before .before .step .kept .1 .1 .1 .0 ∙ c .before .before .before .before .before .before .before .before .before .before .loop .inv .length
+
+returns-2 : tie.Need-returns-2 Inv-loop μ-loop
+returns-2 c =
+    let i = c .before .before .before .before .before .before .before .before .before .before .loop .inv in
+    ends-refused _ _ _ _ _ _ _ (i .same) (c .before .before .before .before .before .before .before .before .before .loop-test .taken) (c .before .before .before .before .before .before .before .before .long-at .ensures) (c .before .before .before .before .before .before .before .long-at2 .ensures) (c .before .before .before .before .before .step .ensures)
+    (c .enum-told2 .given .1) (i .log-fits .holds)
+
+pub feed-spec : {M : Type 1} → statement M
+feed-spec =
+    tie.close
+    (tie.spec
+    Inv-loop
+    μ-loop
+    loop-holds
+    (λ c. omega arith)
+    (λ c. omega arith)
+    (λ c κs. search needs)
+    (λ c. omega arith)
+    (λ c κs. search needs)
+    step-requires
+    (λ c. search needs)
+    (λ c. omega arith)
+    loop-less
+    loop-again
+    (λ c. search needs)
+    (λ c. c .before .loop .inv .length)
+    returns
+    same-length-2
+    returns-2)
