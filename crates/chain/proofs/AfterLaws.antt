@@ -193,7 +193,7 @@ module _ (size tadr id addr qwc : ℕ) (k : Stack) (a : Accepted size tadr id ad
 record Stays (main : List ℕ) (x : Stepped) : Type 0 where
   stays : (i : Bool) → x .answer ≡ Completed i → Ready main (x .after .state) (x .after .memories)
 
-no-completed : {n : ℕ} {i : Bool} → Refused n ≡ Completed i → ⊥
+pub no-completed : {n : ℕ} {i : Bool} → Refused n ≡ Completed i → ⊥
 no-completed e = let z : _≡_ {A = ℕ} 0 1 = cc in omega arith
 
 refused-stays : (main : List ℕ) (n : ℕ) (s : State) (m : Lent) → Stays main (stepped (Refused n) s m)

@@ -2,10 +2,10 @@
 use mathlib.Core.Path.{_≡_, refl, sym, ap, _∙_}
 use mathlib.Core.Bool.{Bool, true, false, _&&_}
 use mathlib.Core.List.{List}
-use Prim.Native.Nat.{ℕ, zero, suc, _+_, _*_, _-_, _<_, _≤_}
+use Prim.Native.Nat.{ℕ, zero, suc, _+_, _*_, _-_, _/_, _^_, _<_, _≤_}
 use native.Mathlib.Nat.{add-zero, add-assoc, sub-zero}
 use native.Mathlib.Omega.{arith}
-use borrow.Author.Tests.{eqb-false, leb-true, leb-false, le-leb, lt-leb, eq-eqb, ne-eqb}
+use borrow.Author.Tests.{eqb-false, leb-true, leb-false, le-leb, lt-leb, ne-eqb}
 use lib.Dec.{eqb, leb}
 use Rattle.fields.specs.Fields.{if}
 use Rattle.fields.proofs.ChoiceLaws.{if-ind, if-ind-by}
@@ -13,27 +13,33 @@ use Rattle.fields.specs.Memory.{quadwordAt}
 use Rattle.gif.specs.declared.Path.{Path}
 use Rattle.gif.specs.declared.GifAnswer.{GifAnswer}
 use Rattle.gif.specs.declared.GifAnswer.the-variants.{Taken, Refused as GifRefused}
+use Rattle.gif.specs.declared.QuadwordsResult.{QuadwordsResult}
 use Rattle.gif.specs.Step.{Left as GifLeft, gifStep}
-use Rattle.gif.specs.Feed.{Fed as GifFed, fed as gifFed, afterQuadword, feedsOf as gifFeedsOf, feedOf as gifFeedOf}
+use Rattle.gif.specs.Feed.{Fed as GifFed, fed as gifFed, fedBy, afterQuadword, feedsOf as gifFeedsOf, feedOf as gifFeedOf}
+use Rattle.gif.proofs.FeedLaws.{feed-few}
 use Rattle.vif.specs.declared.VifAnswer.{VifAnswer}
 use Rattle.vif.specs.declared.VifAnswer.the-variants.{Word, Quadword, Refused as VifRefused}
+use Rattle.vif.specs.declared.WordsResult.{WordsResult}
 use Rattle.vif.specs.Step.{Lent, lent, Left as VifLeft, vifStep}
 use Rattle.vif.specs.Words.{incomingAt}
 use Rattle.vif.specs.Feeds.{Fed, fed}
-use Rattle.vif.specs.Feed.{FedOn, fedOn, fedTo, stepMore, afterWord, feedsOf, feedOf}
-use Rattle.chain.specs.declared.Answer.the-variants.{Interrupt}
+use Rattle.vif.specs.Feed.{FedOn, fedOn, fedOnBy, fedTo, stepMore, afterWord, feedsOf, feedOf}
+use Rattle.chain.specs.declared.Answer.the-variants.{Interrupt, Refused as AnswerRefused}
 use Rattle.chain.specs.declared.TagWords.the-variants.{Nothing as NoTagWords}
 use Rattle.chain.specs.declared.Payload.{Payload}
 use Rattle.chain.specs.declared.Payload.the-variants.{Nothing as NoPayload, Words}
-use Rattle.chain.specs.declared.StepAnswer.the-variants.{Completed}
+use Rattle.chain.specs.declared.StepAnswer.{StepAnswer}
+use Rattle.chain.specs.declared.StepAnswer.the-variants.{Completed, Refused}
+use Rattle.chain.specs.declared.StepResult.{StepResult}
 use Rattle.chain.specs.declared.State.{State}
 use Rattle.chain.specs.Setters.{withPending, withUnit, withPath3}
 use Rattle.chain.specs.Pending.{noTags, payloadAfter}
-use Rattle.chain.specs.Inner.{Burst}
-use Rattle.chain.specs.Step.{Machine, machine, Stepped, stepped, afterVif, givenVif, vifGiven, afterGif, givenGif, gifGiven, payloadStep, stepOf}
+use Rattle.chain.specs.Inner.{Ready, PayloadInside, PayloadNext, Burst, Advance, completedBy}
+use Rattle.chain.specs.Step.{Machine, machine, Stepped, steppedBy, afterVif, givenVif, vifGiven, afterGif, givenGif, gifGiven, payloadStep, stepOf}
 use Rattle.chain.specs.Run.{Ran, ran, done, oneMore, stepsOf}
 use Rattle.chain.specs.Stops.{stepFrom, Reaches, here, step}
-use Rattle.chain.proofs.RunLaws.{plus, run-goes, run-interrupts}
+use Rattle.chain.proofs.AfterLaws.{no-completed, step-same}
+use Rattle.chain.proofs.RunLaws.{plus, run-goes, run-interrupts, run-refuses}
 use Rattle.chain.proofs.Theorems.{run-from}
 
 -- ---- bursts of steps
@@ -43,10 +49,16 @@ pub step-by : {main : List ℕ} {k : ℕ} {x z : Machine} {o : Stepped} → done
     → Reaches main k (o .after) z → Reaches main (suc k) x z
 step-by {main} {k} {x} {z} d e q r = step {k = k} {x = x} {z = z} d (rw e q) (rw e r)
 
+-- steps of which none is an interrupt mark
+burst-of : {main : List ℕ} {n k : ℕ} {x y : Machine} → k ≤ n → Reaches main k x y → Burst main n x false k y
+burst-of l r = record { few = l; some = λ h. absurd (differ h); goes = λ h. r; stops = λ h. absurd (differ h) }
+  where
+    differ : false ≡ true → ⊥
+    differ h = let z : _≡_ {A = ℕ} 0 1 = cc in omega arith
+
 -- no step
 pub burst-none : (main : List ℕ) (n : ℕ) (x : Machine) → Burst main n x false 0 x
-burst-none main n x =
-    record { few = omega arith; goes = λ h. here; stops = λ h. absurd (let z : _≡_ {A = ℕ} 0 1 = cc in omega arith) }
+burst-none main n x = burst-of (omega arith) here
 
 module _ (main : List ℕ) (n : ℕ) (x : Machine) (d : done (x .state) ≡ false) {o : Stepped} (e : stepFrom main x ≡ o) where
   -- one, that is an interrupt mark
@@ -54,6 +66,7 @@ module _ (main : List ℕ) (n : ℕ) (x : Machine) (d : done (x .state) ≡ fals
   burst-stops q =
       record {
         few = omega arith;
+        some = λ h. omega arith;
         goes = λ h. absurd (let z : _≡_ {A = ℕ} 0 1 = cc in omega arith);
         stops = λ h. run-interrupts main (x .state) (x .memories) (suc n) n refl d (sym e) q;
       }
@@ -64,22 +77,83 @@ module _ (main : List ℕ) (n : ℕ) (x : Machine) (d : done (x .state) ≡ fals
       let l = b .few in
       record {
         few = omega arith;
+        some = λ h. omega arith;
         goes = λ h. step-by d e q (b .goes h);
         stops = λ h. run-goes main (x .state) (x .memories) (suc n) n refl d (sym e) q ∙ ap oneMore (b .stops h);
       }
 
--- a burst in a run with k steps before it
+-- ---- some steps at once, or else one
+
+same-told : {i j : Bool} → Completed i ≡ Completed j → i ≡ j
+same-told q = cc
+
+module _ {main : List ℕ} {n : ℕ} {x : Machine} {i : Bool} {k : ℕ} {y : Machine} (b : Burst main n x i k y) where
+  pub advance-burst : (k ≡ 0 → ⊥) → Advance main n x (Completed i) k y
+  advance-burst z =
+      record {
+        few = b .few;
+        some = λ q. omega arith;
+        goes = λ q. b .goes (same-told q);
+        interrupts = λ q. b .stops (same-told q);
+        refuses = λ c q. absurd (no-completed (sym q));
+      }
+
+  -- a burst of no step leaves the machine as it was
+  burst-empty : k ≡ 0 → x ≡ y
+  burst-empty z = go i refl
+    where
+      nowhere : {u v : Machine} → Reaches main 0 u v → u ≡ v
+      nowhere here = refl
+
+      go : (c : Bool) → i ≡ c → x ≡ y
+      go true q = let l = b .some q in absurd (omega arith)
+      go false q = nowhere (rw z at (b .goes q))
+
+  pub empty-ready : k ≡ 0 → Ready main (x .state) (x .memories) → Ready main (y .state) (y .memories)
+  empty-ready z r = rw (← burst-empty z) r
+
+-- one step
+module _ (main : List ℕ) (n : ℕ) (s : State) (m : Lent) (d : done s ≡ false) (l : 1 ≤ n) {o : Stepped} (e : o ≡ stepOf main s m) where
+  one-most : (a : StepAnswer) → completedBy a ≤ 1
+  one-most (Completed i) = omega arith
+  one-most (Refused c) = omega arith
+
+  left : n ≡ suc (n - 1)
+  left = omega arith
+
+  advance-step : Advance main n (machine s m) (o .answer) (completedBy (o .answer)) (o .after)
+  advance-step =
+      let f = one-most (o .answer) in
+      record {
+        few = omega arith;
+        some = λ q. rw q (omega arith);
+        goes = λ q. rw q (step-by d (sym e) q here);
+        interrupts = λ q. rw q (run-interrupts main s m n (n - 1) left d e q);
+        refuses = λ c q. rw (step-same main s m o e c q) (run-refuses main s m n (n - 1) left d e q);
+      }
+
+pub advance-one : {main : List ℕ} {n : ℕ} {s : State} {m : Lent} {i : Bool} {j : ℕ} {t : State} {m₁ : Lent} → Burst main n (machine s m) i j (machine t m₁) → j ≡ 0
+    → done s ≡ false → 1 ≤ n → {r : StepResult} {m₂ : Lent} → steppedBy r m₂ ≡ stepOf main t m₁ → {k : ℕ} → k ≡ completedBy (r .answer)
+    → Advance main n (machine s m) (r .answer) k (machine (r .state) m₂)
+advance-one {main} {n} {s} {m} {i} {j} {t} {m₁} b z d l e q =
+    let w = burst-empty b z in
+    rw (q, w) (advance-step main n t m₁ (ap (λ (y : Machine). done (y .state)) (sym w) ∙ d) l e)
+
+-- in a run with k steps before
 module _ (main : List ℕ) (s : State) (m : Lent) (k allowance : ℕ) {w : Ran} (e : plus k (stepsOf main (allowance - k) s m) ≡ w)
-    {i : Bool} {j : ℕ} {y : Machine} (b : Burst main (allowance - k) (machine s m) i j y) where
-  pub burst-on : k ≤ allowance → i ≡ false → plus (k + j) (stepsOf main (allowance - (k + j)) (y .state) (y .memories)) ≡ w
-  burst-on l h =
+    {a : StepAnswer} {j : ℕ} {y : Machine} (b : Advance main (allowance - k) (machine s m) a j y) where
+  pub goes-on : k < allowance → a ≡ Completed false → plus (k + j) (stepsOf main (allowance - (k + j)) (y .state) (y .memories)) ≡ w
+  goes-on l h =
       let f = b .few in
       let n : allowance - k ≡ j + (allowance - (k + j)) = omega arith in
       let r = stepsOf main (allowance - (k + j)) (y .state) (y .memories) in
       rw (add-assoc k j (r .steps)) (sym (ap (plus k) (rw n (run-from (b .goes h) (allowance - (k + j))))) ∙ e)
 
-  pub burst-interrupts : i ≡ true → ran Interrupt (y .state) (k + j) (y .memories) ≡ w
-  burst-interrupts h = sym (ap (plus k) (b .stops h)) ∙ e
+  pub ends-interrupt : a ≡ Completed true → ran Interrupt (y .state) (k + j) (y .memories) ≡ w
+  ends-interrupt h = sym (ap (plus k) (b .interrupts h)) ∙ e
+
+  pub ends-refused : {c : ℕ} → a ≡ Refused c → ran (AnswerRefused c) (y .state) (k + j) (y .memories) ≡ w
+  ends-refused {c} h = sym (ap (plus k) (b .refuses c h)) ∙ e
 
 -- ---- the payload after some of its words, and then some more
 
@@ -150,12 +224,12 @@ module _ (main : List ℕ) where
   unfolding feedOf
   words-few n a count x e = rw e (if-ind (FewWords count) _ (feeds-few n a count x) (no-words count x) .few-words)
 
-module _ (main : List ℕ) (s : State) (channel : s .channel ≡ 1) where
+module _ (main : List ℕ) (s : State) (channel : s .channel ≡ 2 → ⊥) where
   -- one step
   pub fed-step : (x : Fed) (a n : ℕ) → (n ≡ 0 → ⊥)
       → stepFrom main (feeding s x (Words a n)) ≡ givenVif (givenWord main a x) NoTagWords (payloadAfter a n) (feeding s x (Words a n) .state) (x .memories)
   unfolding stepOf payloadStep vifGiven if
-  fed-step x a n z = rw (ne-eqb n 0 z, channel)
+  fed-step x a n z = rw (ne-eqb n 0 z, ne-eqb (s .channel) 2 channel)
 
   -- the burst that words given to VIF1 are
   record FedBurst (n a count : ℕ) (x : Fed) (r : FedOn) : Type 0 where
@@ -211,6 +285,23 @@ module _ (main : List ℕ) (s : State) (channel : s .channel ≡ 1) where
       → Burst main n (feeding s x (payloadAfter a count 0)) (r .interrupt) (r .steps) (feeding s (r .after) (payloadAfter a count (r .words)))
   unfolding feedOf
   words-burst n a count x e = rw e (if-ind (FedBurst n a count x) _ (words-fed n a count x) (none-fed n a count x) .fed-burst)
+
+module _ {s : State} {a count : ℕ} (p : PayloadNext s a count) where
+  as-feeding : (m : Lent) → machine s m ≡ feeding s (fed (s .vif) (s .path2) (s .used) m) (payloadAfter a count 0)
+  as-feeding m = rw (payload-whole a count (p .some), ← p .payload, ← p .no-tags)
+
+  -- words that VIF1 tested and took
+  module _ (main : List ℕ) (n : ℕ) (m : Lent) {v : WordsResult} {m′ : Lent} (e : fedOnBy v m′ ≡ feedOf main n a count (fed (s .vif) (s .path2) (s .used) m)) where
+    pub words-given : (s .channel ≡ 2 → ⊥) → {t : State} → t ≡ withPending (withUnit s (v .unit) (v .path2) (v .used)) NoTagWords (payloadAfter a count (v .words))
+        → Burst main n (machine s m) (v .interrupt) (v .steps) (machine t m′)
+    words-given c q = rw (q, as-feeding m) (words-burst main s c n a count _ e)
+
+    pub words-fit : PayloadInside main s a count → a + 4 * v .words < 2 ^ 32
+    words-fit i =
+        let w = words-few main n a count _ e in
+        let l = i .inside in
+        let h = i .most in
+        omega arith
 
 -- ---- channel 2
 
@@ -269,3 +360,27 @@ module _ (main : List ℕ) (s : State) (m : Lent) (channel : s .channel ≡ 2) w
   unfolding gifFeedOf
   quadwords-burst n a count p used log l e =
       rw e (if-ind (DrawnBurst n a count p used log) _ (quadwords-drawn n a count p used log l) (none-drawn n a count p used log) .drawn-burst)
+
+module _ {s : State} {a count : ℕ} (p : PayloadNext s a count) where
+  as-drawing : (m : Lent) → machine s m ≡ drawing s m (gifFed (s .path3) (s .used) (m .log) 0) (payloadAfter a count 0)
+  as-drawing m = rw (payload-whole a count (p .some), ← p .payload, ← p .no-tags)
+
+  -- quadwords that the GIF tested and took
+  pub quadwords-given : (main mem code log : List ℕ) (n : ℕ) {limit : ℕ} {log′ : List ℕ} {v : QuadwordsResult} → fedBy v log′ ≡ gifFeedOf main a n (s .path3) (s .used) log
+      → s .channel ≡ 2 → (n ≤ count / 4) × (n ≤ limit)
+      → {t : State} → t ≡ withPending (withPath3 s (v .path) (v .used)) NoTagWords (payloadAfter a count (4 * v .taken))
+      → Burst main limit (machine s (lent mem code log)) false (v .taken) (machine t (lent mem code log′))
+  quadwords-given main mem code log n e c l q =
+      rw (q, as-drawing (lent mem code log))
+      (let b = quadwords-burst main s (lent mem code log) c n a count (s .path3) (s .used) log (omega arith) e in
+      let f = b .few in
+      burst-of (omega arith) (b .goes refl))
+
+-- they end where the payload does
+pub quadwords-fit : {main : List ℕ} {s : State} {a count : ℕ} → PayloadInside main s a count → (n : ℕ) (log : List ℕ) {log′ : List ℕ} {v : QuadwordsResult}
+    → fedBy v log′ ≡ gifFeedOf main a n (s .path3) (s .used) log → n ≤ count / 4 → a + 16 * v .taken ≤ 1048576
+quadwords-fit {main} {s} {a} i n log e l =
+    let f = feed-few main a n (s .path3) (s .used) log e in
+    let w = i .inside in
+    let h = i .most in
+    omega arith

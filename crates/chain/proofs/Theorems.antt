@@ -66,7 +66,7 @@ run-from {main} (step {k} {x} {z} d a p) n =
 
 -- ---- what a run leaves is accepted by the next run with the same memories
 
-ready-along : {main : List ℕ} {k : ℕ} {x y : Machine} → Reaches main k x y → Ready main (x .state) (x .memories) → Ready main (y .state) (y .memories)
+pub ready-along : {main : List ℕ} {k : ℕ} {x y : Machine} → Reaches main k x y → Ready main (x .state) (x .memories) → Ready main (y .state) (y .memories)
 ready-along here r = r
 ready-along {main} (step {k} {x} d a p) r = ready-along p (step-stays r (stepFrom main x) refl false a)
 

@@ -1,7 +1,7 @@
 -- A run: document 01's "Before each step: if the chain has ended and nothing is pending, answer 0 (done); else if the allowance is used, answer 90. After a
 -- step that completes a VIF code with its bit 31 set, payload included, answer 91 at once, also where the chain or allowance ends there. The step count is
 -- the number of steps completed. A refused step isn't counted."
-use Prim.Native.Nat.{ℕ, zero, suc, _+_}
+use Prim.Native.Nat.{ℕ, zero, suc}
 use mathlib.Core.Bool.{Bool, true, false, _&&_}
 use mathlib.Core.List.{List}
 use lib.Dec.{eqb}

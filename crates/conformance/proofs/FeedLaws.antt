@@ -1,19 +1,18 @@
 -- Steps of VIF1 as steps of the chain.
 use mathlib.Core.Path.{_≡_, refl, _∙_}
-use mathlib.Core.Bool.{true, false}
+use mathlib.Core.Bool.{false}
 use mathlib.Core.List.{List, [], _∷_}
 use Prim.Native.Nat.{ℕ, zero, suc, _+_, _*_, _-_, _≤_}
 use native.Mathlib.Nat.{zero-add, mul-zero}
 use native.Mathlib.Omega.{arith}
 use borrow.Author.Tests.{le-leb, lt-leb}
-use lib.Dec.{leb}
 use Rattle.fields.specs.Fields.{if}
 use Rattle.gif.specs.declared.Path.{Path}
 use Rattle.vif.specs.declared.Vif.{Vif}
 use Rattle.vif.specs.declared.VifAnswer.{VifAnswer}
 use Rattle.vif.specs.declared.Incoming.{Incoming}
 use Rattle.vif.specs.Step.{Lent, leaves, vifStep}
-use Rattle.vif.specs.Feeds.{Fed, fed, Feeds, none, more, aWord, aQuadword}
+use Rattle.vif.specs.Feeds.{Fed, Feeds, none, more, aWord, aQuadword}
 use Rattle.chain.specs.declared.TagWords.the-variants.{Nothing as NoTagWords}
 use Rattle.chain.specs.declared.Payload.{Payload}
 use Rattle.chain.specs.declared.Payload.the-variants.{Nothing as NoPayload, Words as PayloadWords}
@@ -67,7 +66,7 @@ module _ (main : List ℕ) (s : State) (channel : s .channel ≡ 1) {b : VifAnsw
       ≡ stepped (Completed false) (feeding s y (pending (a + 4 * w) n) .state) (y .memories)
   taken-step x y a n e =
       let h : 1 ≤ w = t .some in
-      fed-step main s channel x a (w + n) (λ z. omega arith)
+      fed-step main s (λ z. omega arith) x a (w + n) (λ z. omega arith)
       ∙ rw e
       (t .given (y .unit) (y .path2) (y .used) (y .memories) (payloadAfter a (w + n)) _ (x .memories) ∙ rw (payload-next a n w))
 
