@@ -186,14 +186,14 @@ module _ (size tadr id addr qwc : ℕ) (k : Stack) (a : Accepted size tadr id ad
 
   tags-in-held : (tte : Bool) → tagsInside (tagWordsOf tte tadr) size ≡ true
   unfolding tagWordsOf tagsInside if
-  tags-in-held true = let t = a .tag-in in le-leb (tadr + 8 + 4 * (4 - (tadr + 8) / 4 % 4)) size (omega arith)
+  tags-in-held true = let t = a .tag-in in le-leb (16 * ((tadr + 8) / 16 + 1)) size (omega arith)
   tags-in-held false = refl
 
 -- what a completed step leaves passes the entry tests
 record Stays (main : List ℕ) (x : Stepped) : Type 0 where
   stays : (i : Bool) → x .answer ≡ Completed i → Ready main (x .after .state) (x .after .memories)
 
-no-completed : {n : ℕ} {i : Bool} → Refused n ≡ Completed i → ⊥
+pub no-completed : {n : ℕ} {i : Bool} → Refused n ≡ Completed i → ⊥
 no-completed e = let z : _≡_ {A = ℕ} 0 1 = cc in omega arith
 
 refused-stays : (main : List ℕ) (n : ℕ) (s : State) (m : Lent) → Stays main (stepped (Refused n) s m)
@@ -292,7 +292,7 @@ module _ {main : List ℕ} {s : State} {m : Lent} (r : Ready main s m) where
   tags-pending a q =
       let t = rw q at (f .fields .tags) in
       let i = rw q at (f .tags-in) in
-      let w = leb-true (a + 4 * (4 - a / 4 % 4)) (length main) i in
+      let w = leb-true (16 * (a / 16 + 1)) (length main) i in
       let t1 = and-right (s .tte) _ t in
       let m4 = eqb-true (a % 4) 0 (and-left _ _ t1) in
       let two = leb-true 2 (a / 4 % 4) (and-right (eqb (a % 4) 0) _ t1) in
@@ -305,7 +305,7 @@ module _ {main : List ℕ} {s : State} {m : Lent} (r : Ready main s m) where
         payload-ranged = f .fields .payload;
         tags-within =
             if-ind-by (λ (x : TagWords). tagsInside x (length main) ≡ true) (eqb (a / 4 % 4) 3) (λ e. refl)
-            (λ e. let z = eqb-false (a / 4 % 4) 3 e in le-leb (a + 4 + 4 * (4 - (a + 4) / 4 % 4)) (length main) (omega arith));
+            (λ e. let z = eqb-false (a / 4 % 4) 3 e in le-leb (16 * ((a + 4) / 16 + 1)) (length main) (omega arith));
         payload-within = f .payload-in;
       }
 

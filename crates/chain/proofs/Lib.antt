@@ -5,4 +5,5 @@ pub mod StepLaws
 pub mod AfterLaws
 pub mod RunLaws
 pub mod Theorems
+pub mod BurstLaws
 pub mod BlockLaws

@@ -16,12 +16,12 @@ use Rattle.vif.specs.Range.{unitInRange}
 use Rattle.vif.specs.Inner.{GifReady, StepReady}
 use Rattle.chain.specs.declared.Stack.{Stack}
 use Rattle.chain.specs.declared.TagWords.{TagWords}
-use Rattle.chain.specs.declared.TagWords.the-variants.{From}
+use Rattle.chain.specs.declared.TagWords.the-variants.{Nothing as NoTagWords, From}
 use Rattle.chain.specs.declared.Payload.{Payload}
 use Rattle.chain.specs.declared.Payload.the-variants.{Words}
 use Rattle.chain.specs.declared.State.{State}
 use Rattle.chain.specs.Range.{channelInRange, startInRange, stackInRange, tagWordInRange, tagsInRange, wordsInRange, payloadInRange, stateInRange, mainRefused, tagsInside, payloadInside, entryRefusal}
-use Rattle.chain.specs.Inner.{Ready, WordInside, PayloadInside, QuadwordReady}
+use Rattle.chain.specs.Inner.{Ready, WordInside, PayloadInside, PayloadNext}
 
 pub not-false : (b : Bool) → not b ≡ false → b ≡ true
 not-false true h = refl
@@ -157,3 +157,10 @@ module _ {main : List ℕ} {s : State} {m : Lent} (r : Ready main s m) where
         most = main-most;
         quadwords = λ e. eqb-true (at % 16) 0 (rw e at c);
       }
+
+  -- payload pending where no tag words are, and what its channel is
+  pub payload-next : {p : Payload} → (s .tags ≡ NoTagWords) × (s .payload ≡ p) → {at n : ℕ} → p ≡ Words at n → (n ≡ 0 → ⊥) → {C : Type 0} → C
+      → PayloadNext s at n × (PayloadInside main s at n × C)
+  payload-next f q z c =
+      let e = f .1 ∙ q in
+      (record { no-tags = f .0; payload = e; some = z }, (payload-ready e z, c))

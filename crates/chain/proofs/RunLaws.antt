@@ -1,23 +1,20 @@
 -- One turn of a run.
 use mathlib.Core.Path.{_≡_, refl, sym, ap, _∙_}
-use mathlib.Core.Bool.{Bool, true, false}
+use mathlib.Core.Bool.{true, false}
 use mathlib.Core.List.{List}
-use Prim.Native.Nat.{ℕ, zero, suc, _+_, _-_, _<_, _≤_}
+use Prim.Native.Nat.{ℕ, zero, suc, _+_, _-_, _≤_}
 use native.Mathlib.Nat.{zero-add, add-zero, sub-zero}
 use native.Mathlib.Omega.{arith}
-use borrow.Author.Tests.{eq-eqb, ne-eqb}
-use lib.ListN.{length}
+use borrow.Author.Tests.{ne-eqb}
 use Rattle.fields.specs.Fields.{if}
-use Rattle.vif.specs.Step.{Lent, lent}
-use Rattle.chain.specs.declared.Answer.{Answer}
+use Rattle.vif.specs.Step.{Lent}
 use Rattle.chain.specs.declared.Answer.the-variants.{Done, Allowance, Interrupt, Refused}
 use Rattle.chain.specs.declared.StepAnswer.{StepAnswer}
 use Rattle.chain.specs.declared.StepAnswer.the-variants.{Completed, Refused as StepRefused}
 use Rattle.chain.specs.declared.State.{State}
 use Rattle.chain.specs.Range.{entryRefusal}
-use Rattle.chain.specs.Step.{Stepped, stepped, stepOf}
+use Rattle.chain.specs.Step.{Stepped, stepOf}
 use Rattle.chain.specs.Run.{Ran, ran, done, oneMore, afterStep, onStep, stepsOf, runOf}
-use Rattle.chain.proofs.AfterLaws.{step-same}
 
 -- a run with k steps before it
 abbrev pub plus : ℕ → Ran → Ran
@@ -28,17 +25,17 @@ by-answer q f x s m h = rw q h
 
 module _ (main : List ℕ) (s : State) (m : Lent) where
   pub run-done : (n : ℕ) → done s ≡ true → stepsOf main n s m ≡ ran Done s 0 m
-  unfolding stepsOf
+  unfolding stepsOf if
   run-done zero h = rw h
   run-done (suc n) h = rw h
 
   pub run-out : (n : ℕ) → n ≡ 0 → done s ≡ false → stepsOf main n s m ≡ ran Allowance s 0 m
-  unfolding stepsOf
+  unfolding stepsOf if
   run-out n z h = rw (z, h)
 
   module _ (n n′ : ℕ) (z : n ≡ suc n′) (h : done s ≡ false) {x : Stepped} (e : x ≡ stepOf main s m) where
     one-turn : stepsOf main n s m ≡ onStep (stepsOf main n′) x s m
-    unfolding stepsOf
+    unfolding stepsOf if
     one-turn = rw (z, h, ← e)
 
     pub run-goes : x .answer ≡ Completed false → stepsOf main n s m ≡ oneMore (stepsOf main n′ (x .after .state) (x .after .memories))
@@ -60,26 +57,6 @@ module _ (main : List ℕ) (s : State) (m : Lent) (k allowance : ℕ) {w : Ran} 
   ends-out l h =
       let z : allowance - k ≡ 0 = omega arith in
       sym (ap (plus k) (run-out main s m (allowance - k) z h) ∙ rw add-zero) ∙ i
-
-  module _ (l : k < allowance) (h : done s ≡ false) {x : Stepped} (e : x ≡ stepOf main s m) where
-    left : allowance - k ≡ suc (allowance - (k + 1))
-    left = omega arith
-
-    pub goes-on : x .answer ≡ Completed false → plus (k + 1) (stepsOf main (allowance - (k + 1)) (x .after .state) (x .after .memories)) ≡ w
-    goes-on q =
-        let j = run-goes main s m (allowance - k) (allowance - (k + 1)) left h e q in
-        let t = stepsOf main (allowance - (k + 1)) (x .after .state) (x .after .memories) .steps in
-        let c : k + suc t ≡ k + 1 + t = omega arith in
-        sym (ap (plus k) j ∙ rw c) ∙ i
-
-    pub ends-interrupt : x .answer ≡ Completed true → ran Interrupt (x .after .state) (k + 1) (x .after .memories) ≡ w
-    ends-interrupt q = sym (ap (plus k) (run-interrupts main s m (allowance - k) (allowance - (k + 1)) left h e q)) ∙ i
-
-    pub ends-refused : {n : ℕ} → x .answer ≡ StepRefused n → ran (Refused n) s k (x .after .memories) ≡ w
-    ends-refused {n} q =
-        let same = step-same main s m x e n q in
-        rw (ap (λ (y : Stepped). y .after .memories) same)
-        (sym (ap (plus k) (run-refuses main s m (allowance - k) (allowance - (k + 1)) left h e q) ∙ rw add-zero) ∙ i)
 
 -- ---- the entry tests
 

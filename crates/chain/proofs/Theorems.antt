@@ -5,6 +5,7 @@ use mathlib.Core.List.{List}
 use Prim.Native.Nat.{ℕ, zero, suc, _+_, _≤_}
 use native.Mathlib.Nat.{zero-add, suc-add}
 use native.Mathlib.Omega.{arith}
+use Rattle.fields.specs.Fields.{if}
 use Rattle.vif.specs.Step.{Lent}
 use Rattle.chain.specs.declared.Answer.the-variants.{Done, Allowance, Interrupt, Refused}
 use Rattle.chain.specs.declared.StepAnswer.{StepAnswer}
@@ -13,7 +14,7 @@ use Rattle.chain.specs.declared.State.{State}
 use Rattle.chain.specs.Range.{entryRefusal}
 use Rattle.chain.specs.Inner.{Ready}
 use Rattle.chain.specs.Step.{Machine, machine, Stepped, stepOf}
-use Rattle.chain.specs.Run.{Ran, ran, done, oneMore, afterStep, onStep, orStop, turn, stepsOf, runOf}
+use Rattle.chain.specs.Run.{Ran, ran, done, oneMore, afterStep, onStep, stepsOf, runOf}
 use Rattle.chain.specs.Stops.{stepFrom, Reaches, here, step, Stops, at-end, at-allowance, at-interrupt, at-refusal}
 use Rattle.chain.proofs.AfterLaws.{step-stays}
 use Rattle.chain.proofs.RunLaws.{plus, run-goes}
@@ -30,9 +31,12 @@ one-more main n x r d a (at-allowance e c p h) = at-allowance e (ap suc c) (step
 one-more main n x r d a (at-interrupt k y e c l p h b q) = at-interrupt (suc k) y e (ap suc c) (omega arith) (step d a p) h b q
 one-more main n x r d a (at-refusal c e l p h b) = at-refusal c e (omega arith) (step d a p) h b
 
-stop-now : (main : List ℕ) (x : Machine) (b : Bool) → done (x .state) ≡ b → Stops main 0 x (orStop b Allowance (x .state) (x .memories))
-stop-now main x true h = at-end refl (omega arith) here h
-stop-now main x false h = at-allowance refl refl here h
+-- a machine that is done stops there; else by what comes next
+done-or : (main : List ℕ) (n : ℕ) (x : Machine) (b : Bool) → done (x .state) ≡ b → {r : Ran} → (done (x .state) ≡ false → Stops main n x r)
+    → Stops main n x (if b (ran Done (x .state) 0 (x .memories)) r)
+unfolding if
+done-or main n x true h f = at-end refl (omega arith) here h
+done-or main n x false h f = f h
 
 turn-stops : (main : List ℕ) (n : ℕ) (x : Machine) (a : StepAnswer) → done (x .state) ≡ false → stepFrom main x .answer ≡ a
     → ((y : Machine) → Stops main n y (runFrom main n y)) → Stops main (suc n) x (afterStep (stepsOf main n) a (stepFrom main x) (x .state) (x .memories))
@@ -43,13 +47,8 @@ turn-stops main n x (StepRefused c) d e f = at-refusal c refl (omega arith) here
 -- a run stops only at the end, at an interrupt mark, at a refusal or at the end of the allowance
 pub run-stops : (main : List ℕ) (n : ℕ) (x : Machine) → Stops main n x (runFrom main n x)
 unfolding stepsOf
-run-stops main zero x = stop-now main x (done (x .state)) refl
-run-stops main (suc n) x = go (run-stops main n) (done (x .state)) refl
-  where
-    go : ((y : Machine) → Stops main n y (runFrom main n y)) → (b : Bool) → done (x .state) ≡ b
-        → Stops main (suc n) x (turn b (stepsOf main n) main (x .state) (x .memories))
-    go f true h = at-end refl (omega arith) here h
-    go f false h = turn-stops main n x (stepFrom main x .answer) h refl f
+run-stops main zero x = done-or main 0 x (done (x .state)) refl (at-allowance refl refl here)
+run-stops main (suc n) x = done-or main (suc n) x (done (x .state)) refl (λ h. turn-stops main n x (stepFrom main x .answer) h refl (run-stops main n))
 
 -- ---- steps compose
 
@@ -67,7 +66,7 @@ run-from {main} (step {k} {x} {z} d a p) n =
 
 -- ---- what a run leaves is accepted by the next run with the same memories
 
-ready-along : {main : List ℕ} {k : ℕ} {x y : Machine} → Reaches main k x y → Ready main (x .state) (x .memories) → Ready main (y .state) (y .memories)
+pub ready-along : {main : List ℕ} {k : ℕ} {x y : Machine} → Reaches main k x y → Ready main (x .state) (x .memories) → Ready main (y .state) (y .memories)
 ready-along here r = r
 ready-along {main} (step {k} {x} d a p) r = ready-along p (step-stays r (stepFrom main x) refl false a)
 

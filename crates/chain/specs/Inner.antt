@@ -1,6 +1,6 @@
--- Facts that inner functions require of their input; no promise of a public function cites them.
-use Prim.Native.Nat.{ℕ, _+_, _*_, _-_, _/_, _%_, _<_, _≤_}
-use mathlib.Core.Bool.{true, false}
+-- Facts that inner functions require of their input or promise; no promise of a public function cites them.
+use Prim.Native.Nat.{ℕ, _+_, _*_, _/_, _%_, _≤_}
+use mathlib.Core.Bool.{Bool, true, false}
 use mathlib.Core.List.{List}
 use mathlib.Core.Path.{_≡_}
 use lib.ListN.{length}
@@ -9,17 +9,26 @@ use Rattle.fields.specs.Fields.{if}
 use Rattle.gif.specs.Log.{logRefused}
 use Rattle.gif.specs.Range.{pathInRange}
 use Rattle.vif.specs.Step.{Lent}
+use Rattle.chain.specs.declared.Answer.the-variants.{Interrupt, Refused as AnswerRefused}
+use Rattle.chain.specs.declared.BurstResult.{BurstResult}
+use Rattle.chain.specs.declared.TagWords.the-variants.{Nothing as NoTagWords}
 use Rattle.chain.specs.declared.Payload.{Payload}
+use Rattle.chain.specs.declared.Payload.the-variants.{Words}
+use Rattle.chain.specs.declared.StepAnswer.{StepAnswer}
+use Rattle.chain.specs.declared.StepAnswer.the-variants.{Completed, Refused}
 use Rattle.chain.specs.declared.State.{State}
 use Rattle.chain.specs.Range.{entryRefusal}
+use Rattle.chain.specs.Step.{Machine}
+use Rattle.chain.specs.Run.{ran, stepsOf}
+use Rattle.chain.specs.Stops.{Reaches}
 
 -- the machine passes the entry tests
 pub record Ready (main : List ℕ) (s : State) (m : Lent) : Type 0 where
   pub passed : entryRefusal main m s ≡ 0
 
--- a word at an address, with what follows it in its quadword, lies inside main memory
+-- the quadword that holds the word at an address lies inside main memory
 pub record WordInside (main : List ℕ) (a : ℕ) : Type 0 where
-  pub inside : a + 4 * (4 - a / 4 % 4) ≤ length main
+  pub inside : 16 * (a / 16 + 1) ≤ length main
   pub most : length main ≤ 1048576
 
 -- pending payload lies inside
@@ -42,3 +51,32 @@ pub record QuadwordReady (main : List ℕ) (a : ℕ) (s : State) (log : List ℕ
 -- what is pending of the payload after one word, and after a quadword
 abbrev pub byTaken : Payload → Payload → ℕ → Payload
 byTaken one four k = if (eqb k 1) one four
+
+-- payload is pending and no tag words
+pub record PayloadNext (s : State) (at n : ℕ) : Type 0 where
+  pub no-tags : s .tags ≡ NoTagWords
+  pub payload : s .payload ≡ Words at n
+  pub some : n ≡ 0 → ⊥
+
+abbrev pub burstResult : State → ℕ → Bool → BurstResult
+burstResult s k i = record { state = s; steps = k; interrupt = i }
+
+-- k steps of a run of at most n, from x to y: i says whether the last of them was an interrupt mark, at which the run stops
+pub record Burst (main : List ℕ) (n : ℕ) (x : Machine) (i : Bool) (k : ℕ) (y : Machine) : Type 0 where
+  pub few : k ≤ n
+  pub some : i ≡ true → 1 ≤ k
+  pub goes : i ≡ false → Reaches main k x y
+  pub stops : i ≡ true → stepsOf main n (x .state) (x .memories) ≡ ran Interrupt (y .state) k (y .memories)
+
+-- the steps that an answer completed
+abbrev pub completedBy : StepAnswer → ℕ
+completedBy (Completed i) = 1
+completedBy (Refused c) = 0
+
+-- k steps of a run of at most n, from x to y, at least one, and the answer to the last; or none, and the refusal of the first, at which the run stops
+pub record Advance (main : List ℕ) (n : ℕ) (x : Machine) (a : StepAnswer) (k : ℕ) (y : Machine) : Type 0 where
+  pub few : k ≤ n
+  pub some : a ≡ Completed false → 1 ≤ k
+  pub goes : a ≡ Completed false → Reaches main k x y
+  pub interrupts : a ≡ Completed true → stepsOf main n (x .state) (x .memories) ≡ ran Interrupt (y .state) k (y .memories)
+  pub refuses : (c : ℕ) → a ≡ Refused c → stepsOf main n (x .state) (x .memories) ≡ ran (AnswerRefused c) (y .state) k (y .memories)

@@ -1,5 +1,5 @@
 -- The ranges behind refusal 5, and the entry refusals: document 01's "Entry, in this order, zero steps".
-use Prim.Native.Nat.{ℕ, _+_, _*_, _-_, _/_, _%_, _^_}
+use Prim.Native.Nat.{ℕ, _+_, _*_, _/_, _%_, _^_}
 use mathlib.Core.Bool.{Bool, true, false, not, _&&_, _||_}
 use mathlib.Core.List.{List}
 use lib.ListN.{length}
@@ -63,10 +63,10 @@ stateInRange s =
 unfoldable pub mainRefused : ℕ → Bool
 mainRefused size = eqb size 0 || (not (eqb (size % 16) 0) || ltb 1048576 size)
 
--- "14 pending words outside this main memory"
+-- "14 pending words outside this main memory"; "the last being word 3": the whole quadword of pending tag words lies inside
 unfoldable pub tagsInside : TagWords → ℕ → Bool
 tagsInside NoTagWords size = true
-tagsInside (From a) size = leb (a + 4 * (4 - a / 4 % 4)) size
+tagsInside (From a) size = leb (16 * (a / 16 + 1)) size
 
 unfoldable pub payloadInside : Payload → ℕ → Bool
 payloadInside NoPayload size = true

@@ -1,7 +1,7 @@
 -- A run: document 01's "Before each step: if the chain has ended and nothing is pending, answer 0 (done); else if the allowance is used, answer 90. After a
 -- step that completes a VIF code with its bit 31 set, payload included, answer 91 at once, also where the chain or allowance ends there. The step count is
 -- the number of steps completed. A refused step isn't counted."
-use Prim.Native.Nat.{ℕ, zero, suc, _+_}
+use Prim.Native.Nat.{ℕ, zero, suc}
 use mathlib.Core.Bool.{Bool, true, false, _&&_}
 use mathlib.Core.List.{List}
 use lib.Dec.{eqb}
@@ -53,18 +53,10 @@ afterStep f (StepRefused n) x s m = ran (Refused n) s 0 m
 abbrev pub onStep : (State → Lent → Ran) → Stepped → State → Lent → Ran
 onStep f x s m = afterStep f (x .answer) x s m
 
-abbrev pub orStop : Bool → Answer → State → Lent → Ran
-orStop true a s m = ran Done s 0 m
-orStop false a s m = ran a s 0 m
-
-abbrev pub turn : Bool → (State → Lent → Ran) → List ℕ → State → Lent → Ran
-turn true f main s m = ran Done s 0 m
-turn false f main s m = onStep f (stepOf main s m) s m
-
 -- the steps of a run, by its allowance
 unfoldable pub stepsOf : List ℕ → ℕ → State → Lent → Ran
-stepsOf main zero s m = orStop (done s) Allowance s m
-stepsOf main (suc n) s m = turn (done s) (stepsOf main n) main s m
+stepsOf main zero s m = if (done s) (ran Done s 0 m) (ran Allowance s 0 m)
+stepsOf main (suc n) s m = if (done s) (ran Done s 0 m) (onStep (stepsOf main n) (stepOf main s m) s m)
 
 -- a run: the entry tests, then the steps
 abbrev pub entered : ℕ → List ℕ → ℕ → State → Lent → Ran

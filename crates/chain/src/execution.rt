@@ -1,15 +1,61 @@
 // A run.
+use super::AdvanceResult;
 use super::Answer;
 use super::RunResult;
 use super::State;
 use super::StepAnswer;
+use super::burst::burst;
 use super::pending::finished;
 use super::range::entry_refusal;
 use super::step::step;
 ghost use mathlib.Core.Path.{_≡_};
+ghost use mathlib.Core.Bool.{false};
+ghost use Prim.Native.Nat.{_≤_};
 ghost use Rattle.vif.specs.Step.{lent};
-ghost use Rattle.chain.specs.Inner.{Ready};
-ghost use Rattle.chain.specs.Run.{leftBy, stepsOf, runOf};
+ghost use Rattle.chain.specs.Inner.{Ready, Advance, completedBy};
+ghost use Rattle.chain.specs.Step.{machine};
+ghost use Rattle.chain.specs.Run.{done, leftBy, stepsOf, runOf};
+
+// The steps that an answer completed.
+fn completed(answer: StepAnswer) -> u64
+    ensures { λ r. ⌜ r ≡ completedBy answer ⌝ }
+{
+    match answer {
+        StepAnswer::Completed(_) => 1,
+        StepAnswer::Refused(_) => 0,
+    }
+}
+
+// Some steps at once, or else one.
+fn advance(
+    main: &[u8],
+    s: State,
+    limit: u64,
+    data: &mut [u32],
+    code: &mut [u8],
+    log: &mut [u64],
+) -> AdvanceResult
+    requires { ⌜ Ready (now main) s (lent (now «data») (now code) (now log)) × ((done s ≡ false) × (1 ≤ limit)) ⌝ }
+    ensures { λ r. ⌜ Advance (now (main .entry)) limit (machine s (lent (now («data» .entry)) (now (code .entry)) (now (log .entry)))) (r .answer) (r .steps) (machine (r .state) (lent (now («data» .exit)) (now (code .exit)) (now (log .exit)))) ⌝ }
+{
+    let b = burst(main, s, limit, data, code, log);
+    let after = b.state;
+    if b.steps != 0 {
+        return AdvanceResult {
+            answer: StepAnswer::Completed(b.interrupt),
+            state: after,
+            steps: b.steps,
+        };
+    }
+    let r = step(main, after, data, code, log);
+    let answer = r.answer;
+    let state = r.state;
+    AdvanceResult {
+        answer,
+        state,
+        steps: completed(answer),
+    }
+}
 
 // The steps of a run, where all was tested.
 fn steps_of(
@@ -32,13 +78,12 @@ fn steps_of(
         if steps >= allowance {
             break Answer::Allowance;
         }
-        let r = step(main, s, data, code, log);
+        let r = advance(main, s, allowance - steps, data, code, log);
         let outcome = r.answer;
-        let t = r.state;
+        s = r.state;
+        steps = steps + r.steps;
         match outcome {
             StepAnswer::Completed(i) => {
-                s = t;
-                steps = steps + 1;
                 if i {
                     break Answer::Interrupt;
                 }

@@ -1,5 +1,6 @@
 // The DMA chain on channel 1 (VIF1) or 2 (GIF): state, start and run. What each function means is said by the definitions of specs/.
 mod block;
+mod burst;
 mod control;
 mod execution;
 mod pending;
@@ -56,6 +57,20 @@ pub enum StepAnswer {
 pub struct StepResult {
     pub answer: StepAnswer,
     pub state: State,
+}
+
+// What so many steps leave, and whether the last of them was an interrupt mark.
+pub(crate) struct BurstResult {
+    pub(crate) state: State,
+    pub(crate) steps: u64,
+    pub(crate) interrupt: bool,
+}
+
+// What some steps leave, and the answer to the last; or the refusal of the first.
+pub(crate) struct AdvanceResult {
+    pub(crate) answer: StepAnswer,
+    pub(crate) state: State,
+    pub(crate) steps: u64,
 }
 
 pub enum StartAnswer {

@@ -176,7 +176,7 @@ fn tags_inside(tags: TagWords, size: usize) -> bool
 {
     match tags {
         TagWords::Nothing => true,
-        TagWords::From(a) => a as u64 + 4 * (4 - a as u64 / 4 % 4) <= size as u64,
+        TagWords::From(a) => 16 * (a as u64 / 16 + 1) <= size as u64,
     }
 }
 

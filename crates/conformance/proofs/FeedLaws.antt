@@ -1,20 +1,18 @@
 -- Steps of VIF1 as steps of the chain.
-use mathlib.Core.Path.{_≡_, refl, sym, ap, _∙_}
-use mathlib.Core.Bool.{Bool, true, false, _&&_}
-use mathlib.Core.List.{List, [], _∷_, _++_}
-use Prim.Native.Nat.{ℕ, zero, suc, _+_, _*_, _-_, _/_, _%_, _^_, _<_, _≤_}
-use native.Mathlib.Nat.{add-zero, zero-add, suc-add, mul-zero}
+use mathlib.Core.Path.{_≡_, refl, _∙_}
+use mathlib.Core.Bool.{false}
+use mathlib.Core.List.{List, [], _∷_}
+use Prim.Native.Nat.{ℕ, zero, suc, _+_, _*_, _-_, _≤_}
+use native.Mathlib.Nat.{zero-add, mul-zero}
 use native.Mathlib.Omega.{arith}
-use borrow.Author.Tests.{eq-eqb, ne-eqb, le-leb, lt-leb}
-use lib.ListN.{length}
-use lib.Dec.{eqb, leb}
+use borrow.Author.Tests.{le-leb, lt-leb}
 use Rattle.fields.specs.Fields.{if}
 use Rattle.gif.specs.declared.Path.{Path}
 use Rattle.vif.specs.declared.Vif.{Vif}
 use Rattle.vif.specs.declared.VifAnswer.{VifAnswer}
 use Rattle.vif.specs.declared.Incoming.{Incoming}
-use Rattle.vif.specs.Step.{Lent, Left, leaves, vifStep}
-use Rattle.vif.specs.Feeds.{Fed, fed, Feeds, none, more, aWord, aQuadword}
+use Rattle.vif.specs.Step.{Lent, leaves, vifStep}
+use Rattle.vif.specs.Feeds.{Fed, Feeds, none, more, aWord, aQuadword}
 use Rattle.chain.specs.declared.TagWords.the-variants.{Nothing as NoTagWords}
 use Rattle.chain.specs.declared.Payload.{Payload}
 use Rattle.chain.specs.declared.Payload.the-variants.{Nothing as NoPayload, Words as PayloadWords}
@@ -22,10 +20,10 @@ use Rattle.chain.specs.declared.StepAnswer.the-variants.{Completed}
 use Rattle.chain.specs.declared.State.{State}
 use Rattle.chain.specs.Setters.{withPending, withUnit}
 use Rattle.vif.specs.Words.{incomingAt}
-use Rattle.chain.specs.Pending.{nothingPending, payloadAfter}
-use Rattle.chain.specs.Step.{Machine, machine, Stepped, stepped, givenVif, vifGiven, payloadStep, stepOf}
-use Rattle.chain.specs.Run.{done}
-use Rattle.chain.specs.Stops.{stepFrom, Reaches, here, step}
+use Rattle.chain.specs.Pending.{payloadAfter}
+use Rattle.chain.specs.Step.{stepped, givenVif}
+use Rattle.chain.specs.Stops.{stepFrom, Reaches, here}
+use Rattle.chain.proofs.BurstLaws.{step-by, pending-going, feeding, fed-step}
 
 -- payload words pending
 abbrev pub pending : ℕ → ℕ → Payload
@@ -44,10 +42,6 @@ payload-next a (suc n) w =
     let e : w + suc n - w ≡ suc n = omega arith in
     rw (lt-leb (w + suc n) w (omega arith), e)
 
--- the machine that feeds VIF1, with payload pending
-abbrev pub feeding : State → Fed → Payload → Machine
-feeding s x p = machine (withPending (withUnit s (x .unit) (x .path2) (x .used)) NoTagWords p) (x .memories)
-
 -- what comes from an address on, w words at each step
 unfoldable pub incomings : ℕ → List ℕ → ℕ → ℕ → List Incoming
 incomings w main a zero = []
@@ -65,29 +59,16 @@ word-takes = record { some = omega arith; given = λ v q used m′ p s m. refl }
 pub quadword-takes : Takes aQuadword 4
 quadword-takes = record { some = omega arith; given = λ v q used m′ p s m. refl }
 
--- a step, by what it leaves
-pub step-by : {main : List ℕ} {k : ℕ} {x z : Machine} {o : Stepped} → done (x .state) ≡ false → stepFrom main x ≡ o → o .answer ≡ Completed false
-    → Reaches main k (o .after) z → Reaches main (suc k) x z
-step-by {main} {k} {x} {z} d e q r = step {k = k} {x = x} {z = z} d (rw e q) (rw e r)
-
 module _ (main : List ℕ) (s : State) (channel : s .channel ≡ 1) {b : VifAnswer} {w : ℕ} (t : Takes b w) where
   -- one step
-  fed-step : (x y : Fed) (a n : ℕ) → vifStep (x .unit) (x .path2) (incomingAt main a) (x .used) (x .memories) ≡ leaves b (y .unit) (y .path2) (y .used) (y .memories)
+  taken-step : (x y : Fed) (a n : ℕ) → vifStep (x .unit) (x .path2) (incomingAt main a) (x .used) (x .memories) ≡ leaves b (y .unit) (y .path2) (y .used) (y .memories)
       → stepFrom main (feeding s x (PayloadWords a (w + n)))
       ≡ stepped (Completed false) (feeding s y (pending (a + 4 * w) n) .state) (y .memories)
-  unfolding stepOf payloadStep vifGiven if
-  fed-step x y a n e =
+  taken-step x y a n e =
       let h : 1 ≤ w = t .some in
-      rw (ne-eqb (w + n) 0 (λ z. omega arith), channel, e)
+      fed-step main s (λ z. omega arith) x a (w + n) (λ z. omega arith)
+      ∙ rw e
       (t .given (y .unit) (y .path2) (y .used) (y .memories) (payloadAfter a (w + n)) _ (x .memories) ∙ rw (payload-next a n w))
-
-  not-done : (x : Fed) (a n : ℕ) → 1 ≤ n → done (feeding s x (PayloadWords a n) .state) ≡ false
-  unfolding done
-  not-done x a n h = rw (ne-eqb n 0 (λ z. omega arith)) (and-false (s .ended))
-    where
-      and-false : (c : Bool) → (c && false) ≡ false
-      and-false true = refl
-      and-false false = refl
 
   -- steps of VIF1 are steps of the chain
   pub feeds-reach : (j a n : ℕ) {x y : Fed} → Feeds b x (incomings w main a j) y
@@ -102,4 +83,4 @@ module _ (main : List ℕ) (s : State) (channel : s .channel ≡ 1) {b : VifAnsw
       let c : w * suc j + n ≡ w + (w * j + n) = omega arith in
       let g : a + 4 * (w * suc j) ≡ a + 4 * w + 4 * (w * j) = omega arith in
       rw (c, g, pending-some a (w + (w * j + n)) (omega arith))
-      (step-by (not-done x a (w + (w * j + n)) (omega arith)) (fed-step x y a (w * j + n) e) refl (feeds-reach j (a + 4 * w) n f))
+      (step-by (pending-going _ a (w + (w * j + n)) refl (λ z. omega arith)) (taken-step x y a (w * j + n) e) refl (feeds-reach j (a + 4 * w) n f))

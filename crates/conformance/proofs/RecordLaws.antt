@@ -35,6 +35,7 @@ use Rattle.vif.specs.Words.{incomingAt}
 use Rattle.chain.specs.Step.{Machine, machine}
 use Rattle.chain.specs.Stops.{Reaches}
 use Rattle.chain.proofs.Theorems.{reaches-join}
+use Rattle.chain.proofs.BurstLaws.{step-by, feeding}
 use Rattle.sheet.specs.Records.{recordOf, bytesAt, number}
 use Rattle.sheet.specs.declared.Kind.{Kind}
 use Rattle.sheet.specs.declared.Kind.the-variants.{Data, Code, Gs, Start}
@@ -45,7 +46,7 @@ use Rattle.sheet.specs.Results.{numbersOf}
 use Rattle.sheet.proofs.LayoutLaws.{words-length as bytes-length}
 use Rattle.sheet.proofs.MeaningLaws.{entries-count}
 use Rattle.conformance.proofs.WordLaws.{Octets, wordsOf, words-small, words-length, wordsFrom, words-join, placed-next, word-number, words-read, words-placed}
-use Rattle.conformance.proofs.FeedLaws.{pending, feeding, incomings, word-takes, quadword-takes, step-by, feeds-reach}
+use Rattle.conformance.proofs.FeedLaws.{pending, incomings, word-takes, quadword-takes, feeds-reach}
 use Rattle.conformance.proofs.TagLaws.{IdleAt, idle-going, cnt-step}
 use Rattle.conformance.proofs.MeaningLaws.{vectors-same, instructions-same, bodyQuadword, bodyQuadwords, quadwords-length, entries-same, number-join}
 

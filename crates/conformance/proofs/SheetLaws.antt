@@ -19,6 +19,7 @@ use Rattle.chain.specs.Step.{Machine, machine}
 use Rattle.chain.specs.Run.{done}
 use Rattle.chain.specs.Stops.{Reaches, here}
 use Rattle.chain.proofs.Theorems.{reaches-join}
+use Rattle.chain.proofs.BurstLaws.{step-by}
 use Rattle.sheet.specs.declared.Kind.{Kind}
 use Rattle.sheet.specs.declared.Kind.the-variants.{Data, Code, Gs, Start}
 use Rattle.sheet.specs.Records.{Record, recordOf, countFits, addressFits, bodyLength}
@@ -31,7 +32,6 @@ use Rattle.sheet.specs.Fed.{Fed, fed, fedBy, fedAll}
 use Rattle.sheet.proofs.MeaningLaws.{row-count}
 use Rattle.sheet.proofs.LayoutLaws.{laid-length}
 use Rattle.conformance.proofs.WordLaws.{Octets, no-byte, one-byte, octets-left, octets-right, placed-next}
-use Rattle.conformance.proofs.FeedLaws.{step-by}
 use Rattle.conformance.proofs.TagLaws.{IdleAt, idle-going, end-step}
 use Rattle.conformance.proofs.RecordLaws.{Arrived, placed-inside, tag-placed, data-record, code-record, gs-record, start-record}
 

@@ -7,3 +7,4 @@ pub mod KeepLaws
 pub mod RangeKept
 pub mod SheetLaws
 pub mod BlockLaws
+pub mod FeedLaws

@@ -10,9 +10,10 @@ use Rattle.gif.specs.Log.{logRefused}
 use Rattle.gif.specs.Range.{pathInRange}
 use Rattle.vif.specs.declared.VifAnswer.{VifAnswer}
 use Rattle.vif.specs.declared.VifAnswer.the-variants.{Word, Quadword, Refused}
+use Rattle.vif.specs.declared.WordsResult.{WordsResult}
 use Rattle.vif.specs.Range.{unitInRange}
 use Rattle.vif.specs.Words.{incomingAt}
-use Rattle.vif.specs.Step.{Left, vifStep}
+use Rattle.vif.specs.Step.{Lent, Left, vifStep}
 use Rattle.vif.specs.Feeds.{Fed, fed}
 
 -- what they left, how many words and steps that took, and whether the last step completed an interrupt
@@ -24,6 +25,10 @@ pub record FedOn : Type 0 where
 
 abbrev pub fedOn : Fed → ℕ → ℕ → Bool → FedOn
 fedOn x k n i = record { after = x; words = k; steps = n; interrupt = i }
+
+-- of the program's result and the memories afterwards
+abbrev pub fedOnBy : WordsResult → Lent → FedOn
+fedOnBy r m = fedOn (fed (r .unit) (r .path2) (r .used) m) (r .words) (r .steps) (r .interrupt)
 
 abbrev pub fedTo : Left → Fed
 fedTo o = fed (o .unit) (o .path2) (o .used) (o .memories)

@@ -1,6 +1,6 @@
 -- Facts that inner functions require of their input; no promise of a public function cites them.
 use Prim.Native.Nat.{ℕ, _≤_}
-use mathlib.Core.Bool.{true, false}
+use mathlib.Core.Bool.{Bool, true, false}
 use mathlib.Core.List.{List}
 use mathlib.Core.Path.{_≡_}
 use lib.ListN.{length}
@@ -11,6 +11,8 @@ use Rattle.unpack.specs.declared.Format.{Format}
 use Rattle.unpack.specs.declared.Unpacking.{Unpacking}
 use Rattle.unpack.specs.Step.{acceptable}
 use Rattle.vif.specs.declared.Vif.{Vif}
+use Rattle.vif.specs.declared.VifAnswer.{VifAnswer}
+use Rattle.vif.specs.declared.VifAnswer.the-variants.{Word, Quadword, Refused}
 use Rattle.vif.specs.Payload.{writeRegisters}
 use Rattle.vif.specs.Range.{unitInRange}
 
@@ -30,3 +32,9 @@ pub record StepReady (v : Vif) (p : Path) (used : ℕ) (mem code log : List ℕ)
   pub wide : length code ≡ 16384
   pub gif : GifReady p used log
   pub ranged : unitInRange v ≡ true
+
+-- whether an answer completed a code with its interrupt bit
+abbrev pub interruptIn : VifAnswer → Bool
+interruptIn (Word i) = i
+interruptIn (Quadword i) = i
+interruptIn (Refused n) = false

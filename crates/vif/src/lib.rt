@@ -3,6 +3,7 @@ mod block;
 mod decode;
 mod direct;
 mod execute;
+mod feed;
 mod mpg;
 mod payload;
 mod range;
@@ -12,6 +13,7 @@ mod words;
 
 pub use block::unit_block;
 pub use block::unit_in_block;
+pub use feed::take_words;
 pub use range::unit_in_range;
 pub use step::take;
 pub use words::incoming_at;
@@ -136,4 +138,14 @@ pub struct VifResult {
     pub unit: Vif,
     pub path2: gif::Path,
     pub used: u64,
+}
+
+// What words given one after another leave, how many words and steps were taken, and whether the last step completed an interrupt.
+pub struct WordsResult {
+    pub unit: Vif,
+    pub path2: gif::Path,
+    pub used: u64,
+    pub words: u32,
+    pub steps: u64,
+    pub interrupt: bool,
 }

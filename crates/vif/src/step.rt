@@ -208,7 +208,7 @@ fn directhl_rest(due: u32, interrupt: bool) -> Waiting
 }
 
 // Document 01's step, where all was tested.
-fn step(
+pub(crate) fn step(
     unit: Vif,
     path2: Path,
     next: Incoming,
@@ -243,7 +243,7 @@ fn step(
     }
 }
 
-fn in_range(unit: Vif, path2: Path) -> bool
+pub(crate) fn in_range(unit: Vif, path2: Path) -> bool
     ensures { λ r. ⌜ r ≡ (unitInRange unit && pathInRange path2) ⌝ }
 {
     if unit_in_range(unit) {

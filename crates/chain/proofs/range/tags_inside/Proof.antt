@@ -13,25 +13,17 @@ enum-told c = search needs
 enum-known-tags : tie.Need-enum-known-tags
 enum-known-tags c = search needs
 
--- src/range.rt:179:30
+-- src/range.rt:179:36
 cast-result : tie.Need-cast-result
 cast-result c = search needs
 
--- src/range.rt:179:50
-cast-result-2 : tie.Need-cast-result-2
-cast-result-2 c = search needs
-
--- src/range.rt:179:46
-sub-result : tie.Need-sub-result
-sub-result c = search needs
-
--- src/range.rt:179:41
-mul-result : tie.Need-mul-result
-mul-result c = search needs
-
--- src/range.rt:179:30
+-- src/range.rt:179:36
 add-result : tie.Need-add-result
 add-result c = search needs
+
+-- src/range.rt:179:30
+mul-result : tie.Need-mul-result
+mul-result c = search needs
 
 -- src/range.rt:174:1
 returns : tie.Need-returns
@@ -46,13 +38,4 @@ returns-2 c = rw (c .before .tags .given .1)
 pub tags-inside-spec : {M : Type 1} → statement M
 tags-inside-spec =
     tie.close
-    (tie.spec
-    enum-told
-    enum-known-tags
-    cast-result
-    cast-result-2
-    sub-result
-    mul-result
-    add-result
-    returns
-    returns-2)
+    (tie.spec enum-told enum-known-tags cast-result add-result mul-result returns returns-2)

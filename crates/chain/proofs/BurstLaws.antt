@@ -1,0 +1,386 @@
+-- Words and quadwords of the payload given one after another are so many steps of a run.
+use mathlib.Core.Path.{_≡_, refl, sym, ap, _∙_}
+use mathlib.Core.Bool.{Bool, true, false, _&&_}
+use mathlib.Core.List.{List}
+use Prim.Native.Nat.{ℕ, zero, suc, _+_, _*_, _-_, _/_, _^_, _<_, _≤_}
+use native.Mathlib.Nat.{add-zero, add-assoc, sub-zero}
+use native.Mathlib.Omega.{arith}
+use borrow.Author.Tests.{eqb-false, leb-true, leb-false, le-leb, lt-leb, ne-eqb}
+use lib.Dec.{eqb, leb}
+use Rattle.fields.specs.Fields.{if}
+use Rattle.fields.proofs.ChoiceLaws.{if-ind, if-ind-by}
+use Rattle.fields.specs.Memory.{quadwordAt}
+use Rattle.gif.specs.declared.Path.{Path}
+use Rattle.gif.specs.declared.GifAnswer.{GifAnswer}
+use Rattle.gif.specs.declared.GifAnswer.the-variants.{Taken, Refused as GifRefused}
+use Rattle.gif.specs.declared.QuadwordsResult.{QuadwordsResult}
+use Rattle.gif.specs.Step.{Left as GifLeft, gifStep}
+use Rattle.gif.specs.Feed.{Fed as GifFed, fed as gifFed, fedBy, afterQuadword, feedsOf as gifFeedsOf, feedOf as gifFeedOf}
+use Rattle.gif.proofs.FeedLaws.{feed-few}
+use Rattle.vif.specs.declared.VifAnswer.{VifAnswer}
+use Rattle.vif.specs.declared.VifAnswer.the-variants.{Word, Quadword, Refused as VifRefused}
+use Rattle.vif.specs.declared.WordsResult.{WordsResult}
+use Rattle.vif.specs.Step.{Lent, lent, Left as VifLeft, vifStep}
+use Rattle.vif.specs.Words.{incomingAt}
+use Rattle.vif.specs.Feeds.{Fed, fed}
+use Rattle.vif.specs.Feed.{FedOn, fedOn, fedOnBy, fedTo, stepMore, afterWord, feedsOf, feedOf}
+use Rattle.chain.specs.declared.Answer.the-variants.{Interrupt, Refused as AnswerRefused}
+use Rattle.chain.specs.declared.TagWords.the-variants.{Nothing as NoTagWords}
+use Rattle.chain.specs.declared.Payload.{Payload}
+use Rattle.chain.specs.declared.Payload.the-variants.{Nothing as NoPayload, Words}
+use Rattle.chain.specs.declared.StepAnswer.{StepAnswer}
+use Rattle.chain.specs.declared.StepAnswer.the-variants.{Completed, Refused}
+use Rattle.chain.specs.declared.StepResult.{StepResult}
+use Rattle.chain.specs.declared.State.{State}
+use Rattle.chain.specs.Setters.{withPending, withUnit, withPath3}
+use Rattle.chain.specs.Pending.{noTags, payloadAfter}
+use Rattle.chain.specs.Inner.{Ready, PayloadInside, PayloadNext, Burst, Advance, completedBy}
+use Rattle.chain.specs.Step.{Machine, machine, Stepped, steppedBy, afterVif, givenVif, vifGiven, afterGif, givenGif, gifGiven, payloadStep, stepOf}
+use Rattle.chain.specs.Run.{Ran, ran, done, oneMore, stepsOf}
+use Rattle.chain.specs.Stops.{stepFrom, Reaches, here, step}
+use Rattle.chain.proofs.AfterLaws.{no-completed, step-same}
+use Rattle.chain.proofs.RunLaws.{plus, run-goes, run-interrupts, run-refuses}
+use Rattle.chain.proofs.Theorems.{run-from}
+
+-- ---- bursts of steps
+
+-- a step, by what it leaves
+pub step-by : {main : List ℕ} {k : ℕ} {x z : Machine} {o : Stepped} → done (x .state) ≡ false → stepFrom main x ≡ o → o .answer ≡ Completed false
+    → Reaches main k (o .after) z → Reaches main (suc k) x z
+step-by {main} {k} {x} {z} d e q r = step {k = k} {x = x} {z = z} d (rw e q) (rw e r)
+
+-- steps of which none is an interrupt mark
+burst-of : {main : List ℕ} {n k : ℕ} {x y : Machine} → k ≤ n → Reaches main k x y → Burst main n x false k y
+burst-of l r = record { few = l; some = λ h. absurd (differ h); goes = λ h. r; stops = λ h. absurd (differ h) }
+  where
+    differ : false ≡ true → ⊥
+    differ h = let z : _≡_ {A = ℕ} 0 1 = cc in omega arith
+
+-- no step
+pub burst-none : (main : List ℕ) (n : ℕ) (x : Machine) → Burst main n x false 0 x
+burst-none main n x = burst-of (omega arith) here
+
+module _ (main : List ℕ) (n : ℕ) (x : Machine) (d : done (x .state) ≡ false) {o : Stepped} (e : stepFrom main x ≡ o) where
+  -- one, that is an interrupt mark
+  pub burst-stops : o .answer ≡ Completed true → Burst main (suc n) x true 1 (o .after)
+  burst-stops q =
+      record {
+        few = omega arith;
+        some = λ h. omega arith;
+        goes = λ h. absurd (let z : _≡_ {A = ℕ} 0 1 = cc in omega arith);
+        stops = λ h. run-interrupts main (x .state) (x .memories) (suc n) n refl d (sym e) q;
+      }
+
+  -- one more
+  pub burst-goes : {i : Bool} {k : ℕ} {y : Machine} → o .answer ≡ Completed false → Burst main n (o .after) i k y → Burst main (suc n) x i (suc k) y
+  burst-goes q b =
+      let l = b .few in
+      record {
+        few = omega arith;
+        some = λ h. omega arith;
+        goes = λ h. step-by d e q (b .goes h);
+        stops = λ h. run-goes main (x .state) (x .memories) (suc n) n refl d (sym e) q ∙ ap oneMore (b .stops h);
+      }
+
+-- ---- some steps at once, or else one
+
+same-told : {i j : Bool} → Completed i ≡ Completed j → i ≡ j
+same-told q = cc
+
+module _ {main : List ℕ} {n : ℕ} {x : Machine} {i : Bool} {k : ℕ} {y : Machine} (b : Burst main n x i k y) where
+  pub advance-burst : (k ≡ 0 → ⊥) → Advance main n x (Completed i) k y
+  advance-burst z =
+      record {
+        few = b .few;
+        some = λ q. omega arith;
+        goes = λ q. b .goes (same-told q);
+        interrupts = λ q. b .stops (same-told q);
+        refuses = λ c q. absurd (no-completed (sym q));
+      }
+
+  -- a burst of no step leaves the machine as it was
+  burst-empty : k ≡ 0 → x ≡ y
+  burst-empty z = go i refl
+    where
+      nowhere : {u v : Machine} → Reaches main 0 u v → u ≡ v
+      nowhere here = refl
+
+      go : (c : Bool) → i ≡ c → x ≡ y
+      go true q = let l = b .some q in absurd (omega arith)
+      go false q = nowhere (rw z at (b .goes q))
+
+  pub empty-ready : k ≡ 0 → Ready main (x .state) (x .memories) → Ready main (y .state) (y .memories)
+  empty-ready z r = rw (← burst-empty z) r
+
+-- one step
+module _ (main : List ℕ) (n : ℕ) (s : State) (m : Lent) (d : done s ≡ false) (l : 1 ≤ n) {o : Stepped} (e : o ≡ stepOf main s m) where
+  one-most : (a : StepAnswer) → completedBy a ≤ 1
+  one-most (Completed i) = omega arith
+  one-most (Refused c) = omega arith
+
+  left : n ≡ suc (n - 1)
+  left = omega arith
+
+  advance-step : Advance main n (machine s m) (o .answer) (completedBy (o .answer)) (o .after)
+  advance-step =
+      let f = one-most (o .answer) in
+      record {
+        few = omega arith;
+        some = λ q. rw q (omega arith);
+        goes = λ q. rw q (step-by d (sym e) q here);
+        interrupts = λ q. rw q (run-interrupts main s m n (n - 1) left d e q);
+        refuses = λ c q. rw (step-same main s m o e c q) (run-refuses main s m n (n - 1) left d e q);
+      }
+
+pub advance-one : {main : List ℕ} {n : ℕ} {s : State} {m : Lent} {i : Bool} {j : ℕ} {t : State} {m₁ : Lent} → Burst main n (machine s m) i j (machine t m₁) → j ≡ 0
+    → done s ≡ false → 1 ≤ n → {r : StepResult} {m₂ : Lent} → steppedBy r m₂ ≡ stepOf main t m₁ → {k : ℕ} → k ≡ completedBy (r .answer)
+    → Advance main n (machine s m) (r .answer) k (machine (r .state) m₂)
+advance-one {main} {n} {s} {m} {i} {j} {t} {m₁} b z d l e q =
+    let w = burst-empty b z in
+    rw (q, w) (advance-step main n t m₁ (ap (λ (y : Machine). done (y .state)) (sym w) ∙ d) l e)
+
+-- in a run with k steps before
+module _ (main : List ℕ) (s : State) (m : Lent) (k allowance : ℕ) {w : Ran} (e : plus k (stepsOf main (allowance - k) s m) ≡ w)
+    {a : StepAnswer} {j : ℕ} {y : Machine} (b : Advance main (allowance - k) (machine s m) a j y) where
+  pub goes-on : k < allowance → a ≡ Completed false → plus (k + j) (stepsOf main (allowance - (k + j)) (y .state) (y .memories)) ≡ w
+  goes-on l h =
+      let f = b .few in
+      let n : allowance - k ≡ j + (allowance - (k + j)) = omega arith in
+      let r = stepsOf main (allowance - (k + j)) (y .state) (y .memories) in
+      rw (add-assoc k j (r .steps)) (sym (ap (plus k) (rw n (run-from (b .goes h) (allowance - (k + j))))) ∙ e)
+
+  pub ends-interrupt : a ≡ Completed true → ran Interrupt (y .state) (k + j) (y .memories) ≡ w
+  ends-interrupt h = sym (ap (plus k) (b .interrupts h)) ∙ e
+
+  pub ends-refused : {c : ℕ} → a ≡ Refused c → ran (AnswerRefused c) (y .state) (k + j) (y .memories) ≡ w
+  ends-refused {c} h = sym (ap (plus k) (b .refuses c h)) ∙ e
+
+-- ---- the payload after some of its words, and then some more
+
+pub payload-more : (a n k w : ℕ) → payloadAfter (a + 4 * k) (n - k) w ≡ payloadAfter a n (k + w)
+unfolding payloadAfter if
+payload-more a n k w = go (leb n (k + w)) refl
+  where
+    go : (b : Bool) → leb n (k + w) ≡ b → if (leb (n - k) w) NoPayload (Words (a + 4 * k + 4 * w) (n - k - w)) ≡ if (leb n (k + w)) NoPayload (Words (a + 4 * (k + w)) (n - (k + w)))
+    go true h =
+        let l = leb-true n (k + w) h in
+        rw (h, le-leb (n - k) w (omega arith))
+    go false h =
+        let l = leb-false n (k + w) h in
+        let p : a + 4 * k + 4 * w ≡ a + 4 * (k + w) = omega arith in
+        let q : n - k - w ≡ n - (k + w) = omega arith in
+        rw (h, lt-leb (n - k) w (omega arith), p, q)
+
+-- before any of them
+pub payload-whole : (a n : ℕ) → (n ≡ 0 → ⊥) → payloadAfter a n 0 ≡ Words a n
+unfolding payloadAfter if
+payload-whole a n z = let p : a + 4 * 0 ≡ a = omega arith in rw (lt-leb n 0 (omega arith), p, sub-zero n)
+
+-- a chain with payload pending is not done
+pub pending-going : (s : State) (a n : ℕ) → s .payload ≡ Words a n → (n ≡ 0 → ⊥) → done s ≡ false
+unfolding done
+pending-going s a n e z = rw (e, ne-eqb n 0 z) (go (s .ended) (noTags (s .tags)))
+  where
+    and-false : (c : Bool) → (c && false) ≡ false
+    and-false true = refl
+    and-false false = refl
+
+    go : (c t : Bool) → (c && (t && false)) ≡ false
+    go c t = rw (and-false t) (and-false c)
+
+-- ---- channel 1
+
+-- the machine that feeds VIF1, with payload pending
+abbrev pub feeding : State → Fed → Payload → Machine
+feeding s x p = machine (withPending (withUnit s (x .unit) (x .path2) (x .used)) NoTagWords p) (x .memories)
+
+abbrev givenWord : List ℕ → ℕ → Fed → VifLeft
+givenWord main a x = vifStep (x .unit) (x .path2) (incomingAt main a) (x .used) (x .memories)
+
+-- each step takes a word or a quadword, so they end within four times the words that were there
+record FewWords (count : ℕ) (r : FedOn) : Type 0 where
+  few-words : r .words ≤ 4 * count
+
+no-words : (count : ℕ) (x : Fed) → FewWords count (fedOn x 0 0 false)
+no-words count x = record { few-words = omega arith }
+
+module _ (main : List ℕ) where
+  answer-few : (f : ℕ → ℕ → Fed → FedOn) → ((a count : ℕ) (x : Fed) → FewWords count (f a count x))
+      → (b : VifAnswer) (o : VifLeft) (a count : ℕ) (x : Fed) → (count ≡ 0 → ⊥) → FewWords count (afterWord f b o a count x)
+  answer-few f h (Word true) o a count x z = record { few-words = omega arith }
+  answer-few f h (Word false) o a count x z = let i = h (a + 4) (count - 1) (fedTo o) .few-words in record { few-words = omega arith }
+  answer-few f h (Quadword true) o a count x z = record { few-words = omega arith }
+  answer-few f h (Quadword false) o a count x z = let i = h (a + 16) (count - 4) (fedTo o) .few-words in record { few-words = omega arith }
+  answer-few f h (VifRefused c) o a count x z = no-words count x
+
+  feeds-few : (n a count : ℕ) (x : Fed) → FewWords count (feedsOf main n a count x)
+  unfolding feedsOf
+  feeds-few zero a count x = no-words count x
+  feeds-few (suc n) a count x =
+      if-ind-by (FewWords count) (eqb count 0) (λ e. no-words count x)
+      (λ e. answer-few (feedsOf main n) (feeds-few n) (givenWord main a x .answer) (givenWord main a x) a count x (eqb-false count 0 e))
+
+  pub words-few : (n a count : ℕ) (x : Fed) {r : FedOn} → r ≡ feedOf main n a count x → r .words ≤ 4 * count
+  unfolding feedOf
+  words-few n a count x e = rw e (if-ind (FewWords count) _ (feeds-few n a count x) (no-words count x) .few-words)
+
+module _ (main : List ℕ) (s : State) (channel : s .channel ≡ 2 → ⊥) where
+  -- one step
+  pub fed-step : (x : Fed) (a n : ℕ) → (n ≡ 0 → ⊥)
+      → stepFrom main (feeding s x (Words a n)) ≡ givenVif (givenWord main a x) NoTagWords (payloadAfter a n) (feeding s x (Words a n) .state) (x .memories)
+  unfolding stepOf payloadStep vifGiven if
+  fed-step x a n z = rw (ne-eqb n 0 z, ne-eqb (s .channel) 2 channel)
+
+  -- the burst that words given to VIF1 are
+  record FedBurst (n a count : ℕ) (x : Fed) (r : FedOn) : Type 0 where
+    fed-burst : Burst main n (feeding s x (payloadAfter a count 0)) (r .interrupt) (r .steps) (feeding s (r .after) (payloadAfter a count (r .words)))
+
+  none-fed : (n a count : ℕ) (x : Fed) → FedBurst n a count x (fedOn x 0 0 false)
+  none-fed n a count x = record { fed-burst = burst-none main n _ }
+
+  -- a word or quadword, by the answer to it
+  word-fed : (n a count : ℕ) (x : Fed) → (count ≡ 0 → ⊥) → (b : VifAnswer) → givenWord main a x .answer ≡ b
+      → ((a′ count′ : ℕ) (y : Fed) → FedBurst n a′ count′ y (feedsOf main n a′ count′ y))
+      → FedBurst (suc n) a count x (afterWord (feedsOf main n) b (givenWord main a x) a count x)
+  word-fed n a count x z b q f = go b q
+    where
+      o : VifLeft
+      o = givenWord main a x
+
+      -- the step, where the answer is known
+      at-word : (b : VifAnswer) → o .answer ≡ b → stepFrom main (feeding s x (payloadAfter a count 0)) ≡ afterVif b o NoTagWords (payloadAfter a count) (feeding s x (Words a count) .state) (x .memories)
+      at-word b q = rw (payload-whole a count z) (fed-step x a count z ∙ rw q)
+
+      going : done (feeding s x (payloadAfter a count 0) .state) ≡ false
+      going = pending-going _ a count (payload-whole a count z) z
+
+      stop-after : (k : ℕ) {y : Stepped} → stepFrom main (feeding s x (payloadAfter a count 0)) ≡ y → y .answer ≡ Completed true
+          → y .after ≡ feeding s (fedTo o) (payloadAfter a count k) → FedBurst (suc n) a count x (fedOn (fedTo o) k 1 true)
+      stop-after k e h w = record { fed-burst = rw (← w) (burst-stops main n _ going e h) }
+
+      go-after : (k : ℕ) {y : Stepped} → stepFrom main (feeding s x (payloadAfter a count 0)) ≡ y → y .answer ≡ Completed false
+          → y .after ≡ feeding s (fedTo o) (payloadAfter a count k) → FedBurst (suc n) a count x (stepMore k (feedsOf main n (a + 4 * k) (count - k) (fedTo o)))
+      go-after k e h w =
+          let r = feedsOf main n (a + 4 * k) (count - k) (fedTo o) in
+          let i = f (a + 4 * k) (count - k) (fedTo o) .fed-burst in
+          let p = payload-more a count k 0 ∙ ap (payloadAfter a count) (add-zero k) in
+          record { fed-burst = burst-goes main n _ going e h (rw (w, ← payload-more a count k (r .words), ← p) i) }
+
+      go : (b : VifAnswer) → o .answer ≡ b → FedBurst (suc n) a count x (afterWord (feedsOf main n) b o a count x)
+      go (Word true) q = stop-after 1 (at-word (Word true) q) refl refl
+      go (Word false) q = go-after 1 (at-word (Word false) q) refl refl
+      go (Quadword true) q = stop-after 4 (at-word (Quadword true) q) refl refl
+      go (Quadword false) q = go-after 4 (at-word (Quadword false) q) refl refl
+      go (VifRefused c) q = none-fed (suc n) a count x
+
+  words-fed : (n a count : ℕ) (x : Fed) → FedBurst n a count x (feedsOf main n a count x)
+  unfolding feedsOf
+  words-fed zero a count x = none-fed 0 a count x
+  words-fed (suc n) a count x =
+      if-ind-by (FedBurst (suc n) a count x) (eqb count 0) (λ e. none-fed (suc n) a count x)
+      (λ e. word-fed n a count x (eqb-false count 0 e) (givenWord main a x .answer) refl (words-fed n))
+
+  -- whatever was tested
+  pub words-burst : (n a count : ℕ) (x : Fed) {r : FedOn} → r ≡ feedOf main n a count x
+      → Burst main n (feeding s x (payloadAfter a count 0)) (r .interrupt) (r .steps) (feeding s (r .after) (payloadAfter a count (r .words)))
+  unfolding feedOf
+  words-burst n a count x e = rw e (if-ind (FedBurst n a count x) _ (words-fed n a count x) (none-fed n a count x) .fed-burst)
+
+module _ {s : State} {a count : ℕ} (p : PayloadNext s a count) where
+  as-feeding : (m : Lent) → machine s m ≡ feeding s (fed (s .vif) (s .path2) (s .used) m) (payloadAfter a count 0)
+  as-feeding m = rw (payload-whole a count (p .some), ← p .payload, ← p .no-tags)
+
+  -- words that VIF1 tested and took
+  module _ (main : List ℕ) (n : ℕ) (m : Lent) {v : WordsResult} {m′ : Lent} (e : fedOnBy v m′ ≡ feedOf main n a count (fed (s .vif) (s .path2) (s .used) m)) where
+    pub words-given : (s .channel ≡ 2 → ⊥) → {t : State} → t ≡ withPending (withUnit s (v .unit) (v .path2) (v .used)) NoTagWords (payloadAfter a count (v .words))
+        → Burst main n (machine s m) (v .interrupt) (v .steps) (machine t m′)
+    words-given c q = rw (q, as-feeding m) (words-burst main s c n a count _ e)
+
+    pub words-fit : PayloadInside main s a count → a + 4 * v .words < 2 ^ 32
+    words-fit i =
+        let w = words-few main n a count _ e in
+        let l = i .inside in
+        let h = i .most in
+        omega arith
+
+-- ---- channel 2
+
+-- the machine that feeds path 3, with payload pending
+abbrev pub drawing : State → Lent → GifFed → Payload → Machine
+drawing s m x p = machine (withPending (withPath3 s (x .path) (x .used)) NoTagWords p) (lent (m .mem) (m .code) (x .log))
+
+abbrev givenQuadword : List ℕ → ℕ → Path → ℕ → List ℕ → GifLeft
+givenQuadword main a p used log = gifStep p (quadwordAt main a) used log
+
+module _ (main : List ℕ) (s : State) (m : Lent) (channel : s .channel ≡ 2) where
+  -- one step
+  drawn-step : (x : GifFed) (a n : ℕ) → (n ≡ 0 → ⊥)
+      → stepFrom main (drawing s m x (Words a n)) ≡ givenGif (givenQuadword main a (x .path) (x .used) (x .log)) (payloadAfter a n 4) (drawing s m x (Words a n) .state) (drawing s m x (Words a n) .memories)
+  unfolding stepOf payloadStep gifGiven if
+  drawn-step x a n z = rw (ne-eqb n 0 z, channel)
+
+  -- the burst that quadwords given to path 3 are
+  record DrawnBurst (n a count : ℕ) (p : Path) (used : ℕ) (log : List ℕ) (r : GifFed) : Type 0 where
+    drawn-burst : Burst main n (drawing s m (gifFed p used log 0) (payloadAfter a count 0)) false (r .taken) (drawing s m r (payloadAfter a count (4 * r .taken)))
+
+  none-drawn : (n a count : ℕ) (p : Path) (used : ℕ) (log : List ℕ) → DrawnBurst n a count p used log (gifFed p used log 0)
+  none-drawn n a count p used log = record { drawn-burst = burst-none main n _ }
+
+  -- a quadword, by the answer to it
+  quadword-drawn : (n a count : ℕ) (p : Path) (used : ℕ) (log : List ℕ) (f : Path → ℕ → List ℕ → GifFed) → (count ≡ 0 → ⊥)
+      → ((p′ : Path) (used′ : ℕ) (log′ : List ℕ) → DrawnBurst n (a + 16) (count - 4) p′ used′ log′ (f p′ used′ log′))
+      → (b : GifAnswer) → givenQuadword main a p used log .answer ≡ b
+      → DrawnBurst (suc n) a count p used log (afterQuadword f b (givenQuadword main a p used log) p used log)
+  quadword-drawn n a count p used log f z i Taken q =
+      let o = givenQuadword main a p used log in
+      let r = f (o .path) (o .used) (o .log) in
+      let x = drawing s m (gifFed p used log 0) (Words a count) in
+      let e : 4 * suc (r .taken) ≡ 4 + 4 * r .taken = omega arith in
+      let j : stepFrom main x ≡ afterGif Taken o (payloadAfter a count 4) (x .state) (x .memories) = drawn-step (gifFed p used log 0) a count z ∙ rw q in
+      record {
+        drawn-burst =
+            rw (payload-whole a count z, e, ← payload-more a count 4 (4 * r .taken))
+            (burst-goes main n x (pending-going _ a count refl z) j refl
+            (rw (← payload-more a count 4 0) (i (o .path) (o .used) (o .log) .drawn-burst)));
+      }
+  quadword-drawn n a count p used log f z i (GifRefused c) q = none-drawn (suc n) a count p used log
+
+  quadwords-drawn : (n a count : ℕ) (p : Path) (used : ℕ) (log : List ℕ) → 4 * n ≤ count → DrawnBurst n a count p used log (gifFeedsOf main a n p used log)
+  unfolding gifFeedsOf
+  quadwords-drawn zero a count p used log l = none-drawn 0 a count p used log
+  quadwords-drawn (suc n) a count p used log l =
+      quadword-drawn n a count p used log (gifFeedsOf main (a + 16) n) (λ z. omega arith)
+      (λ p′ used′ log′. quadwords-drawn n (a + 16) (count - 4) p′ used′ log′ (omega arith))
+      (givenQuadword main a p used log .answer)
+      refl
+
+  -- whatever was tested
+  pub quadwords-burst : (n a count : ℕ) (p : Path) (used : ℕ) (log : List ℕ) → 4 * n ≤ count → {r : GifFed} → r ≡ gifFeedOf main a n p used log
+      → Burst main n (drawing s m (gifFed p used log 0) (payloadAfter a count 0)) false (r .taken) (drawing s m r (payloadAfter a count (4 * r .taken)))
+  unfolding gifFeedOf
+  quadwords-burst n a count p used log l e =
+      rw e (if-ind (DrawnBurst n a count p used log) _ (quadwords-drawn n a count p used log l) (none-drawn n a count p used log) .drawn-burst)
+
+module _ {s : State} {a count : ℕ} (p : PayloadNext s a count) where
+  as-drawing : (m : Lent) → machine s m ≡ drawing s m (gifFed (s .path3) (s .used) (m .log) 0) (payloadAfter a count 0)
+  as-drawing m = rw (payload-whole a count (p .some), ← p .payload, ← p .no-tags)
+
+  -- quadwords that the GIF tested and took
+  pub quadwords-given : (main mem code log : List ℕ) (n : ℕ) {limit : ℕ} {log′ : List ℕ} {v : QuadwordsResult} → fedBy v log′ ≡ gifFeedOf main a n (s .path3) (s .used) log
+      → s .channel ≡ 2 → (n ≤ count / 4) × (n ≤ limit)
+      → {t : State} → t ≡ withPending (withPath3 s (v .path) (v .used)) NoTagWords (payloadAfter a count (4 * v .taken))
+      → Burst main limit (machine s (lent mem code log)) false (v .taken) (machine t (lent mem code log′))
+  quadwords-given main mem code log n e c l q =
+      rw (q, as-drawing (lent mem code log))
+      (let b = quadwords-burst main s (lent mem code log) c n a count (s .path3) (s .used) log (omega arith) e in
+      let f = b .few in
+      burst-of (omega arith) (b .goes refl))
+
+-- they end where the payload does
+pub quadwords-fit : {main : List ℕ} {s : State} {a count : ℕ} → PayloadInside main s a count → (n : ℕ) (log : List ℕ) {log′ : List ℕ} {v : QuadwordsResult}
+    → fedBy v log′ ≡ gifFeedOf main a n (s .path3) (s .used) log → n ≤ count / 4 → a + 16 * v .taken ≤ 1048576
+quadwords-fit {main} {s} {a} i n log e l =
+    let f = feed-few main a n (s .path3) (s .used) log e in
+    let w = i .inside in
+    let h = i .most in
+    omega arith
