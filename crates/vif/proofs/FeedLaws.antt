@@ -3,30 +3,37 @@ use mathlib.Core.Path.{_≡_, refl, sym, ap, _∙_}
 use mathlib.Core.Bool.{Bool, true, false, not, _&&_}
 use mathlib.Core.List.{List}
 use Prim.Native.Nat.{ℕ, zero, suc, _+_, _*_, _-_, _<_, _≤_}
-use native.Mathlib.Nat.{zero-add, add-zero, sub-zero}
+use native.Mathlib.Nat.{zero-add, add-zero, add-assoc, sub-zero}
+use native.Mathlib.Numerals.{one-add}
 use native.Mathlib.Omega.{arith}
-use borrow.Author.Tests.{ne-eqb, eqb-true, leb-true}
+use borrow.Author.Tests.{ne-eqb, eqb-true}
 use lib.ListN.{length}
-use lib.Dec.{eqb, leb}
+use lib.Dec.{eqb}
 use Rattle.fields.specs.Fields.{if}
-use Rattle.fields.specs.Memory.{inside}
 use Rattle.fields.proofs.ChoiceLaws.{and-left, and-right}
+use Rattle.gif.specs.declared.Path.{Path}
 use Rattle.gif.specs.Log.{logRefused}
+use Rattle.gif.proofs.FeedLaws.{inside-most}
 use Rattle.gif.proofs.RangeLaws.{log-fits}
 use Rattle.vif.specs.declared.Incoming.{Incoming}
+use Rattle.vif.specs.declared.Vif.{Vif}
 use Rattle.vif.specs.declared.VifAnswer.{VifAnswer}
 use Rattle.vif.specs.declared.VifAnswer.the-variants.{Word, Quadword, Refused}
+use Rattle.vif.specs.declared.WordsResult.{WordsResult}
 use Rattle.vif.specs.Range.{unitInRange}
 use Rattle.vif.specs.Words.{incomingAt}
-use Rattle.vif.specs.Step.{Left, wordsTaken, vifStep}
+use Rattle.vif.specs.Step.{Lent, Left, wordsTaken, vifStep}
 use Rattle.vif.specs.Feeds.{Fed, fed}
-use Rattle.vif.specs.Feed.{FedOn, fedOn, fedTo, stepMore, afterWord, onWord, feedsOf, wordsInside, takesSteps}
-use Rattle.vif.specs.Inner.{StepReady, interruptIn}
+use Rattle.vif.specs.Feed.{FedOn, fedOn, fedOnBy, fedTo, stepMore, afterWord, onWord, feedsOf, wordsInside, takesSteps}
+use Rattle.vif.specs.Inner.{plus, FedReady, Leads, fedIn, restOf, Going, Gives, takenWith}
 use Rattle.vif.proofs.KeepLaws.{step-kept}
+use Rattle.vif.proofs.RangeKept.{step-ready}
 
--- what words give, with k words and n steps before
-abbrev pub plus : ℕ → ℕ → FedOn → FedOn
-plus k n r = fedOn (r .after) (k + r .words) (n + r .steps) (r .interrupt)
+-- whether an answer completed a code with its interrupt bit
+abbrev pub interruptIn : VifAnswer → Bool
+interruptIn (Word i) = i
+interruptIn (Quadword i) = i
+interruptIn (Refused n) = false
 
 -- nothing more is taken
 plus-none : (k n : ℕ) (x : Fed) → plus k n (fedOn x 0 0 false) ≡ fedOn x k n false
@@ -58,7 +65,7 @@ module _ (f : ℕ → ℕ → Fed → FedOn) (o : Left) (a count : ℕ) (x : Fed
   taken-none (Refused n) e = refl
 
 -- a step that took no word changed nothing
-untaken : (x : Fed) → StepReady (x .unit) (x .path2) (x .used) (x .memories .mem) (x .memories .code) (x .memories .log)
+untaken : (x : Fed) → FedReady x
     → (next : Incoming) {o : Left} → o ≡ vifStep (x .unit) (x .path2) next (x .used) (x .memories)
     → wordsTaken (o .answer) ≡ 0 → o .memories ≡ x .memories
 untaken x r next {o} e = go (o .answer) refl
@@ -87,69 +94,162 @@ module _ (main : List ℕ) (a count : ℕ) (x : Fed) where
   unfolding feedsOf if
   one-turn n n′ z h e = rw (z, ne-eqb count 0 h, ← e)
 
--- the loop's turns, with the words and steps before them
-module _ (main : List ℕ) (limit a count words steps : ℕ) (x : Fed) {w : FedOn}
-    (i : plus words steps (feedsOf main (limit - steps) (a + 4 * words) (count - words) x) ≡ w) where
-  pub ends-out : limit ≤ steps → fedOn x words steps false ≡ w
-  ends-out l =
-      let z : limit - steps ≡ 0 = omega arith in
-      sym (ap (plus words steps) (feeds-out main (a + 4 * words) (count - words) x (limit - steps) z) ∙ plus-none words steps x) ∙ i
+-- ---- steps one after another
 
-  pub ends-used : count ≤ words → fedOn x words steps false ≡ w
-  ends-used l =
-      let z : count - words ≡ 0 = omega arith in
-      sym (ap (plus words steps) (feeds-none main (a + 4 * words) (count - words) x (limit - steps) z) ∙ plus-none words steps x) ∙ i
+pub leads-none : {main : List ℕ} {a : ℕ} {x : Fed} → Leads main a 0 0 x x
+leads-none {main} {a} {x} =
+    record {
+      goes = λ l c. rw (zero-add l, zero-add c, add-zero a, zero-add (feedsOf main l a c x .words), zero-add (feedsOf main l a c x .steps));
+      stays = λ r. r;
+    }
 
-  module _ (l : steps < limit) (h : words < count) {next : Incoming} (g : next ≡ incomingAt main (a + 4 * words)) {o : Left}
-      (e : o ≡ vifStep (x .unit) (x .path2) next (x .used) (x .memories)) where
-    turns : feedsOf main (limit - steps) (a + 4 * words) (count - words) x
-        ≡ onWord (feedsOf main (limit - (steps + 1))) o (a + 4 * words) (count - words) x
-    turns = one-turn main (a + 4 * words) (count - words) x (limit - steps) (limit - (steps + 1)) (omega arith) (λ z. omega arith) (rw g at e)
+-- a step
+pub leads-one : {main : List ℕ} {a k : ℕ} {x : Fed} {o : Left} → o ≡ vifStep (x .unit) (x .path2) (incomingAt main a) (x .used) (x .memories)
+    → k ≡ wordsTaken (o .answer) → (k ≡ 0 → ⊥) → interruptIn (o .answer) ≡ false → Leads main a k 1 x (fedTo o)
+leads-one {main} {a} {k} {x} {o} e t z q =
+    record {
+      goes =
+          λ l c.
+          let d : k + c - k ≡ c = omega arith in
+          one-turn main a (k + c) x (1 + l) l (omega arith) (λ y. z (omega arith)) e
+          ∙ taken-goes (feedsOf main l) o a (k + c) x (o .answer) t z q
+          ∙ rw (d, one-add (feedsOf main l (a + 4 * k) c (fedTo o) .steps));
+      stays = λ r. step-ready (x .unit) (x .path2) (x .used) (x .memories) r (incomingAt main a) o e;
+    }
 
-    pub goes-on : {k : ℕ} → k ≡ wordsTaken (o .answer) → (k ≡ 0 → ⊥) → interruptIn (o .answer) ≡ false
-        → plus (words + k) (steps + 1) (feedsOf main (limit - (steps + 1)) (a + 4 * (words + k)) (count - (words + k)) (fedTo o)) ≡ w
-    goes-on {k} t z q =
-        let j = taken-goes (feedsOf main (limit - (steps + 1))) o (a + 4 * words) (count - words) x (o .answer) t z q in
-        let c : a + 4 * words + 4 * k ≡ a + 4 * (words + k) = omega arith in
-        let d : count - words - k ≡ count - (words + k) = omega arith in
-        sym (ap (plus words steps) (turns ∙ j) ∙ rw (c, d) (more-after (feedsOf main (limit - (steps + 1)) (a + 4 * (words + k)) (count - (words + k)) (fedTo o)))) ∙ i
+-- steps, and then more of them
+pub leads-then : {main : List ℕ} {a k n j m : ℕ} {x y z : Fed} → Leads main a k n x y → Leads main (a + 4 * k) j m y z → Leads main a (k + j) (n + m) x z
+leads-then {main} {a} {k} {n} {j} {m} {x} {y} {z} p q =
+    record {
+      goes =
+          λ l c.
+          let b : a + 4 * k + 4 * j ≡ a + 4 * (k + j) = omega arith in
+          let r = feedsOf main l (a + 4 * (k + j)) c z in
+          rw (add-assoc n m l, add-assoc k j c)
+          (p .goes (m + l) (j + c) ∙ ap (plus k n) (q .goes l c) ∙ rw (b, add-assoc k j (r .words), add-assoc n m (r .steps)));
+      stays = λ r. q .stays (p .stays r);
+    }
+
+-- ---- what is left, with the words and steps of s taken
+
+module _ (main : List ℕ) (limit a count : ℕ) (s : WordsResult) (m : Lent) where
+  -- no step or no word is left
+  pub rest-out : s .interrupt ≡ false → limit ≤ s .steps → restOf main limit a count s m ≡ fedOnBy s m
+  rest-out q l =
+      let z : limit - s .steps ≡ 0 = omega arith in
+      ap (plus (s .words) (s .steps)) (feeds-out main (a + 4 * s .words) (count - s .words) (fedIn s m) (limit - s .steps) z)
+      ∙ plus-none (s .words) (s .steps) (fedIn s m)
+      ∙ rw q
+
+  pub rest-used : s .interrupt ≡ false → count ≤ s .words → restOf main limit a count s m ≡ fedOnBy s m
+  rest-used q l =
+      let z : count - s .words ≡ 0 = omega arith in
+      ap (plus (s .words) (s .steps)) (feeds-none main (a + 4 * s .words) (count - s .words) (fedIn s m) (limit - s .steps) z)
+      ∙ plus-none (s .words) (s .steps) (fedIn s m)
+      ∙ rw q
+
+  -- steps at once
+  pub rest-leads : {k n : ℕ} {y : Fed} → Leads main (a + 4 * s .words) k n (fedIn s m) y → k < count - s .words → n < limit - s .steps
+      → (i : Bool) → restOf main limit a count s m ≡ restOf main limit a count (takenWith (y .unit) (y .path2) (y .used) (s .words + k) (s .steps + n) i) (y .memories)
+  rest-leads {k} {n} {y} p h l i =
+      let c : count - s .words ≡ k + (count - (s .words + k)) = omega arith in
+      let d : limit - s .steps ≡ n + (limit - (s .steps + n)) = omega arith in
+      let b : a + 4 * s .words + 4 * k ≡ a + 4 * (s .words + k) = omega arith in
+      let r = feedsOf main (limit - (s .steps + n)) (a + 4 * (s .words + k)) (count - (s .words + k)) y in
+      rw (c, d) (ap (plus (s .words) (s .steps)) (p .goes (limit - (s .steps + n)) (count - (s .words + k))) ∙ rw (b, add-assoc (s .words) k (r .words), add-assoc (s .steps) n (r .steps)))
+
+  -- one step
+  module _ (g : Going limit a count s) {o : Left} (e : o ≡ vifStep (s .unit) (s .path2) (incomingAt main (a + 4 * s .words)) (s .used) m) where
+    turns : restOf main limit a count s m
+        ≡ plus (s .words) (s .steps) (onWord (feedsOf main (limit - (s .steps + 1))) o (a + 4 * s .words) (count - s .words) (fedIn s m))
+    turns =
+        let l = g .few-steps in
+        let h = g .few-words in
+        ap (plus (s .words) (s .steps))
+        (one-turn main (a + 4 * s .words) (count - s .words) (fedIn s m) (limit - s .steps) (limit - (s .steps + 1)) (omega arith) (λ z. omega arith) e)
+
+    pub rest-goes : {k : ℕ} → k ≡ wordsTaken (o .answer) → (k ≡ 0 → ⊥) → interruptIn (o .answer) ≡ false
+        → (i : Bool) → restOf main limit a count s m ≡ restOf main limit a count (takenWith (o .unit) (o .path2) (o .used) (s .words + k) (s .steps + 1) i) (o .memories)
+    rest-goes {k} t z q i =
+        let j = taken-goes (feedsOf main (limit - (s .steps + 1))) o (a + 4 * s .words) (count - s .words) (fedIn s m) (o .answer) t z q in
+        let c : a + 4 * s .words + 4 * k ≡ a + 4 * (s .words + k) = omega arith in
+        let d : count - s .words - k ≡ count - (s .words + k) = omega arith in
+        turns
+        ∙ ap (plus (s .words) (s .steps)) j
+        ∙ rw (c, d) (more-after (feedsOf main (limit - (s .steps + 1)) (a + 4 * (s .words + k)) (count - (s .words + k)) (fedTo o)))
       where
-        more-after : (r : FedOn) → plus words steps (stepMore k r) ≡ plus (words + k) (steps + 1) r
+        more-after : (r : FedOn) → plus (s .words) (s .steps) (stepMore k r) ≡ plus (s .words + k) (s .steps + 1) r
         more-after r =
-            let p : words + (k + r .words) ≡ words + k + r .words = omega arith in
-            let q : steps + suc (r .steps) ≡ steps + 1 + r .steps = omega arith in
+            let p : s .words + (k + r .words) ≡ s .words + k + r .words = omega arith in
+            let q : s .steps + suc (r .steps) ≡ s .steps + 1 + r .steps = omega arith in
             rw (p, q)
 
-    pub ends-interrupt : {k : ℕ} → k ≡ wordsTaken (o .answer) → interruptIn (o .answer) ≡ true → fedOn (fedTo o) (words + k) (steps + 1) true ≡ w
-    ends-interrupt t q =
-        sym (ap (plus words steps) (turns ∙ taken-interrupts (feedsOf main (limit - (steps + 1))) o (a + 4 * words) (count - words) x (o .answer) t q)) ∙ i
+    pub rest-interrupts : {k : ℕ} → k ≡ wordsTaken (o .answer) → interruptIn (o .answer) ≡ true
+        → restOf main limit a count s m ≡ fedOn (fedTo o) (s .words + k) (s .steps + 1) true
+    rest-interrupts t q =
+        turns ∙ ap (plus (s .words) (s .steps)) (taken-interrupts (feedsOf main (limit - (s .steps + 1))) o (a + 4 * s .words) (count - s .words) (fedIn s m) (o .answer) t q)
 
-    pub ends-refused : StepReady (x .unit) (x .path2) (x .used) (x .memories .mem) (x .memories .code) (x .memories .log) → {k : ℕ}
-        → k ≡ wordsTaken (o .answer) → k ≡ 0 → fedOn (fed (x .unit) (x .path2) (x .used) (o .memories)) words steps false ≡ w
-    ends-refused r t z =
-        rw (untaken x r next e (sym t ∙ z))
-        (sym (ap (plus words steps) (turns ∙ taken-none (feedsOf main (limit - (steps + 1))) o (a + 4 * words) (count - words) x (o .answer) (sym t ∙ z)) ∙ plus-none words steps x) ∙ i)
+    pub rest-refused : wordsTaken (o .answer) ≡ 0 → FedReady (fedIn s m) → restOf main limit a count s m ≡ fedOnBy s (o .memories)
+    rest-refused z r =
+        rw (untaken (fedIn s m) r (incomingAt main (a + 4 * s .words)) e z, g .quiet)
+        (turns
+        ∙ ap (plus (s .words) (s .steps)) (taken-none (feedsOf main (limit - (s .steps + 1))) o (a + 4 * s .words) (count - s .words) (fedIn s m) (o .answer) z)
+        ∙ plus-none (s .words) (s .steps) (fedIn s m))
+
+-- a step given to the unit
+module _ (main : List ℕ) (a : ℕ) (s : WordsResult) (m : Lent) (r : FedReady (fedIn s m)) {next : Incoming} (g : next ≡ incomingAt main (a + 4 * s .words))
+    {o : Left} (e : o ≡ vifStep (s .unit) (s .path2) next (s .used) m) where
+  given : o ≡ vifStep (s .unit) (s .path2) (incomingAt main (a + 4 * s .words)) (s .used) m
+  given = rw g at e
+
+  pub gives-taken : {b : VifAnswer} {k : ℕ} {i : Bool} {t : WordsResult} → o .answer ≡ b → wordsTaken b ≡ k → interruptIn b ≡ i → 1 ≤ k → k ≤ 4
+      → t ≡ takenWith (o .unit) (o .path2) (o .used) (s .words + k) (s .steps + 1) i → Gives main a s m t (o .memories)
+  gives-taken {b} {k} {i} q w j l h f =
+      let t : k ≡ wordsTaken (o .answer) = rw q (sym w) in
+      let n : interruptIn (o .answer) ≡ i = rw q j in
+      rw f
+      (record {
+        ready = step-ready (s .unit) (s .path2) (s .used) m r next o e;
+        few-words = omega arith;
+        more-steps = omega arith;
+        few-steps = omega arith;
+        goes = λ limit count c z. rest-goes main limit a count s m c given t (λ y. omega arith) (n ∙ z) i;
+        stops = λ limit count c z. rest-interrupts main limit a count s m c given t (n ∙ z) ∙ rw z;
+        refuses = λ limit count c z. absurd (omega arith);
+      })
+
+  pub gives-refused : {n : ℕ} → o .answer ≡ Refused n → Gives main a s m s (o .memories)
+  gives-refused q =
+      let z : wordsTaken (o .answer) ≡ 0 = rw q in
+      let u : o .memories ≡ m = untaken (fedIn s m) r next e z in
+      record {
+        ready = rw u r;
+        few-words = omega arith;
+        more-steps = omega arith;
+        few-steps = omega arith;
+        goes = λ limit count c y. rw u;
+        stops = λ limit count c y. absurd (let h : _≡_ {A = ℕ} 0 1 = cc (c .quiet) in omega arith);
+        refuses = λ limit count c y. rest-refused main limit a count s m c given z r;
+      }
 
 -- before the first word all of them are left
-pub feed-begins : (main : List ℕ) (limit a count : ℕ) (x : Fed)
-    → plus 0 0 (feedsOf main (limit - 0) (a + 4 * 0) (count - 0) x) ≡ feedsOf main limit a count x
-feed-begins main limit a count x = rw (sub-zero, sub-zero, add-zero, zero-add, zero-add)
+pub rest-begins : (main : List ℕ) (limit a count : ℕ) (s : WordsResult) (m : Lent) → s .words ≡ 0 → s .steps ≡ 0
+    → restOf main limit a count s m ≡ feedsOf main limit a count (fedIn s m)
+rest-begins main limit a count s m h l = rw (h, l, sub-zero limit, sub-zero count, add-zero a, zero-add (feedsOf main limit a count (fedIn s m) .words), zero-add (feedsOf main limit a count (fedIn s m) .steps))
+
+-- where all of them end
+pub rest-ends : (main : List ℕ) (limit a count : ℕ) (m : Lent) {used : ℕ} {v : Vif} {p : Path} {s : WordsResult} {w y : FedOn} → s ≡ takenWith v p used 0 0 false
+    → w ≡ feedsOf main limit a count (fedIn s m) → w ≡ y → y ≡ feedsOf main limit a count (fed v p used m)
+rest-ends main limit a count m e i h = sym h ∙ i ∙ rw e
 
 -- ---- the tests
 
-pub inside-few : (main : List ℕ) (a n : ℕ) → inside main a n ≡ true → a + n ≤ 1048576
-unfolding inside
-inside-few main a n h =
-    let m = leb-true (length main) 1048576 (and-left _ _ h) in
-    let l = leb-true (a + n) (length main) (and-right (leb (length main) 1048576) _ h) in
-    omega arith
-
 pub words-few : (main : List ℕ) (a count : ℕ) → wordsInside main a count ≡ true → a + 4 * count ≤ 1048576
 unfolding wordsInside
-words-few main a count h = inside-few main a (4 * count) (and-left _ _ h)
+words-few main a count h = inside-most main a (4 * count) (and-left _ _ h)
 
 pub takes-ready : (x : Fed) → takesSteps x ≡ true
-    → StepReady (x .unit) (x .path2) (x .used) (x .memories .mem) (x .memories .code) (x .memories .log)
+    → FedReady x
 unfolding takesSteps
 takes-ready x h =
     let l = and-left _ _ h in

@@ -8,3 +8,4 @@ pub mod RangeKept
 pub mod SheetLaws
 pub mod BlockLaws
 pub mod FeedLaws
+pub mod BurstLaws

@@ -1,5 +1,5 @@
--- Facts that inner functions require of their input; no promise of a public function cites them.
-use Prim.Native.Nat.{ℕ, _≤_}
+-- Facts that inner functions require of their input or promise; no promise of a public function cites them.
+use Prim.Native.Nat.{ℕ, _+_, _*_, _-_, _<_, _≤_}
 use mathlib.Core.Bool.{Bool, true, false}
 use mathlib.Core.List.{List}
 use mathlib.Core.Path.{_≡_}
@@ -11,10 +11,12 @@ use Rattle.unpack.specs.declared.Format.{Format}
 use Rattle.unpack.specs.declared.Unpacking.{Unpacking}
 use Rattle.unpack.specs.Step.{acceptable}
 use Rattle.vif.specs.declared.Vif.{Vif}
-use Rattle.vif.specs.declared.VifAnswer.{VifAnswer}
-use Rattle.vif.specs.declared.VifAnswer.the-variants.{Word, Quadword, Refused}
+use Rattle.vif.specs.declared.WordsResult.{WordsResult}
 use Rattle.vif.specs.Payload.{writeRegisters}
 use Rattle.vif.specs.Range.{unitInRange}
+use Rattle.vif.specs.Step.{Lent}
+use Rattle.vif.specs.Feeds.{Fed, fed}
+use Rattle.vif.specs.Feed.{FedOn, fedOn, fedOnBy, feedsOf}
 
 -- path 2 and the log pass the GIF's tests
 pub record GifReady (p : Path) (used : ℕ) (log : List ℕ) : Type 0 where
@@ -33,8 +35,51 @@ pub record StepReady (v : Vif) (p : Path) (used : ℕ) (mem code log : List ℕ)
   pub gif : GifReady p used log
   pub ranged : unitInRange v ≡ true
 
--- whether an answer completed a code with its interrupt bit
-abbrev pub interruptIn : VifAnswer → Bool
-interruptIn (Word i) = i
-interruptIn (Quadword i) = i
-interruptIn (Refused n) = false
+-- what words give, with k words and n steps before them
+abbrev pub plus : ℕ → ℕ → FedOn → FedOn
+plus k n r = fedOn (r .after) (k + r .words) (n + r .steps) (r .interrupt)
+
+-- everything passes the unit's tests, between two steps
+abbrev pub FedReady : Fed → Type 0
+FedReady x = StepReady (x .unit) (x .path2) (x .used) (x .memories .mem) (x .memories .code) (x .memories .log)
+
+-- n steps with the k words from address a on lead from x to y, whatever comes after them
+pub record Leads (main : List ℕ) (a k n : ℕ) (x y : Fed) : Type 0 where
+  pub goes : (l c : ℕ) → feedsOf main (n + l) a (k + c) x ≡ plus k n (feedsOf main l (a + 4 * k) c y)
+  pub stays : FedReady x → FedReady y
+
+-- the unit, path 2, the entries used and the memories, with the words of s taken
+abbrev pub fedIn : WordsResult → Lent → Fed
+fedIn s m = fed (s .unit) (s .path2) (s .used) m
+
+-- what `count` words from address a on give in at most `limit` steps, where the words and steps of s are the first of them
+abbrev pub restOf : List ℕ → ℕ → ℕ → ℕ → WordsResult → Lent → FedOn
+restOf main limit a count s m =
+    plus (s .words) (s .steps) (feedsOf main (limit - s .steps) (a + 4 * s .words) (count - s .words) (fedIn s m))
+
+-- words and steps are left, and addresses and counts stay small
+pub record Going (limit a count : ℕ) (s : WordsResult) : Type 0 where
+  pub near : a + 4 * count ≤ 1048576
+  pub few-words : s .words < count
+  pub few-steps : s .steps < limit
+  pub quiet : s .interrupt ≡ false
+
+-- from s to t, and at least one word and one step are left
+pub record Bursts (main : List ℕ) (limit a count : ℕ) (s : WordsResult) (m : Lent) (t : WordsResult) (m′ : Lent) : Type 0 where
+  pub same : restOf main limit a count s m ≡ restOf main limit a count t m′
+  pub stays : FedReady (fedIn s m) → FedReady (fedIn t m′)
+  pub later : s .steps ≤ t .steps
+  pub going : Going limit a count t
+
+-- a step more, from s to t; one that is refused changes nothing
+pub record Gives (main : List ℕ) (a : ℕ) (s : WordsResult) (m : Lent) (t : WordsResult) (m′ : Lent) : Type 0 where
+  pub ready : FedReady (fedIn t m′)
+  pub few-words : t .words ≤ s .words + 4
+  pub more-steps : s .steps ≤ t .steps
+  pub few-steps : t .steps ≤ s .steps + 1
+  pub goes : (limit count : ℕ) → Going limit a count s → t .interrupt ≡ false → restOf main limit a count s m ≡ restOf main limit a count t m′
+  pub stops : (limit count : ℕ) → Going limit a count s → t .interrupt ≡ true → restOf main limit a count s m ≡ fedOnBy t m′
+  pub refuses : (limit count : ℕ) → Going limit a count s → t .steps ≡ s .steps → restOf main limit a count s m ≡ fedOnBy t m′
+
+abbrev pub takenWith : Vif → Path → ℕ → ℕ → ℕ → Bool → WordsResult
+takenWith v p used k n i = record { unit = v; path2 = p; used = used; words = k; steps = n; interrupt = i }

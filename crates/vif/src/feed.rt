@@ -2,36 +2,55 @@
 use super::Vif;
 use super::VifAnswer;
 use super::WordsResult;
+use super::bursts::burst;
 use super::step::in_range;
 use super::step::step;
 use super::words::incoming_at;
 use fields::lies_inside;
 use gif::Path;
 ghost use mathlib.Core.Path.{_≡_};
-ghost use Prim.Native.Nat.{_+_, _*_, _≤_};
-ghost use Rattle.vif.specs.Step.{lent, wordsTaken};
+ghost use Prim.Native.Nat.{_+_, _*_, _^_, _<_, _≤_};
+ghost use Rattle.vif.specs.Step.{lent};
 ghost use Rattle.vif.specs.Feeds.{fed};
 ghost use Rattle.vif.specs.Feed.{fedOnBy, feedsOf, wordsInside, takesSteps, feedOf};
-ghost use Rattle.vif.specs.Inner.{StepReady, interruptIn};
+ghost use Rattle.vif.specs.Inner.{StepReady, FedReady, fedIn, Gives, takenWith};
 
-// The words that a step took.
-fn words_taken(answer: VifAnswer) -> u32
-    ensures { λ r. ⌜ (r ≡ wordsTaken answer) × (r ≤ 4) ⌝ }
+fn taken(unit: Vif, path2: Path, used: u64, words: u32, steps: u64, interrupt: bool) -> WordsResult
+    ensures { λ r. ⌜ r ≡ takenWith unit path2 used words steps interrupt ⌝ }
 {
-    match answer {
-        VifAnswer::Word(_) => 1,
-        VifAnswer::Quadword(_) => 4,
-        VifAnswer::Refused(_) => 0,
+    WordsResult {
+        unit,
+        path2,
+        used,
+        words,
+        steps,
+        interrupt,
     }
 }
 
-fn interrupts(answer: VifAnswer) -> bool
-    ensures { λ r. ⌜ r ≡ interruptIn answer ⌝ }
+// One step more; one that is refused leaves all as it was.
+fn give_word(
+    s: WordsResult,
+    main: &[u8],
+    a: u32,
+    data: &mut [u32],
+    code: &mut [u8],
+    log: &mut [u64],
+) -> WordsResult
+    requires { ⌜ FedReady (fedIn s (lent (now «data») (now code) (now log))) × (a + 4 * s .words ≤ 1048576) × (s .steps + 1 < 2 ^ 64) ⌝ }
+    ensures { λ r. ⌜ Gives (now (main .entry)) a s (lent (now («data» .entry)) (now (code .entry)) (now (log .entry))) r (lent (now («data» .exit)) (now (code .exit)) (now (log .exit))) ⌝ }
 {
+    let unit = s.unit;
+    let path2 = s.path2;
+    let next = incoming_at(main, a + 4 * s.words);
+    let r = step(unit, path2, next, data, code, log, s.used);
+    let answer = r.answer;
+    let after = r.unit;
+    let path = r.path2;
     match answer {
-        VifAnswer::Word(i) => i,
-        VifAnswer::Quadword(i) => i,
-        VifAnswer::Refused(_) => false,
+        VifAnswer::Word(i) => taken(after, path, r.used, s.words + 1, s.steps + 1, i),
+        VifAnswer::Quadword(i) => taken(after, path, r.used, s.words + 4, s.steps + 1, i),
+        VifAnswer::Refused(_) => s,
     }
 }
 
@@ -51,41 +70,22 @@ fn give_words(
     requires { ⌜ StepReady unit path2 used (now «data») (now code) (now log) × (a + 4 * count ≤ 1048576) ⌝ }
     ensures { λ r. ⌜ fedOnBy r (lent (now («data» .exit)) (now (code .exit)) (now (log .exit))) ≡ feedsOf (now (main .entry)) limit a count (fed unit path2 used (lent (now («data» .entry)) (now (code .entry)) (now (log .entry)))) ⌝ }
 {
-    let mut v = unit;
-    let mut path = path2;
-    let mut entries = used;
-    let mut words: u32 = 0;
-    let mut steps: u64 = 0;
-    let interrupt = loop {
-        if steps >= limit {
-            break false;
+    let mut s = taken(unit, path2, used, 0, 0, false);
+    loop {
+        if s.steps >= limit {
+            return s;
         }
-        if words >= count {
-            break false;
+        if s.words >= count {
+            return s;
         }
-        let next = incoming_at(main, a + 4 * words);
-        let r = step(v, path, next, data, code, log, entries);
-        let answer = r.answer;
-        let taken = words_taken(answer);
-        if taken == 0 {
-            break false;
+        let b = burst(s, main, a, count, limit, data, code);
+        s = give_word(b, main, a, data, code, log);
+        if s.interrupt {
+            return s;
         }
-        v = r.unit;
-        path = r.path2;
-        entries = r.used;
-        words += taken;
-        steps += 1;
-        if interrupts(answer) {
-            break true;
+        if s.steps == b.steps {
+            return s;
         }
-    };
-    WordsResult {
-        unit: v,
-        path2: path,
-        used: entries,
-        words,
-        steps,
-        interrupt,
     }
 }
 

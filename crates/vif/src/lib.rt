@@ -1,5 +1,6 @@
 // The VIF1 unit: codes, registers, payload, and DIRECT into the GIF's path 2. What each function means is said by the definitions of specs/.
 mod block;
+mod bursts;
 mod decode;
 mod direct;
 mod execute;

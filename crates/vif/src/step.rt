@@ -55,7 +55,7 @@ fn code_word(word: u32, unit: Vif, path2: Path, log: &mut [u64], used: u64) -> V
     answered(answer, after, path2, r.used)
 }
 
-fn write_registers(unit: Vif) -> Registers
+pub(crate) fn write_registers(unit: Vif) -> Registers
     ensures { λ r. ⌜ r ≡ writeRegisters unit ⌝ }
 {
     let col = unit.col;
@@ -68,7 +68,7 @@ fn write_registers(unit: Vif) -> Registers
     }
 }
 
-fn held(u: Unpacking, word: u32) -> Unpacking
+pub(crate) fn held(u: Unpacking, word: u32) -> Unpacking
     requires { ⌜ 1 ≤ u .due ⌝ }
     ensures { λ r. ⌜ r ≡ holds u word ⌝ }
 {

@@ -1,160 +1,158 @@
 use mathlib.Core.Path.{_≡_, refl, sym, _∙_}
-use Prim.Native.Nat.{_+_, _*_, _-_, _≤_}
+use mathlib.Core.Bool.{false}
+use Prim.Native.Nat.{_+_, _-_, _≤_}
 use native.Mathlib.Omega.{arith}
 use borrow.Author.Needs.{needs}
 use lib.ListN.{length}
 use Rattle.vif.specs.Step.{lent}
-use Rattle.vif.specs.Feeds.{fed}
 use Rattle.vif.specs.Feed.{feedsOf}
-use Rattle.vif.specs.Inner.{StepReady}
-use Rattle.vif.proofs.RangeKept.{step-ready}
-use Rattle.vif.proofs.FeedLaws.{plus, ends-out, ends-used, goes-on, ends-interrupt, ends-refused, feed-begins}
+use Rattle.vif.specs.Inner.{FedReady, fedIn, restOf}
+use Rattle.vif.proofs.FeedLaws.{rest-begins, rest-out, rest-used, rest-ends}
 use Rattle.vif.proofs.feed.give_words.Statement.{statement}
 use Rattle.vif.proofs.feed.give_words.Tie as tie
 use Rattle.vif.proofs.feed.give_words.Reads as reads
 use Rattle.vif.proofs.feed.give_words.Lts as lts
-use Rattle.vif.proofs.feed.interrupts.Reads as interrupts-reads
-use Rattle.vif.proofs.feed.words_taken.Reads as words-taken-reads
-use Rattle.vif.proofs.step.step.Reads as step-reads
-use Rattle.vif.proofs.words.incoming_at.Reads as incoming-at-reads
+use Rattle.vif.proofs.bursts.burst.Reads as burst-reads
+use Rattle.vif.proofs.feed.give_word.Reads as give-word-reads
+use Rattle.vif.proofs.feed.taken.Reads as taken-reads
 
 abbrev Inv-loop : tie.InvT-loop
-Inv-loop main a count limit data₀ code₀ log₀ used v₀ path₀ entries₀ words₀ steps₀ «data» code log v path entries words steps =
+Inv-loop main a count limit data₀ code₀ log₀ used s₀ «data» code log s =
     record {
-      ready : StepReady v path entries «data» code log;
+      ready : FedReady (fedIn s (lent «data» code log));
       lengths : (length «data» ≡ length data₀) × (length code ≡ length code₀) × (length log ≡ length log₀);
-      near : words ≤ count + 3;
-      same :
-          plus words steps (feedsOf main (limit - steps) (a + 4 * words) (count - words) (fed v path entries (lent «data» code log)))
-          ≡ feedsOf main limit a count (fed v₀ path₀ entries₀ (lent data₀ code₀ log₀));
+      near : s .words ≤ count + 3;
+      quiet : s .interrupt ≡ false;
+      same : restOf main limit a count s (lent «data» code log) ≡ feedsOf main limit a count (fedIn s₀ (lent data₀ code₀ log₀));
     }
 
 abbrev μ-loop : tie.MeasureT-loop
-μ-loop main a count limit data₀ code₀ log₀ used v₀ path₀ entries₀ words₀ steps₀ «data» code log v path entries words steps = limit - steps
+μ-loop main a count limit data₀ code₀ log₀ used s₀ «data» code log s = limit - s .steps
 
--- src/feed.rt:59:9
+-- src/feed.rt:73:9
+taken-requires : tie.Need-taken-requires Inv-loop μ-loop
+taken-requires c κs = search needs
+
+-- src/feed.rt:74:5
 loop-holds : tie.Need-loop-holds Inv-loop μ-loop
-loop-holds c = record { ready = c .before .before .before .before .pre .0; lengths = (refl, refl, refl); near = omega arith; same = feed-begins _ _ _ _ _ }
-
--- src/feed.rt:66:42
-mul-incoming-at : tie.Need-mul-incoming-at Inv-loop μ-loop
-mul-incoming-at c = omega arith
-
--- src/feed.rt:66:38
-add-incoming-at : tie.Need-add-incoming-at Inv-loop μ-loop
-add-incoming-at c = omega arith
-
--- src/feed.rt:66:13
-incoming-at-requires : tie.Need-incoming-at-requires Inv-loop μ-loop
-incoming-at-requires c κs = search needs
-
--- src/feed.rt:67:13
-step-requires : tie.Need-step-requires Inv-loop μ-loop
-step-requires c κs = c .before .before .before .before .before .before .loop .inv .ready
-
--- src/feed.rt:69:13
-words-taken-requires : tie.Need-words-taken-requires Inv-loop μ-loop
-words-taken-requires c κs = search needs
-
--- src/feed.rt:76:9
-add-words : tie.Need-add-words Inv-loop μ-loop
-add-words c = omega arith
-
--- src/feed.rt:77:9
-add-steps : tie.Need-add-steps Inv-loop μ-loop
-add-steps c = let l = c .before .before .before .before .before .before .before .before .before .before .before .before .before .before .before .before .if1 .left in omega (arith, c .before .before .before .before .before .before .before .before .before .before .before .before .before .before .before .before .before .before .before .before .before .before .fits .limit)
-
--- src/feed.rt:78:12
-interrupts-requires : tie.Need-interrupts-requires Inv-loop μ-loop
-interrupts-requires c κs = search needs
-
--- src/feed.rt:59:9
-loop-less : tie.Need-loop-less Inv-loop μ-loop
-loop-less c = let l = c .before .before .before .before .before .before .before .before .before .before .before .before .before .before .before .before .before .before .if1 .left in omega arith
-
--- src/feed.rt:59:9
-loop-again : tie.Need-loop-again Inv-loop μ-loop
-loop-again c =
-    let q = c .before .before .before .before .before .before .before .before .before .before .before .before .before .before .before .before .before .before .before .loop .inv in
+loop-holds c =
+    let e = c .taken .ensures in
     record {
-      ready = step-ready _ _ _ _ (q .ready) _ _ (c .before .before .before .before .before .before .before .before .before .before .before .before .step .ensures);
-      lengths = (c .before .before .before .before .before .before .before .before .before .before .before .before .step .kept .1 .1 .1 .0 ∙ q .lengths .0, c .before .before .before .before .before .before .before .before .before .before .before .before .step .kept .1 .1 .1 .1 .0 ∙ q .lengths .1, c .before .before .before .before .before .before .before .before .before .before .before .before .step .kept .1 .1 .1 .1 .1 .0 ∙ q .lengths .2);
-      near = (let h = c .before .before .before .before .before .before .before .before .before .before .before .before .before .before .before .before .before .if2 .left in omega arith);
-      same =
-          goes-on _ _ _ _ _ _ _ (q .same) (c .before .before .before .before .before .before .before .before .before .before .before .before .before .before .before .before .before .before .if1 .left) (c .before .before .before .before .before .before .before .before .before .before .before .before .before .before .before .before .before .if2 .left)
-          (c .before .before .before .before .before .before .before .before .before .before .before .before .before .before .before .before .incoming-at .ensures) (c .before .before .before .before .before .before .before .before .before .before .before .before .step .ensures)
-          (c .before .before .before .before .before .words-taken .ensures .0) (c .before .before .before .before .if3 .left) (sym (c .before .interrupts .ensures) ∙ c .if4 .left);
+      ready = rw e (c .before .before .before .before .before .pre .0);
+      lengths = (refl, refl, refl);
+      near = rw e (omega arith);
+      quiet = rw e;
+      same = rest-begins _ _ _ _ (c .taken .result) _ (rw e) (rw e);
     }
 
--- src/feed.rt:39:1
+-- src/feed.rt:76:13
 same-length : tie.Need-same-length Inv-loop μ-loop
-same-length c = c .before .loop .inv .lengths .0
+same-length c = c .before .before .loop .inv .lengths .0
 
--- src/feed.rt:39:1
+-- src/feed.rt:76:13
 same-length-2 : tie.Need-same-length-2 Inv-loop μ-loop
-same-length-2 c = c .before .loop .inv .lengths .1
+same-length-2 c = c .before .before .loop .inv .lengths .1
 
--- src/feed.rt:39:1
+-- src/feed.rt:76:13
 same-length-3 : tie.Need-same-length-3 Inv-loop μ-loop
-same-length-3 c = c .before .loop .inv .lengths .2
+same-length-3 c = c .before .before .loop .inv .lengths .2
 
--- src/feed.rt:39:1
+-- src/feed.rt:76:13
 returns : tie.Need-returns Inv-loop μ-loop
-returns c = ends-out _ _ _ _ _ _ _ (c .before .loop .inv .same) (c .if1 .taken)
+returns c = rest-ends _ _ _ _ _ (c .before .before .before .taken .ensures) (c .before .before .loop .inv .same) (rest-out _ _ _ _ _ _ (c .before .before .loop .inv .quiet) (c .if1 .taken))
 
--- src/feed.rt:39:1
+-- src/feed.rt:79:13
 same-length-4 : tie.Need-same-length-4 Inv-loop μ-loop
-same-length-4 c = c .before .before .loop .inv .lengths .0
+same-length-4 c = c .before .before .before .before .loop .inv .lengths .0
 
--- src/feed.rt:39:1
+-- src/feed.rt:79:13
 same-length-5 : tie.Need-same-length-5 Inv-loop μ-loop
-same-length-5 c = c .before .before .loop .inv .lengths .1
+same-length-5 c = c .before .before .before .before .loop .inv .lengths .1
 
--- src/feed.rt:39:1
+-- src/feed.rt:79:13
 same-length-6 : tie.Need-same-length-6 Inv-loop μ-loop
-same-length-6 c = c .before .before .loop .inv .lengths .2
+same-length-6 c = c .before .before .before .before .loop .inv .lengths .2
 
--- src/feed.rt:39:1
+-- src/feed.rt:79:13
 returns-2 : tie.Need-returns-2 Inv-loop μ-loop
-returns-2 c = ends-used _ _ _ _ _ _ _ (c .before .before .loop .inv .same) (c .if2 .taken)
+returns-2 c = rest-ends _ _ _ _ _ (c .before .before .before .before .before .taken .ensures) (c .before .before .before .before .loop .inv .same) (rest-used _ _ _ _ _ _ (c .before .before .before .before .loop .inv .quiet) (c .if2 .taken))
 
--- src/feed.rt:39:1
+-- src/feed.rt:81:13
+burst-requires : tie.Need-burst-requires Inv-loop μ-loop
+burst-requires c κs =
+    let q = c .before .before .before .before .before .before .loop .inv in (
+      q .ready .ranged,
+      q .ready .long,
+      q .ready .wide,
+      record { near = c .before .before .before .before .before .before .before .before .before .before .before .before .pre .1; few-words = c .before .before .if2 .left; few-steps = c .before .before .before .before .if1 .left; quiet = q .quiet },
+    )
+
+-- src/feed.rt:82:9
+give-word-requires : tie.Need-give-word-requires Inv-loop μ-loop
+give-word-requires c κs =
+    let u = c .before .before .before .before .before .before .before .burst .ensures (c .before .before .before .before .before .before .before .before .before .before .before .before .before .before .loop .log) in
+    let g = u .going in
+    let l = c .before .before .before .before .before .before .before .before .before .before .before .before .before .before .before .before .before .before .before .before .fits .limit in
+    (u .stays (c .before .before .before .before .before .before .before .before .before .before .before .before .before .before .loop .inv .ready), omega arith, omega arith)
+
+-- src/feed.rt:84:13
 same-length-7 : tie.Need-same-length-7 Inv-loop μ-loop
-same-length-7 c = c .before .before .before .before .before .before .before .before .step .kept .1 .1 .1 .0 ∙ c .before .before .before .before .before .before .before .before .before .before .before .before .before .before .before .loop .inv .lengths .0
+same-length-7 c = c .before .before .before .before .before .before .before .give-word .kept .1 .1 .1 .0 ∙ c .before .before .before .before .before .before .before .before .before .before .before .before .before .before .before .burst .kept .1 .1 .1 .1 .1 .0 ∙ c .before .before .before .before .before .before .before .before .before .before .before .before .before .before .before .before .before .before .before .before .before .before .loop .inv .lengths .0
 
--- src/feed.rt:39:1
+-- src/feed.rt:84:13
 same-length-8 : tie.Need-same-length-8 Inv-loop μ-loop
-same-length-8 c = c .before .before .before .before .before .before .before .before .step .kept .1 .1 .1 .1 .0 ∙ c .before .before .before .before .before .before .before .before .before .before .before .before .before .before .before .loop .inv .lengths .1
+same-length-8 c = c .before .before .before .before .before .before .before .give-word .kept .1 .1 .1 .1 .0 ∙ c .before .before .before .before .before .before .before .before .before .before .before .before .before .before .before .burst .kept .1 .1 .1 .1 .1 .1 .0 ∙ c .before .before .before .before .before .before .before .before .before .before .before .before .before .before .before .before .before .before .before .before .before .before .loop .inv .lengths .1
 
--- src/feed.rt:39:1
+-- src/feed.rt:84:13
 same-length-9 : tie.Need-same-length-9 Inv-loop μ-loop
-same-length-9 c = c .before .before .before .before .before .before .before .before .step .kept .1 .1 .1 .1 .1 .0 ∙ c .before .before .before .before .before .before .before .before .before .before .before .before .before .before .before .loop .inv .lengths .2
+same-length-9 c = c .before .before .before .before .before .before .before .give-word .kept .1 .1 .1 .1 .1 .0 ∙ c .before .before .before .before .before .before .before .before .before .before .before .before .before .before .before .before .before .before .before .before .before .before .loop .inv .lengths .2
 
--- src/feed.rt:39:1
+-- src/feed.rt:84:13
 returns-3 : tie.Need-returns-3 Inv-loop μ-loop
 returns-3 c =
-    let q = c .before .before .before .before .before .before .before .before .before .before .before .before .before .before .before .loop .inv in
-    ends-refused _ _ _ _ _ _ _ (q .same) (c .before .before .before .before .before .before .before .before .before .before .before .before .before .before .if1 .left) (c .before .before .before .before .before .before .before .before .before .before .before .before .before .if2 .left) (c .before .before .before .before .before .before .before .before .before .before .before .before .incoming-at .ensures) (c .before .before .before .before .before .before .before .before .step .ensures) (q .ready)
-    (c .before .words-taken .ensures .0) (c .if3 .taken)
+    let u = c .before .before .before .before .before .before .before .before .before .before .before .before .before .before .before .burst .ensures (c .before .before .before .before .before .before .before .before .before .before .before .before .before .before .before .before .before .before .before .before .before .before .loop .log) in
+    rest-ends _ _ _ _ _ (c .before .before .before .before .before .before .before .before .before .before .before .before .before .before .before .before .before .before .before .before .before .before .before .taken .ensures) (c .before .before .before .before .before .before .before .before .before .before .before .before .before .before .before .before .before .before .before .before .before .before .loop .inv .same) (u .same ∙ c .before .before .before .before .before .before .before .give-word .ensures .stops _ _ (u .going) (c .if3 .taken))
 
--- src/feed.rt:39:1
+-- src/feed.rt:87:13
 same-length-10 : tie.Need-same-length-10 Inv-loop μ-loop
-same-length-10 c = c .before .before .before .before .before .before .before .before .before .before .before .before .step .kept .1 .1 .1 .0 ∙ c .before .before .before .before .before .before .before .before .before .before .before .before .before .before .before .before .before .before .before .loop .inv .lengths .0
+same-length-10 c = c .before .before .before .before .before .before .before .before .before .before .give-word .kept .1 .1 .1 .0 ∙ c .before .before .before .before .before .before .before .before .before .before .before .before .before .before .before .before .before .before .burst .kept .1 .1 .1 .1 .1 .0 ∙ c .before .before .before .before .before .before .before .before .before .before .before .before .before .before .before .before .before .before .before .before .before .before .before .before .before .loop .inv .lengths .0
 
--- src/feed.rt:39:1
+-- src/feed.rt:87:13
 same-length-11 : tie.Need-same-length-11 Inv-loop μ-loop
-same-length-11 c = c .before .before .before .before .before .before .before .before .before .before .before .before .step .kept .1 .1 .1 .1 .0 ∙ c .before .before .before .before .before .before .before .before .before .before .before .before .before .before .before .before .before .before .before .loop .inv .lengths .1
+same-length-11 c = c .before .before .before .before .before .before .before .before .before .before .give-word .kept .1 .1 .1 .1 .0 ∙ c .before .before .before .before .before .before .before .before .before .before .before .before .before .before .before .before .before .before .burst .kept .1 .1 .1 .1 .1 .1 .0 ∙ c .before .before .before .before .before .before .before .before .before .before .before .before .before .before .before .before .before .before .before .before .before .before .before .before .before .loop .inv .lengths .1
 
--- src/feed.rt:39:1
+-- src/feed.rt:87:13
 same-length-12 : tie.Need-same-length-12 Inv-loop μ-loop
-same-length-12 c = c .before .before .before .before .before .before .before .before .before .before .before .before .step .kept .1 .1 .1 .1 .1 .0 ∙ c .before .before .before .before .before .before .before .before .before .before .before .before .before .before .before .before .before .before .before .loop .inv .lengths .2
+same-length-12 c = c .before .before .before .before .before .before .before .before .before .before .give-word .kept .1 .1 .1 .1 .1 .0 ∙ c .before .before .before .before .before .before .before .before .before .before .before .before .before .before .before .before .before .before .before .before .before .before .before .before .before .loop .inv .lengths .2
 
--- src/feed.rt:39:1
+-- src/feed.rt:87:13
 returns-4 : tie.Need-returns-4 Inv-loop μ-loop
 returns-4 c =
-    let q = c .before .before .before .before .before .before .before .before .before .before .before .before .before .before .before .before .before .before .before .loop .inv in
-    ends-interrupt _ _ _ _ _ _ _ (q .same) (c .before .before .before .before .before .before .before .before .before .before .before .before .before .before .before .before .before .before .if1 .left) (c .before .before .before .before .before .before .before .before .before .before .before .before .before .before .before .before .before .if2 .left) (c .before .before .before .before .before .before .before .before .before .before .before .before .before .before .before .before .incoming-at .ensures) (c .before .before .before .before .before .before .before .before .before .before .before .before .step .ensures)
-    (c .before .before .before .before .before .words-taken .ensures .0) (sym (c .before .interrupts .ensures) ∙ c .if4 .taken)
+    let u = c .before .before .before .before .before .before .before .before .before .before .before .before .before .before .before .before .before .before .burst .ensures (c .before .before .before .before .before .before .before .before .before .before .before .before .before .before .before .before .before .before .before .before .before .before .before .before .before .loop .log) in
+    rest-ends _ _ _ _ _ (c .before .before .before .before .before .before .before .before .before .before .before .before .before .before .before .before .before .before .before .before .before .before .before .before .before .before .taken .ensures) (c .before .before .before .before .before .before .before .before .before .before .before .before .before .before .before .before .before .before .before .before .before .before .before .before .before .loop .inv .same) (u .same ∙ c .before .before .before .before .before .before .before .before .before .before .give-word .ensures .refuses _ _ (u .going) (c .if4 .taken))
+
+-- src/feed.rt:74:5
+loop-less : tie.Need-loop-less Inv-loop μ-loop
+loop-less c =
+    let u = c .before .before .before .before .before .before .before .before .before .before .before .before .before .before .before .before .before .before .burst .ensures (c .before .before .before .before .before .before .before .before .before .before .before .before .before .before .before .before .before .before .before .before .before .before .before .before .before .loop .log) in
+    let g = c .before .before .before .before .before .before .before .before .before .before .give-word .ensures in
+    let l = c .before .before .before .before .before .before .before .before .before .before .before .before .before .before .before .before .before .before .before .before .before .before .before .if1 .left in
+    let z = c .if4 .left in
+    omega arith
+
+-- src/feed.rt:74:5
+loop-again : tie.Need-loop-again Inv-loop μ-loop
+loop-again c =
+    let u = c .before .before .before .before .before .before .before .before .before .before .before .before .before .before .before .before .before .before .burst .ensures (c .before .before .before .before .before .before .before .before .before .before .before .before .before .before .before .before .before .before .before .before .before .before .before .before .before .loop .log) in
+    let h = u .going in
+    let g = c .before .before .before .before .before .before .before .before .before .before .give-word .ensures in
+    record {
+      ready = g .ready;
+      lengths = (c .before .before .before .before .before .before .before .before .before .before .give-word .kept .1 .1 .1 .0 ∙ c .before .before .before .before .before .before .before .before .before .before .before .before .before .before .before .before .before .before .burst .kept .1 .1 .1 .1 .1 .0 ∙ c .before .before .before .before .before .before .before .before .before .before .before .before .before .before .before .before .before .before .before .before .before .before .before .before .before .loop .inv .lengths .0, c .before .before .before .before .before .before .before .before .before .before .give-word .kept .1 .1 .1 .1 .0 ∙ c .before .before .before .before .before .before .before .before .before .before .before .before .before .before .before .before .before .before .burst .kept .1 .1 .1 .1 .1 .1 .0 ∙ c .before .before .before .before .before .before .before .before .before .before .before .before .before .before .before .before .before .before .before .before .before .before .before .before .before .loop .inv .lengths .1, c .before .before .before .before .before .before .before .before .before .before .give-word .kept .1 .1 .1 .1 .1 .0 ∙ c .before .before .before .before .before .before .before .before .before .before .before .before .before .before .before .before .before .before .before .before .before .before .before .before .before .loop .inv .lengths .2);
+      near = omega arith;
+      quiet = c .before .before .before .if3 .left;
+      same = sym (u .same ∙ g .goes _ _ h (c .before .before .before .if3 .left)) ∙ c .before .before .before .before .before .before .before .before .before .before .before .before .before .before .before .before .before .before .before .before .before .before .before .before .before .loop .inv .same;
+    }
 
 pub give-words-spec : {M : Type 1} → statement M
 give-words-spec =
@@ -162,17 +160,8 @@ give-words-spec =
     (tie.spec
     Inv-loop
     μ-loop
+    taken-requires
     loop-holds
-    mul-incoming-at
-    add-incoming-at
-    incoming-at-requires
-    step-requires
-    words-taken-requires
-    add-words
-    add-steps
-    interrupts-requires
-    loop-less
-    loop-again
     same-length
     same-length-2
     same-length-3
@@ -181,6 +170,8 @@ give-words-spec =
     same-length-5
     same-length-6
     returns-2
+    burst-requires
+    give-word-requires
     same-length-7
     same-length-8
     same-length-9
@@ -188,4 +179,6 @@ give-words-spec =
     same-length-10
     same-length-11
     same-length-12
-    returns-4)
+    returns-4
+    loop-less
+    loop-again)

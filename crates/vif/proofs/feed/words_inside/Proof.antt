@@ -2,7 +2,7 @@ use mathlib.Core.Path.{sym, _∙_}
 use native.Mathlib.Omega.{arith}
 use borrow.Author.Tests.{eq-eqb, ne-eqb}
 use Rattle.vif.specs.Feed.{wordsInside}
-use Rattle.vif.proofs.FeedLaws.{inside-few}
+use Rattle.gif.proofs.FeedLaws.{inside-most}
 use borrow.Author.Needs.{needs}
 use Rattle.vif.proofs.feed.words_inside.Statement.{statement}
 use Rattle.vif.proofs.feed.words_inside.Tie as tie
@@ -25,7 +25,7 @@ returns c = rw (sym (c .before .before .lies-inside .ensures) ∙ c .before .if1
 
 -- src/feed.rt:100:17
 add-result : tie.Need-add-result
-add-result c = omega (arith, inside-few _ _ _ (sym (c .before .before .lies-inside .ensures) ∙ c .before .if1 .taken))
+add-result c = omega (arith, inside-most _ _ _ (sym (c .before .before .lies-inside .ensures) ∙ c .before .if1 .taken))
 
 -- src/feed.rt:100:9
 returns-2 : tie.Need-returns-2

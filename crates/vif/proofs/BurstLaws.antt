@@ -1,0 +1,139 @@
+-- Payload words taken at once: one more of them.
+use mathlib.Core.Path.{_≡_, refl, sym, ap, _∙_}
+use mathlib.Core.Bool.{Bool, false}
+use mathlib.Core.List.{List}
+use Prim.Native.Nat.{ℕ, _+_, _*_, _-_, _/_, _%_, _<_}
+use native.Mathlib.Nat.{sub-zero}
+use native.Mathlib.Omega.{arith}
+use borrow.Author.Tests.{eq-eqb, ne-eqb}
+use lib.ListN.{length}
+use lib.Dec.{eqb}
+use Rattle.fields.specs.Fields.{if}
+use Rattle.fields.specs.Memory.{wordAt}
+use Rattle.fields.proofs.ChoiceLaws.{if-ind}
+use Rattle.gif.specs.declared.Path.{Path}
+use Rattle.unpack.specs.declared.Format.{Format}
+use Rattle.unpack.specs.declared.Unpacking.{Unpacking}
+use Rattle.unpack.specs.declared.Registers.{Registers}
+use Rattle.unpack.specs.declared.Rows.{Rows}
+use Rattle.unpack.specs.Step.{Left as UnpackLeft, left as unpackLeft, holds, acceptable, takeOf as unpackTakeOf}
+use Rattle.unpack.proofs.StepLaws.{acceptable-fits, fits-cycle, fits-unpacking}
+use Rattle.vif.specs.declared.WordsResult.{WordsResult}
+use Rattle.vif.specs.declared.Incoming.{Incoming}
+use Rattle.vif.specs.declared.Waiting.{Waiting}
+use Rattle.vif.specs.declared.Waiting.the-variants.{MpgDue, UnpackDue}
+use Rattle.vif.specs.declared.Vif.{Vif}
+use Rattle.vif.specs.Setters.{withRow, withWaiting}
+use Rattle.vif.specs.Payload.{completes, orNothing, mpgStored, writeRegisters}
+use Rattle.vif.specs.Words.{incomingAt}
+use Rattle.vif.specs.Step.{Lent, lent, leaves, wordIn, unpackStep, vifStep}
+use Rattle.vif.specs.Feeds.{Fed, fed, aWord}
+use Rattle.vif.specs.Inner.{UnpackReady, Leads, fedIn, Going, Bursts, takenWith}
+use Rattle.vif.proofs.FeedLaws.{leads-none, leads-one, leads-then, rest-leads}
+
+-- the word at an address is the one that comes
+pub incoming-word : (main : List ℕ) (a : ℕ) → wordIn (incomingAt main a) ≡ wordAt main a
+unfolding incomingAt
+incoming-word main a =
+    if-ind (λ (n : Incoming). wordIn n ≡ wordAt main a) (eqb (a / 4 % 4) 0) refl
+    (if-ind (λ (n : Incoming). wordIn n ≡ wordAt main a) (eqb (a / 4 % 4) 1) refl
+    (if-ind (λ (n : Incoming). wordIn n ≡ wordAt main a) (eqb (a / 4 % 4) 2) refl refl))
+
+-- before the last unit no code is completed
+not-last : (due : ℕ) (i : Bool) → 1 < due → completes due i ≡ false
+unfolding completes if
+not-last due i h = rw (ne-eqb due 1 (λ e. omega arith))
+
+waits-still : (due : ℕ) (w : Waiting) → 1 < due → orNothing due w ≡ w
+unfolding orNothing if
+waits-still due w h = rw (ne-eqb due 1 (λ e. omega arith))
+
+-- a word more
+word-more : {main : List ℕ} {a k : ℕ} {x y z : Fed} → Leads main a k k x y
+    → vifStep (y .unit) (y .path2) (incomingAt main (a + 4 * k)) (y .used) (y .memories) ≡ leaves aWord (z .unit) (z .path2) (z .used) (z .memories)
+    → Leads main a (k + 1) (k + 1) x z
+word-more {z = z} p e = leads-then p (leads-one {o = leaves aWord (z .unit) (z .path2) (z .used) (z .memories)} (sym e) refl (λ q. omega arith) refl)
+
+-- ---- UNPACK
+
+-- the unit with an UNPACK that waits
+abbrev pub unpacking : Vif → Format → List ℕ → Unpacking → Vif
+unpacking v f row u = withWaiting (withRow v row) (UnpackDue f u)
+
+pub unpack-begins : (main : List ℕ) (a : ℕ) (v : Vif) (f : Format) (u : Unpacking) (p : Path) (used : ℕ) (m : Lent) → v .waiting ≡ UnpackDue f u
+    → Leads main a 0 0 (fed v p used m) (fed (unpacking v f (v .row) u) p used m)
+unpack-begins main a v f u p used m h = rw (← ap (λ (w : Waiting). fed (withWaiting v w) p used m) h) leads-none
+
+module _ (v : Vif) (f : Format) (u : Unpacking) (word : ℕ) (row mem : List ℕ) (g : UnpackReady v f u mem) (h : 1 < u .due) where
+  -- a payload word before the last leaves it waiting, ready for the next
+  pub unpack-ready : (m : List ℕ) → length m ≡ length mem → UnpackReady v f (holds u word) m
+  unfolding acceptable
+  unpack-ready m l =
+      let x = acceptable-fits 1024 f u (writeRegisters v) mem (g .accepted) in
+      let y = x .unpacking in
+      let d = y .most in
+      let s = x .memory .long in
+      record {
+        some = omega arith;
+        accepted =
+            rw (eq-eqb (length m) 4096 (l ∙ s), fits-cycle (v .cl) (v .wl) (x .cycle))
+            (fits-unpacking f (holds u word) (record { inside = y .inside; some = y .some; few = y .few; left = omega arith; most = omega arith }));
+      }
+
+  module _ {r : Registers} {s : Rows} {m : List ℕ} (er : r ≡ writeRegisters v) (es : unpackLeft s m ≡ unpackTakeOf 1024 f u r word row mem) where
+    unpack-step : (p : Path) (used : ℕ) (code log : List ℕ) (next : Incoming) → wordIn next ≡ word
+        → vifStep (unpacking v f row u) p next used (lent mem code log)
+        ≡ leaves aWord (unpacking v f (s .row) (holds u word)) p used (lent m code log)
+    unfolding vifStep unpackStep unpackTakeOf if
+    unpack-step p used code log next e =
+        let q = rw (er, g .accepted) at es in
+        rw (e, not-last (u .due) (u .interrupt) h, waits-still (u .due) (UnpackDue f (holds u word)) h, ap (λ (o : UnpackLeft). o .row) q, ap (λ (o : UnpackLeft). o .mem) q)
+
+    pub unpack-more : {main : List ℕ} {a k : ℕ} {p : Path} {used : ℕ} {code log : List ℕ} {x : Fed} → word ≡ wordAt main (a + 4 * k)
+        → Leads main a k k x (fed (unpacking v f row u) p used (lent mem code log))
+        → Leads main a (k + 1) (k + 1) x (fed (unpacking v f (s .row) (holds u word)) p used (lent m code log))
+    unpack-more {main} {a} {k} {p} {used} {code} {log} e i =
+        word-more i (unpack-step p used code log (incomingAt main (a + 4 * k)) (incoming-word main (a + 4 * k) ∙ sym e))
+
+-- ---- MPG
+
+module _ (v : Vif) (address count : ℕ) (i : Bool) where
+  -- the unit with an MPG that waits
+  abbrev pub storing : ℕ → Vif
+  storing due = withWaiting v (MpgDue address count due i)
+
+  pub mpg-begins : (main : List ℕ) (a due : ℕ) (p : Path) (used : ℕ) (m : Lent) → v .waiting ≡ MpgDue address count due i
+      → Leads main a 0 0 (fed v p used m) (fed (storing (due - 0)) p used m)
+  mpg-begins main a due p used m h = rw (sub-zero due, ← ap (λ (w : Waiting). fed (withWaiting v w) p used m) h) leads-none
+
+  mpg-step : (due word : ℕ) → 1 < due → (p : Path) (used : ℕ) (mem code log : List ℕ) (next : Incoming) → wordIn next ≡ word
+      → vifStep (storing due) p next used (lent mem code log)
+      ≡ leaves aWord (storing (due - 1)) p used (lent mem (mpgStored 2048 address count due word code) log)
+  unfolding vifStep
+  mpg-step due word h p used mem code log next e = rw (e, not-last due i h, waits-still due (MpgDue address count (due - 1) i) h)
+
+  pub mpg-more : {main : List ℕ} {a k due word : ℕ} {p : Path} {used : ℕ} {mem code code′ log : List ℕ} {x : Fed} → k + 1 < due
+      → word ≡ wordAt main (a + 4 * k) → code′ ≡ mpgStored 2048 address count (due - k) word code
+      → Leads main a k k x (fed (storing (due - k)) p used (lent mem code log))
+      → Leads main a (k + 1) (k + 1) x (fed (storing (due - (k + 1))) p used (lent mem code′ log))
+  mpg-more {main} {a} {k} {due} {word} {p} {used} {mem} {code} {code′} {log} h e s l =
+      let d : due - (k + 1) ≡ due - k - 1 = omega arith in
+      rw (d, s)
+      (word-more l (mpg-step (due - k) word (omega arith) p used mem code log (incomingAt main (a + 4 * k)) (incoming-word main (a + 4 * k) ∙ sym e)))
+
+-- ---- a burst
+
+pub burst-none : {main : List ℕ} {limit a count : ℕ} {s : WordsResult} {m : Lent} → Going limit a count s → Bursts main limit a count s m s m
+burst-none g = record { same = refl; stays = λ r. r; later = omega arith; going = g }
+
+pub burst-words : {main : List ℕ} {limit a count n : ℕ} {s t : WordsResult} {m m′ : Lent} {v : Vif} → Going limit a count s
+    → n < count - s .words → n < limit - s .steps → Leads main (a + 4 * s .words) n n (fedIn s m) (fed v (s .path2) (s .used) m′)
+    → t ≡ takenWith v (s .path2) (s .used) (s .words + n) (s .steps + n) (s .interrupt) → Bursts main limit a count s m t m′
+burst-words {main} {limit} {a} {count} {n} {s} {t} {m} {m′} g h l i e =
+    rw e
+    (record {
+      same = rest-leads main limit a count s m i h l (s .interrupt);
+      stays = i .stays;
+      later = omega arith;
+      going = record { near = g .near; few-words = omega arith; few-steps = omega arith; quiet = g .quiet };
+    })

@@ -1,0 +1,192 @@
+// Payload of a code that waits, taken at once: never the last unit due, so that no burst completes a code.
+use super::Vif;
+use super::Waiting;
+use super::WordsResult;
+use super::mpg::store_mpg;
+use super::registers::with_row;
+use super::registers::with_waiting;
+use super::step::held;
+use super::step::write_registers;
+use fields::word_at;
+use unpack::Format;
+use unpack::Unpacking;
+ghost use mathlib.Core.Path.{_≡_};
+ghost use mathlib.Core.Bool.{true};
+ghost use mathlib.Core.List.{List};
+ghost use Prim.Native.Nat.{ℕ, _+_, _*_, _^_, _<_, _≤_};
+ghost use lib.ListN.{length};
+ghost use Rattle.gif.specs.declared.Path.{Path as PathT};
+ghost use Rattle.vif.specs.declared.Waiting.the-variants.{MpgDue, UnpackDue};
+ghost use Rattle.vif.specs.Range.{unitInRange};
+ghost use Rattle.vif.specs.Step.{lent};
+ghost use Rattle.vif.specs.Feeds.{fed};
+ghost use Rattle.vif.specs.Inner.{UnpackReady, Leads, Going, Bursts, takenWith};
+
+fn fewer(due: u32, words: u32) -> u32
+    requires { ⌜ (1 ≤ due) × (1 ≤ words) ⌝ }
+    ensures { λ r. ⌜ (r < due) × (r < words) ⌝ }
+{
+    if due < words { due - 1 } else { words - 1 }
+}
+
+// How many units of payload are taken at once, where so many are due and so many words and steps are left.
+fn at_once(due: u32, words: u32, steps: u64) -> u32
+    requires { ⌜ (1 ≤ due) × (1 ≤ words) × (1 ≤ steps) ⌝ }
+    ensures { λ r. ⌜ (r < due) × (r < words) × (r < steps) ⌝ }
+{
+    let n = fewer(due, words);
+    if (n as u64) < steps {
+        return n;
+    }
+    (steps - 1) as u32
+}
+
+// n payload words of UNPACK. Path 2 and the other memories are any.
+fn unpack_words(
+    unit: Vif,
+    f: Format,
+    u: Unpacking,
+    main: &[u8],
+    a: u32,
+    n: u32,
+    data: &mut [u32],
+) -> Vif
+    requires { ⌜ (unit .waiting ≡ UnpackDue f u) × UnpackReady unit f u (now «data») × (n < u .due) × (a + 4 * n ≤ 1048576) ⌝ }
+    ensures { λ r. ⌜ ((p : PathT) (used : ℕ) (code log : List ℕ) → Leads (now (main .entry)) a n n (fed unit p used (lent (now («data» .entry)) code log)) (fed r p used (lent (now («data» .exit)) code log))) ⌝ }
+{
+    let registers = write_registers(unit);
+    let mut row = unit.row;
+    let mut rest = u;
+    let mut k: u32 = 0;
+    while k < n {
+        let word = word_at(main, a + 4 * k);
+        let r = unpack::take_word(1024, f, rest, registers, word, row, data);
+        row = r.row;
+        rest = held(rest, word);
+        k += 1;
+    }
+    with_waiting(with_row(unit, row), Waiting::UnpackDue(f, rest))
+}
+
+// n payload words of MPG. Path 2 and the other memories are any.
+fn mpg_words(
+    unit: Vif,
+    address: u32,
+    count: u32,
+    due: u32,
+    interrupt: bool,
+    main: &[u8],
+    a: u32,
+    n: u32,
+    code: &mut [u8],
+) -> Vif
+    requires { ⌜ (unit .waiting ≡ MpgDue address count due interrupt) × (address ≤ 2047) × (count ≤ 256) × (due ≤ count + count) × (n < due) × (length (now code) ≡ 16384) × (a + 4 * n ≤ 1048576) ⌝ }
+    ensures { λ r. ⌜ ((p : PathT) (used : ℕ) (mem log : List ℕ) → Leads (now (main .entry)) a n n (fed unit p used (lent mem (now (code .entry)) log)) (fed r p used (lent mem (now (code .exit)) log))) ⌝ }
+{
+    let mut k: u32 = 0;
+    while k < n {
+        store_mpg(address, count, due - k, word_at(main, a + 4 * k), code);
+        k += 1;
+    }
+    with_waiting(
+        unit,
+        Waiting::MpgDue {
+            address,
+            count,
+            due: due - n,
+            interrupt,
+        },
+    )
+}
+
+// The result of s with a burst after it: the unit that it left, and so many words, each a step.
+fn with_words(s: WordsResult, unit: Vif, words: u32) -> WordsResult
+    requires { ⌜ (s .words + words < 2 ^ 32) × (s .steps + words < 2 ^ 64) ⌝ }
+    ensures { λ r. ⌜ r ≡ takenWith unit (s .path2) (s .used) (s .words + words) (s .steps + words) (s .interrupt) ⌝ }
+{
+    let path2 = s.path2;
+    WordsResult {
+        unit,
+        path2,
+        used: s.used,
+        words: s.words + words,
+        steps: s.steps + words as u64,
+        interrupt: s.interrupt,
+    }
+}
+
+// Payload words of UNPACK.
+fn unpack_burst(
+    s: WordsResult,
+    f: Format,
+    u: Unpacking,
+    main: &[u8],
+    a: u32,
+    count: u32,
+    limit: u64,
+    data: &mut [u32],
+) -> WordsResult
+    requires { ⌜ (s .unit .waiting ≡ UnpackDue f u) × UnpackReady (s .unit) f u (now «data») × Going limit a count s ⌝ }
+    ensures { λ r. ⌜ ((code log : List ℕ) → Bursts (now (main .entry)) limit a count s (lent (now («data» .entry)) code log) r (lent (now («data» .exit)) code log)) ⌝ }
+{
+    let unit = s.unit;
+    let n = at_once(u.due, count - s.words, limit - s.steps);
+    let after = unpack_words(unit, f, u, main, a + 4 * s.words, n, data);
+    with_words(s, after, n)
+}
+
+// Payload words of MPG.
+fn mpg_burst(
+    s: WordsResult,
+    main: &[u8],
+    a: u32,
+    count: u32,
+    limit: u64,
+    code: &mut [u8],
+) -> WordsResult
+    requires { ⌜ (unitInRange (s .unit) ≡ true) × (length (now code) ≡ 16384) × Going limit a count s ⌝ }
+    ensures { λ r. ⌜ ((mem log : List ℕ) → Bursts (now (main .entry)) limit a count s (lent mem (now (code .entry)) log) r (lent mem (now (code .exit)) log)) ⌝ }
+{
+    let unit = s.unit;
+    let waiting = unit.waiting;
+    let Waiting::MpgDue {
+        address,
+        count: num,
+        due,
+        interrupt,
+    } = waiting
+    else {
+        return s;
+    };
+    let n = at_once(due, count - s.words, limit - s.steps);
+    let at = a + 4 * s.words;
+    let after = mpg_words(unit, address, num, due, interrupt, main, at, n, code);
+    with_words(s, after, n)
+}
+
+// Payload of the code that waits; at least one word and one step are left after it.
+pub(crate) fn burst(
+    s: WordsResult,
+    main: &[u8],
+    a: u32,
+    count: u32,
+    limit: u64,
+    data: &mut [u32],
+    code: &mut [u8],
+) -> WordsResult
+    requires { ⌜ (unitInRange (s .unit) ≡ true) × (length (now «data») ≡ 4096) × (length (now code) ≡ 16384) × Going limit a count s ⌝ }
+    ensures { λ r. ⌜ ((log : List ℕ) → Bursts (now (main .entry)) limit a count s (lent (now («data» .entry)) (now (code .entry)) log) r (lent (now («data» .exit)) (now (code .exit)) log)) ⌝ }
+{
+    let unit = s.unit;
+    let waiting = unit.waiting;
+    match waiting {
+        Waiting::Nothing => s,
+        Waiting::MaskDue(_) => s,
+        Waiting::RowDue { .. } => s,
+        Waiting::ColDue { .. } => s,
+        Waiting::MpgDue { .. } => mpg_burst(s, main, a, count, limit, code),
+        Waiting::DirectDue { .. } => s,
+        Waiting::DirecthlDue { .. } => s,
+        Waiting::UnpackDue(f, u) => unpack_burst(s, f, u, main, a, count, limit, data),
+    }
+}
