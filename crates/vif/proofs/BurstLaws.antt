@@ -1,17 +1,23 @@
 -- Payload words taken at once: one more of them.
 use mathlib.Core.Path.{_≡_, refl, sym, ap, _∙_}
-use mathlib.Core.Bool.{Bool, false}
+use mathlib.Core.Bool.{Bool, true, false}
 use mathlib.Core.List.{List}
-use Prim.Native.Nat.{ℕ, _+_, _*_, _-_, _/_, _%_, _<_}
+use Prim.Native.Nat.{ℕ, suc, _+_, _*_, _-_, _/_, _%_, _<_}
 use native.Mathlib.Nat.{sub-zero}
+use native.Mathlib.Numerals.{one-add}
 use native.Mathlib.Omega.{arith}
 use borrow.Author.Tests.{eq-eqb, ne-eqb}
 use lib.ListN.{length}
 use lib.Dec.{eqb}
 use Rattle.fields.specs.Fields.{if}
-use Rattle.fields.specs.Memory.{wordAt}
+use Rattle.fields.specs.Memory.{wordAt, longAt, quadwordAt}
 use Rattle.fields.proofs.ChoiceLaws.{if-ind}
 use Rattle.gif.specs.declared.Path.{Path}
+use Rattle.gif.specs.declared.GifAnswer.the-variants.{Taken}
+use Rattle.gif.specs.declared.QuadwordsResult.{QuadwordsResult}
+use Rattle.gif.specs.Step.{gifStep}
+use Rattle.gif.specs.Feed.{Fed as GifFed, fedBy, feedOf as gifFeedOf}
+use Rattle.gif.proofs.FeedLaws.{Takes, none, more, feed-quadwords, feed-few}
 use Rattle.unpack.specs.declared.Format.{Format}
 use Rattle.unpack.specs.declared.Unpacking.{Unpacking}
 use Rattle.unpack.specs.declared.Registers.{Registers}
@@ -20,15 +26,16 @@ use Rattle.unpack.specs.Step.{Left as UnpackLeft, left as unpackLeft, holds, ac
 use Rattle.unpack.proofs.StepLaws.{acceptable-fits, fits-cycle, fits-unpacking}
 use Rattle.vif.specs.declared.WordsResult.{WordsResult}
 use Rattle.vif.specs.declared.Incoming.{Incoming}
+use Rattle.vif.specs.declared.Incoming.the-variants.{Word0}
 use Rattle.vif.specs.declared.Waiting.{Waiting}
 use Rattle.vif.specs.declared.Waiting.the-variants.{MpgDue, UnpackDue}
 use Rattle.vif.specs.declared.Vif.{Vif}
 use Rattle.vif.specs.Setters.{withRow, withWaiting}
 use Rattle.vif.specs.Payload.{completes, orNothing, mpgStored, writeRegisters}
 use Rattle.vif.specs.Words.{incomingAt}
-use Rattle.vif.specs.Step.{Lent, lent, leaves, wordIn, unpackStep, vifStep}
-use Rattle.vif.specs.Feeds.{Fed, fed, aWord}
-use Rattle.vif.specs.Inner.{UnpackReady, Leads, fedIn, Going, Bursts, takenWith}
+use Rattle.vif.specs.Step.{Lent, lent, leaves, wordIn, giveQuadword, directStep, unpackStep, stepBy, vifStep}
+use Rattle.vif.specs.Feeds.{Fed, fed, aWord, aQuadword}
+use Rattle.vif.specs.Inner.{UnpackReady, Leads, directs, Quadwords, fedIn, Going, Bursts, takenWith}
 use Rattle.vif.proofs.FeedLaws.{leads-none, leads-one, leads-then, rest-leads}
 
 -- the word at an address is the one that comes
@@ -121,15 +128,69 @@ module _ (v : Vif) (address count : ℕ) (i : Bool) where
       rw (d, s)
       (word-more l (mpg-step (due - k) word (omega arith) p used mem code log (incomingAt main (a + 4 * k)) (incoming-word main (a + 4 * k) ∙ sym e)))
 
+-- ---- DIRECT and DIRECTHL
+
+-- a whole quadword comes
+incoming-quadword : (main : List ℕ) (a : ℕ) → a % 16 ≡ 0
+    → incomingAt main a ≡ Word0 (wordAt main a) (wordAt main (a + 4)) (wordAt main (a + 8)) (wordAt main (a + 12))
+unfolding incomingAt if
+incoming-quadword main a h = let e : a / 4 % 4 ≡ 0 = omega arith in rw e
+
+by-hl : (hl : Bool) (due : ℕ) (i : Bool) (v : Vif) (p : Path) (n : Incoming) (used : ℕ) (m : Lent)
+    → stepBy (directs hl due i) v p n used m ≡ directStep n v p due i (directs hl (due - 1) i) used m
+by-hl true due i v p n used m = refl
+by-hl false due i v p n used m = refl
+
+module _ (main : List ℕ) (v : Vif) (mem code : List ℕ) (hl i : Bool) where
+  -- the unit with a DIRECT that waits
+  abbrev giving : ℕ → Path → ℕ → List ℕ → Fed
+  giving due p used log = fed (withWaiting v (directs hl due i)) p used (lent mem code log)
+
+  direct-step : (a due : ℕ) (p : Path) (used : ℕ) (log : List ℕ) → a % 16 ≡ 0 → 1 < due → gifStep p (quadwordAt main a) used log .answer ≡ Taken
+      → vifStep (withWaiting v (directs hl due i)) p (incomingAt main a) used (lent mem code log)
+      ≡ leaves aQuadword (withWaiting v (directs hl (due - 1) i)) (gifStep p (quadwordAt main a) used log .path) (gifStep p (quadwordAt main a) used log .used)
+      (lent mem code (gifStep p (quadwordAt main a) used log .log))
+  unfolding vifStep giveQuadword longAt
+  direct-step a due p used log h l e =
+      let j : a + 8 + 4 ≡ a + 12 = omega arith in
+      by-hl hl due i (withWaiting v (directs hl due i)) p (incomingAt main a) used (lent mem code log)
+      ∙ rw (incoming-quadword main a h) (rw (← j) (rw (e, not-last due i l, waits-still due (directs hl (due - 1) i) l)))
+
+  pub direct-leads : {a due used : ℕ} {p : Path} {log : List ℕ} {x : GifFed} → Takes main a p used log x → ((x .taken ≡ 0 → ⊥) → a % 16 ≡ 0) → x .taken < due
+      → Leads main a (4 * x .taken) (x .taken) (giving due p used log) (giving (due - x .taken) (x .path) (x .used) (x .log))
+  direct-leads {a} {due} none h l = rw (sub-zero due) leads-none
+  direct-leads {a} {due} {used} {p} {log} (more {x = x} e t) h l =
+      let z : a % 16 ≡ 0 = h (λ q. omega arith) in
+      let b : 4 * suc (x .taken) ≡ 4 + 4 * x .taken = omega arith in
+      let c : due - suc (x .taken) ≡ due - 1 - x .taken = omega arith in
+      rw (b, c, ← one-add (x .taken))
+      (leads-then (leads-one (sym (direct-step a due p used log z (omega arith) e)) refl (λ q. omega arith) refl)
+      (direct-leads t (λ q. omega arith) (omega arith)))
+
+pub quadwords-taken : {main : List ℕ} {a due words steps n used : ℕ} {p : Path} {log log′ : List ℕ} {r : QuadwordsResult}
+    → (n < due) × (4 * n < words) × (n < steps) × ((n ≡ 0 → ⊥) → a % 16 ≡ 0) → fedBy r log′ ≡ gifFeedOf main a n p used log
+    → Quadwords main a due words steps p used log r log′
+quadwords-taken {main} {a} {due} {words} {steps} {n} {used} {p} {log} {log′} {r} h e =
+    let f = feed-few main a n p used log e in
+    let j = h .0 in
+    let k = h .1 in
+    let l = h .2 in
+    record {
+      few = omega arith;
+      few-words = omega arith;
+      few-steps = omega arith;
+      leads = λ v mem code hl i. direct-leads main v mem code hl i (feed-quadwords main a n p used log e) (λ z. h .3 (λ y. z (omega arith))) (omega arith);
+    }
+
 -- ---- a burst
 
 pub burst-none : {main : List ℕ} {limit a count : ℕ} {s : WordsResult} {m : Lent} → Going limit a count s → Bursts main limit a count s m s m
 burst-none g = record { same = refl; stays = λ r. r; later = omega arith; going = g }
 
-pub burst-words : {main : List ℕ} {limit a count n : ℕ} {s t : WordsResult} {m m′ : Lent} {v : Vif} → Going limit a count s
-    → n < count - s .words → n < limit - s .steps → Leads main (a + 4 * s .words) n n (fedIn s m) (fed v (s .path2) (s .used) m′)
-    → t ≡ takenWith v (s .path2) (s .used) (s .words + n) (s .steps + n) (s .interrupt) → Bursts main limit a count s m t m′
-burst-words {main} {limit} {a} {count} {n} {s} {t} {m} {m′} g h l i e =
+pub burst-leads : {main : List ℕ} {limit a count k n used : ℕ} {s t : WordsResult} {m m′ : Lent} {v : Vif} {p : Path} → Going limit a count s
+    → k < count - s .words → n < limit - s .steps → Leads main (a + 4 * s .words) k n (fedIn s m) (fed v p used m′)
+    → t ≡ takenWith v p used (s .words + k) (s .steps + n) (s .interrupt) → Bursts main limit a count s m t m′
+burst-leads {main} {limit} {a} {count} {k} {n} {used} {s} {t} {m} {m′} g h l i e =
     rw e
     (record {
       same = rest-leads main limit a count s m i h l (s .interrupt);
@@ -137,3 +198,14 @@ burst-words {main} {limit} {a} {count} {n} {s} {t} {m} {m′} g h l i e =
       later = omega arith;
       going = record { near = g .near; few-words = omega arith; few-steps = omega arith; quiet = g .quiet };
     })
+
+pub burst-quadwords : {main : List ℕ} {limit a count due : ℕ} {s t : WordsResult} (mem code : List ℕ) {log log′ : List ℕ} {r : QuadwordsResult} {rest : Waiting} (hl i : Bool)
+    → Going limit a count s → s .unit .waiting ≡ directs hl due i
+    → Quadwords main (a + 4 * s .words) due (count - s .words) (limit - s .steps) (s .path2) (s .used) log r log′
+    → rest ≡ directs hl (due - r .taken) i
+    → t ≡ takenWith (withWaiting (s .unit) rest) (r .path) (r .used) (s .words + 4 * r .taken) (s .steps + r .taken) (s .interrupt)
+    → Bursts main limit a count s (lent mem code log) t (lent mem code log′)
+burst-quadwords {s = s} mem code {log} hl i g q x w e =
+    burst-leads g (x .few-words) (x .few-steps)
+    (rw (← ap (λ (w : Waiting). fed (withWaiting (s .unit) w) (s .path2) (s .used) (lent mem code log)) q) at (x .leads (s .unit) mem code hl i))
+    (rw w at e)

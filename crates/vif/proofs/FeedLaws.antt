@@ -202,17 +202,15 @@ module _ (main : List ℕ) (a : ℕ) (s : WordsResult) (m : Lent) (r : FedReady 
   given : o ≡ vifStep (s .unit) (s .path2) (incomingAt main (a + 4 * s .words)) (s .used) m
   given = rw g at e
 
-  pub gives-taken : {b : VifAnswer} {k : ℕ} {i : Bool} {t : WordsResult} → o .answer ≡ b → wordsTaken b ≡ k → interruptIn b ≡ i → 1 ≤ k → k ≤ 4
+  pub gives-taken : {b : VifAnswer} {k : ℕ} {i : Bool} {t : WordsResult} → o .answer ≡ b → wordsTaken b ≡ k → interruptIn b ≡ i → 1 ≤ k
       → t ≡ takenWith (o .unit) (o .path2) (o .used) (s .words + k) (s .steps + 1) i → Gives main a s m t (o .memories)
-  gives-taken {b} {k} {i} q w j l h f =
+  gives-taken {b} {k} {i} q w j l f =
       let t : k ≡ wordsTaken (o .answer) = rw q (sym w) in
       let n : interruptIn (o .answer) ≡ i = rw q j in
       rw f
       (record {
         ready = step-ready (s .unit) (s .path2) (s .used) m r next o e;
-        few-words = omega arith;
-        more-steps = omega arith;
-        few-steps = omega arith;
+        later = omega arith;
         goes = λ limit count c z. rest-goes main limit a count s m c given t (λ y. omega arith) (n ∙ z) i;
         stops = λ limit count c z. rest-interrupts main limit a count s m c given t (n ∙ z) ∙ rw z;
         refuses = λ limit count c z. absurd (omega arith);
@@ -224,9 +222,7 @@ module _ (main : List ℕ) (a : ℕ) (s : WordsResult) (m : Lent) (r : FedReady 
       let u : o .memories ≡ m = untaken (fedIn s m) r next e z in
       record {
         ready = rw u r;
-        few-words = omega arith;
-        more-steps = omega arith;
-        few-steps = omega arith;
+        later = omega arith;
         goes = λ limit count c y. rw u;
         stops = λ limit count c y. absurd (let h : _≡_ {A = ℕ} 0 1 = cc (c .quiet) in omega arith);
         refuses = λ limit count c y. rest-refused main limit a count s m c given z r;

@@ -5,16 +5,20 @@ use mathlib.Core.List.{List}
 use mathlib.Core.Path.{_≡_}
 use lib.ListN.{length}
 use Rattle.gif.specs.declared.Path.{Path}
+use Rattle.gif.specs.declared.QuadwordsResult.{QuadwordsResult}
 use Rattle.gif.specs.Log.{logRefused}
 use Rattle.gif.specs.Range.{pathInRange}
 use Rattle.unpack.specs.declared.Format.{Format}
 use Rattle.unpack.specs.declared.Unpacking.{Unpacking}
 use Rattle.unpack.specs.Step.{acceptable}
+use Rattle.vif.specs.declared.Waiting.{Waiting}
+use Rattle.vif.specs.declared.Waiting.the-variants.{DirectDue, DirecthlDue}
 use Rattle.vif.specs.declared.Vif.{Vif}
 use Rattle.vif.specs.declared.WordsResult.{WordsResult}
+use Rattle.vif.specs.Setters.{withWaiting}
 use Rattle.vif.specs.Payload.{writeRegisters}
 use Rattle.vif.specs.Range.{unitInRange}
-use Rattle.vif.specs.Step.{Lent}
+use Rattle.vif.specs.Step.{Lent, lent}
 use Rattle.vif.specs.Feeds.{Fed, fed}
 use Rattle.vif.specs.Feed.{FedOn, fedOn, fedOnBy, feedsOf}
 
@@ -48,6 +52,20 @@ pub record Leads (main : List ℕ) (a k n : ℕ) (x y : Fed) : Type 0 where
   pub goes : (l c : ℕ) → feedsOf main (n + l) a (k + c) x ≡ plus k n (feedsOf main l (a + 4 * k) c y)
   pub stays : FedReady x → FedReady y
 
+-- a DIRECT that waits, or where `hl` says so a DIRECTHL
+abbrev pub directs : Bool → ℕ → Bool → Waiting
+directs true due i = DirecthlDue due i
+directs false due i = DirectDue due i
+
+-- quadwords that path 2 takes, while so many are due and so many words and steps are left: not the last of them
+pub record Quadwords (main : List ℕ) (a due words steps : ℕ) (p : Path) (used : ℕ) (log : List ℕ) (r : QuadwordsResult) (log′ : List ℕ) : Type 0 where
+  pub few : r .taken < due
+  pub few-words : 4 * r .taken < words
+  pub few-steps : r .taken < steps
+  pub leads : (v : Vif) (mem code : List ℕ) (hl i : Bool)
+      → Leads main a (4 * r .taken) (r .taken) (fed (withWaiting v (directs hl due i)) p used (lent mem code log))
+      (fed (withWaiting v (directs hl (due - r .taken) i)) (r .path) (r .used) (lent mem code log′))
+
 -- the unit, path 2, the entries used and the memories, with the words of s taken
 abbrev pub fedIn : WordsResult → Lent → Fed
 fedIn s m = fed (s .unit) (s .path2) (s .used) m
@@ -74,9 +92,7 @@ pub record Bursts (main : List ℕ) (limit a count : ℕ) (s : WordsResult) (m :
 -- a step more, from s to t; one that is refused changes nothing
 pub record Gives (main : List ℕ) (a : ℕ) (s : WordsResult) (m : Lent) (t : WordsResult) (m′ : Lent) : Type 0 where
   pub ready : FedReady (fedIn t m′)
-  pub few-words : t .words ≤ s .words + 4
-  pub more-steps : s .steps ≤ t .steps
-  pub few-steps : t .steps ≤ s .steps + 1
+  pub later : s .steps ≤ t .steps
   pub goes : (limit count : ℕ) → Going limit a count s → t .interrupt ≡ false → restOf main limit a count s m ≡ restOf main limit a count t m′
   pub stops : (limit count : ℕ) → Going limit a count s → t .interrupt ≡ true → restOf main limit a count s m ≡ fedOnBy t m′
   pub refuses : (limit count : ℕ) → Going limit a count s → t .steps ≡ s .steps → restOf main limit a count s m ≡ fedOnBy t m′

@@ -5,22 +5,47 @@ use super::WordsResult;
 use super::mpg::store_mpg;
 use super::registers::with_row;
 use super::registers::with_waiting;
+use super::step::direct_rest;
+use super::step::directhl_rest;
 use super::step::held;
 use super::step::write_registers;
 use fields::word_at;
+use gif::Path;
+use gif::QuadwordsResult;
 use unpack::Format;
 use unpack::Unpacking;
 ghost use mathlib.Core.Path.{_≡_};
 ghost use mathlib.Core.Bool.{true};
 ghost use mathlib.Core.List.{List};
-ghost use Prim.Native.Nat.{ℕ, _+_, _*_, _^_, _<_, _≤_};
+ghost use Prim.Native.Nat.{ℕ, _+_, _*_, _-_, _%_, _^_, _<_, _≤_};
 ghost use lib.ListN.{length};
 ghost use Rattle.gif.specs.declared.Path.{Path as PathT};
 ghost use Rattle.vif.specs.declared.Waiting.the-variants.{MpgDue, UnpackDue};
+ghost use Rattle.vif.specs.Setters.{withWaiting};
 ghost use Rattle.vif.specs.Range.{unitInRange};
 ghost use Rattle.vif.specs.Step.{lent};
 ghost use Rattle.vif.specs.Feeds.{fed};
-ghost use Rattle.vif.specs.Inner.{UnpackReady, Leads, Going, Bursts, takenWith};
+ghost use Rattle.vif.specs.Inner.{UnpackReady, Leads, Quadwords, Going, Bursts, takenWith};
+
+pub(crate) fn taken(
+    unit: Vif,
+    path2: Path,
+    used: u64,
+    words: u32,
+    steps: u64,
+    interrupt: bool,
+) -> WordsResult
+    ensures { λ r. ⌜ r ≡ takenWith unit path2 used words steps interrupt ⌝ }
+{
+    WordsResult {
+        unit,
+        path2,
+        used,
+        words,
+        steps,
+        interrupt,
+    }
+}
 
 fn fewer(due: u32, words: u32) -> u32
     requires { ⌜ (1 ≤ due) × (1 ≤ words) ⌝ }
@@ -39,6 +64,16 @@ fn at_once(due: u32, words: u32, steps: u64) -> u32
         return n;
     }
     (steps - 1) as u32
+}
+
+fn quadwords_at_once(due: u32, a: u32, words: u32, steps: u64) -> u32
+    requires { ⌜ (1 ≤ due) × (1 ≤ words) × (words ≤ 1048576) × (1 ≤ steps) ⌝ }
+    ensures { λ r. ⌜ (r < due) × (4 * r < words) × (r < steps) × ((r ≡ 0 → ⊥) → a % 16 ≡ 0) ⌝ }
+{
+    if a % 16 != 0 {
+        return 0;
+    }
+    at_once(due, (words + 3) / 4, steps)
 }
 
 // n payload words of UNPACK. Path 2 and the other memories are any.
@@ -99,20 +134,43 @@ fn mpg_words(
     )
 }
 
+// Quadwords of DIRECT or DIRECTHL, up to the first that path 2 refuses.
+fn quadwords(
+    s: WordsResult,
+    due: u32,
+    main: &[u8],
+    a: u32,
+    count: u32,
+    limit: u64,
+    log: &mut [u64],
+) -> QuadwordsResult
+    requires { ⌜ (1 ≤ due) × Going limit a count s ⌝ }
+    ensures { λ r. ⌜ Quadwords (now (main .entry)) (a + 4 * s .words) due (count - s .words) (limit - s .steps) (s .path2) (s .used) (now (log .entry)) r (now (log .exit)) ⌝ }
+{
+    let path2 = s.path2;
+    let at = a + 4 * s.words;
+    let n = quadwords_at_once(due, at, count - s.words, limit - s.steps);
+    gif::take_quadwords(path2, main, at, n, log, s.used)
+}
+
+// The result of s with quadwords after it; `rest` is what waits then.
+fn with_quadwords(s: WordsResult, r: QuadwordsResult, rest: Waiting) -> WordsResult
+    requires { ⌜ (s .words + 4 * r .taken < 2 ^ 32) × (s .steps + r .taken < 2 ^ 64) ⌝ }
+    ensures { λ t. ⌜ t ≡ takenWith (withWaiting (s .unit) rest) (r .path) (r .used) (s .words + 4 * r .taken) (s .steps + r .taken) (s .interrupt) ⌝ }
+{
+    let unit = with_waiting(s.unit, rest);
+    let words = s.words + 4 * r.taken;
+    let steps = s.steps + r.taken as u64;
+    taken(unit, r.path, r.used, words, steps, s.interrupt)
+}
+
 // The result of s with a burst after it: the unit that it left, and so many words, each a step.
 fn with_words(s: WordsResult, unit: Vif, words: u32) -> WordsResult
     requires { ⌜ (s .words + words < 2 ^ 32) × (s .steps + words < 2 ^ 64) ⌝ }
     ensures { λ r. ⌜ r ≡ takenWith unit (s .path2) (s .used) (s .words + words) (s .steps + words) (s .interrupt) ⌝ }
 {
-    let path2 = s.path2;
-    WordsResult {
-        unit,
-        path2,
-        used: s.used,
-        words: s.words + words,
-        steps: s.steps + words as u64,
-        interrupt: s.interrupt,
-    }
+    let steps = s.steps + words as u64;
+    taken(unit, s.path2, s.used, s.words + words, steps, s.interrupt)
 }
 
 // Payload words of UNPACK.
@@ -173,9 +231,10 @@ pub(crate) fn burst(
     limit: u64,
     data: &mut [u32],
     code: &mut [u8],
+    log: &mut [u64],
 ) -> WordsResult
     requires { ⌜ (unitInRange (s .unit) ≡ true) × (length (now «data») ≡ 4096) × (length (now code) ≡ 16384) × Going limit a count s ⌝ }
-    ensures { λ r. ⌜ ((log : List ℕ) → Bursts (now (main .entry)) limit a count s (lent (now («data» .entry)) (now (code .entry)) log) r (lent (now («data» .exit)) (now (code .exit)) log)) ⌝ }
+    ensures { λ r. ⌜ Bursts (now (main .entry)) limit a count s (lent (now («data» .entry)) (now (code .entry)) (now (log .entry))) r (lent (now («data» .exit)) (now (code .exit)) (now (log .exit))) ⌝ }
 {
     let unit = s.unit;
     let waiting = unit.waiting;
@@ -185,8 +244,14 @@ pub(crate) fn burst(
         Waiting::RowDue { .. } => s,
         Waiting::ColDue { .. } => s,
         Waiting::MpgDue { .. } => mpg_burst(s, main, a, count, limit, code),
-        Waiting::DirectDue { .. } => s,
-        Waiting::DirecthlDue { .. } => s,
+        Waiting::DirectDue { due, interrupt } => {
+            let r = quadwords(s, due, main, a, count, limit, log);
+            with_quadwords(s, r, direct_rest(due, r.taken, interrupt))
+        }
+        Waiting::DirecthlDue { due, interrupt } => {
+            let r = quadwords(s, due, main, a, count, limit, log);
+            with_quadwords(s, r, directhl_rest(due, r.taken, interrupt))
+        }
         Waiting::UnpackDue(f, u) => unpack_burst(s, f, u, main, a, count, limit, data),
     }
 }

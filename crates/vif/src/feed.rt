@@ -3,6 +3,7 @@ use super::Vif;
 use super::VifAnswer;
 use super::WordsResult;
 use super::bursts::burst;
+use super::bursts::taken;
 use super::step::in_range;
 use super::step::step;
 use super::words::incoming_at;
@@ -13,20 +14,7 @@ ghost use Prim.Native.Nat.{_+_, _*_, _^_, _<_, _≤_};
 ghost use Rattle.vif.specs.Step.{lent};
 ghost use Rattle.vif.specs.Feeds.{fed};
 ghost use Rattle.vif.specs.Feed.{fedOnBy, feedsOf, wordsInside, takesSteps, feedOf};
-ghost use Rattle.vif.specs.Inner.{StepReady, FedReady, fedIn, Gives, takenWith};
-
-fn taken(unit: Vif, path2: Path, used: u64, words: u32, steps: u64, interrupt: bool) -> WordsResult
-    ensures { λ r. ⌜ r ≡ takenWith unit path2 used words steps interrupt ⌝ }
-{
-    WordsResult {
-        unit,
-        path2,
-        used,
-        words,
-        steps,
-        interrupt,
-    }
-}
+ghost use Rattle.vif.specs.Inner.{StepReady, FedReady, fedIn, Gives};
 
 // One step more; one that is refused leaves all as it was.
 fn give_word(
@@ -78,7 +66,7 @@ fn give_words(
         if s.words >= count {
             return s;
         }
-        let b = burst(s, main, a, count, limit, data, code);
+        let b = burst(s, main, a, count, limit, data, code, log);
         s = give_word(b, main, a, data, code, log);
         if s.interrupt {
             return s;

@@ -185,24 +185,24 @@ fn mpg_step(
     )
 }
 
-// What waits after a quadword of DIRECT.
-fn direct_rest(due: u32, interrupt: bool) -> Waiting
-    requires { ⌜ 1 ≤ due ⌝ }
-    ensures { λ r. ⌜ r ≡ DirectDue (due - 1) interrupt ⌝ }
+// What waits after n quadwords of DIRECT.
+pub(crate) fn direct_rest(due: u32, n: u32, interrupt: bool) -> Waiting
+    requires { ⌜ n ≤ due ⌝ }
+    ensures { λ r. ⌜ r ≡ DirectDue (due - n) interrupt ⌝ }
 {
     Waiting::DirectDue {
-        due: due - 1,
+        due: due - n,
         interrupt,
     }
 }
 
-// What waits after a quadword of DIRECTHL.
-fn directhl_rest(due: u32, interrupt: bool) -> Waiting
-    requires { ⌜ 1 ≤ due ⌝ }
-    ensures { λ r. ⌜ r ≡ DirecthlDue (due - 1) interrupt ⌝ }
+// What waits after n quadwords of DIRECTHL.
+pub(crate) fn directhl_rest(due: u32, n: u32, interrupt: bool) -> Waiting
+    requires { ⌜ n ≤ due ⌝ }
+    ensures { λ r. ⌜ r ≡ DirecthlDue (due - n) interrupt ⌝ }
 {
     Waiting::DirecthlDue {
-        due: due - 1,
+        due: due - n,
         interrupt,
     }
 }
@@ -234,10 +234,19 @@ pub(crate) fn step(
             interrupt: i,
         } => mpg_step(address, count, due, i, word, unit, path2, code, used),
         Waiting::DirectDue { due, interrupt: i } => {
-            direct(next, unit, path2, due, i, direct_rest(due, i), log, used)
+            direct(next, unit, path2, due, i, direct_rest(due, 1, i), log, used)
         }
         Waiting::DirecthlDue { due, interrupt: i } => {
-            direct(next, unit, path2, due, i, directhl_rest(due, i), log, used)
+            direct(
+                next,
+                unit,
+                path2,
+                due,
+                i,
+                directhl_rest(due, 1, i),
+                log,
+                used,
+            )
         }
         Waiting::UnpackDue(f, u) => unpack_word(f, u, word, unit, path2, data, used),
     }

@@ -1,6 +1,6 @@
 use native.Mathlib.Omega.{arith}
 use Rattle.vif.proofs.RangeLaws.{mpg-due}
-use Rattle.vif.proofs.BurstLaws.{burst-none, burst-words}
+use Rattle.vif.proofs.BurstLaws.{burst-none, burst-leads}
 use borrow.Author.Needs.{needs}
 use Rattle.vif.proofs.bursts.mpg_burst.Statement.{statement}
 use Rattle.vif.proofs.bursts.mpg_burst.Tie as tie
@@ -60,7 +60,7 @@ same-length c = search needs
 
 -- src/bursts.rt:139:1
 returns-2 : tie.Need-returns-2
-returns-2 c = λ mem log. burst-words (c .before .before .before .before .before .before .before .before .before .before .before .before .before .before .before .pre .2) (c .before .before .before .before .before .before .at-once .ensures .1) (c .before .before .before .before .before .before .at-once .ensures .2) (c .before .before .before .mpg-words .ensures _ _ mem log) (c .with-words .ensures)
+returns-2 c = λ mem log. burst-leads (c .before .before .before .before .before .before .before .before .before .before .before .before .before .before .before .pre .2) (c .before .before .before .before .before .before .at-once .ensures .1) (c .before .before .before .before .before .before .at-once .ensures .2) (c .before .before .before .mpg-words .ensures _ _ mem log) (c .with-words .ensures)
 
 pub mpg-burst-spec : {M : Type 1} → statement M
 mpg-burst-spec =

@@ -1,5 +1,5 @@
 use native.Mathlib.Omega.{arith}
-use Rattle.vif.proofs.BurstLaws.{burst-words}
+use Rattle.vif.proofs.BurstLaws.{burst-leads}
 use borrow.Author.Needs.{needs}
 use Rattle.vif.proofs.bursts.unpack_burst.Statement.{statement}
 use Rattle.vif.proofs.bursts.unpack_burst.Tie as tie
@@ -47,7 +47,7 @@ same-length c = search needs
 
 -- src/bursts.rt:119:1
 returns : tie.Need-returns
-returns c = λ code log. burst-words (c .before .before .before .before .before .before .before .before .before .before .before .before .pre .2) (c .before .before .before .before .before .before .at-once .ensures .1) (c .before .before .before .before .before .before .at-once .ensures .2) (c .before .before .before .unpack-words .ensures _ _ code log) (c .with-words .ensures)
+returns c = λ code log. burst-leads (c .before .before .before .before .before .before .before .before .before .before .before .before .pre .2) (c .before .before .before .before .before .before .at-once .ensures .1) (c .before .before .before .before .before .before .at-once .ensures .2) (c .before .before .before .unpack-words .ensures _ _ code log) (c .with-words .ensures)
 
 pub unpack-burst-spec : {M : Type 1} → statement M
 unpack-burst-spec =

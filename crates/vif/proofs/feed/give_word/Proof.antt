@@ -6,7 +6,7 @@ use Rattle.vif.proofs.feed.give_word.Statement.{statement}
 use Rattle.vif.proofs.feed.give_word.Tie as tie
 use Rattle.vif.proofs.feed.give_word.Reads as reads
 use Rattle.vif.proofs.feed.give_word.Lts as lts
-use Rattle.vif.proofs.feed.taken.Reads as taken-reads
+use Rattle.vif.proofs.bursts.taken.Reads as taken-reads
 use Rattle.vif.proofs.step.step.Reads as step-reads
 use Rattle.vif.proofs.words.incoming_at.Reads as incoming-at-reads
 
@@ -77,7 +77,7 @@ same-length-3 c = search needs
 -- src/feed.rt:32:1
 returns : tie.Need-returns
 returns c =
-    gives-taken _ _ _ _ (c .before .before .before .before .before .before .before .before .before .before .before .before .before .before .before .before .before .before .before .before .before .before .before .before .before .before .pre .0) (c .before .before .before .before .before .before .before .before .before .before .before .before .before .before .before .before .before .before .incoming-at .ensures) (c .before .before .before .before .before .before .before .before .before .before .before .before .before .before .step .ensures) (c .before .before .before .before .answer .given .1) refl refl (omega arith) (omega arith)
+    gives-taken _ _ _ _ (c .before .before .before .before .before .before .before .before .before .before .before .before .before .before .before .before .before .before .before .before .before .before .before .before .before .before .pre .0) (c .before .before .before .before .before .before .before .before .before .before .before .before .before .before .before .before .before .before .incoming-at .ensures) (c .before .before .before .before .before .before .before .before .before .before .before .before .before .before .step .ensures) (c .before .before .before .before .answer .given .1) refl refl (omega arith)
     (c .taken .ensures)
 
 -- src/feed.rt:32:1
@@ -95,7 +95,7 @@ same-length-6 c = search needs
 -- src/feed.rt:32:1
 returns-2 : tie.Need-returns-2
 returns-2 c =
-    gives-taken _ _ _ _ (c .before .before .before .before .before .before .before .before .before .before .before .before .before .before .before .before .before .before .before .before .before .before .before .before .before .before .pre .0) (c .before .before .before .before .before .before .before .before .before .before .before .before .before .before .before .before .before .before .incoming-at .ensures) (c .before .before .before .before .before .before .before .before .before .before .before .before .before .before .step .ensures) (c .before .before .before .before .answer2 .given .1) refl refl (omega arith) (omega arith)
+    gives-taken _ _ _ _ (c .before .before .before .before .before .before .before .before .before .before .before .before .before .before .before .before .before .before .before .before .before .before .before .before .before .before .pre .0) (c .before .before .before .before .before .before .before .before .before .before .before .before .before .before .before .before .before .before .incoming-at .ensures) (c .before .before .before .before .before .before .before .before .before .before .before .before .before .before .step .ensures) (c .before .before .before .before .answer2 .given .1) refl refl (omega arith)
     (c .taken2 .ensures)
 
 -- src/feed.rt:32:1

@@ -1,6 +1,6 @@
 use mathlib.Core.Path.{_≡_, refl, sym, _∙_}
 use mathlib.Core.Bool.{false}
-use Prim.Native.Nat.{_+_, _-_, _≤_}
+use Prim.Native.Nat.{_-_}
 use native.Mathlib.Omega.{arith}
 use borrow.Author.Needs.{needs}
 use lib.ListN.{length}
@@ -14,14 +14,13 @@ use Rattle.vif.proofs.feed.give_words.Reads as reads
 use Rattle.vif.proofs.feed.give_words.Lts as lts
 use Rattle.vif.proofs.bursts.burst.Reads as burst-reads
 use Rattle.vif.proofs.feed.give_word.Reads as give-word-reads
-use Rattle.vif.proofs.feed.taken.Reads as taken-reads
+use Rattle.vif.proofs.bursts.taken.Reads as taken-reads
 
 abbrev Inv-loop : tie.InvT-loop
 Inv-loop main a count limit data₀ code₀ log₀ used s₀ «data» code log s =
     record {
       ready : FedReady (fedIn s (lent «data» code log));
       lengths : (length «data» ≡ length data₀) × (length code ≡ length code₀) × (length log ≡ length log₀);
-      near : s .words ≤ count + 3;
       quiet : s .interrupt ≡ false;
       same : restOf main limit a count s (lent «data» code log) ≡ feedsOf main limit a count (fedIn s₀ (lent data₀ code₀ log₀));
     }
@@ -40,7 +39,6 @@ loop-holds c =
     record {
       ready = rw e (c .before .before .before .before .before .pre .0);
       lengths = (refl, refl, refl);
-      near = rw e (omega arith);
       quiet = rw e;
       same = rest-begins _ _ _ _ (c .taken .result) _ (rw e) (rw e);
     }
@@ -80,78 +78,77 @@ returns-2 c = rest-ends _ _ _ _ _ (c .before .before .before .before .before .ta
 -- src/feed.rt:81:13
 burst-requires : tie.Need-burst-requires Inv-loop μ-loop
 burst-requires c κs =
-    let q = c .before .before .before .before .before .before .loop .inv in (
+    let q = c .before .before .before .before .before .before .before .loop .inv in (
       q .ready .ranged,
       q .ready .long,
       q .ready .wide,
-      record { near = c .before .before .before .before .before .before .before .before .before .before .before .before .pre .1; few-words = c .before .before .if2 .left; few-steps = c .before .before .before .before .if1 .left; quiet = q .quiet },
+      record { near = c .before .before .before .before .before .before .before .before .before .before .before .before .before .pre .1; few-words = c .before .before .before .if2 .left; few-steps = c .before .before .before .before .before .if1 .left; quiet = q .quiet },
     )
 
 -- src/feed.rt:82:9
 give-word-requires : tie.Need-give-word-requires Inv-loop μ-loop
 give-word-requires c κs =
-    let u = c .before .before .before .before .before .before .before .burst .ensures (c .before .before .before .before .before .before .before .before .before .before .before .before .before .before .loop .log) in
+    let u = c .before .before .before .before .before .before .before .before .before .burst .ensures in
     let g = u .going in
-    let l = c .before .before .before .before .before .before .before .before .before .before .before .before .before .before .before .before .before .before .before .before .fits .limit in
-    (u .stays (c .before .before .before .before .before .before .before .before .before .before .before .before .before .before .loop .inv .ready), omega arith, omega arith)
+    let l = c .before .before .before .before .before .before .before .before .before .before .before .before .before .before .before .before .before .before .before .before .before .before .before .fits .limit in
+    (u .stays (c .before .before .before .before .before .before .before .before .before .before .before .before .before .before .before .before .before .loop .inv .ready), omega arith, omega arith)
 
 -- src/feed.rt:84:13
 same-length-7 : tie.Need-same-length-7 Inv-loop μ-loop
-same-length-7 c = c .before .before .before .before .before .before .before .give-word .kept .1 .1 .1 .0 ∙ c .before .before .before .before .before .before .before .before .before .before .before .before .before .before .before .burst .kept .1 .1 .1 .1 .1 .0 ∙ c .before .before .before .before .before .before .before .before .before .before .before .before .before .before .before .before .before .before .before .before .before .before .loop .inv .lengths .0
+same-length-7 c = c .before .before .before .before .before .before .before .give-word .kept .1 .1 .1 .0 ∙ c .before .before .before .before .before .before .before .before .before .before .before .before .before .before .before .before .before .burst .kept .1 .1 .1 .1 .1 .0 ∙ c .before .before .before .before .before .before .before .before .before .before .before .before .before .before .before .before .before .before .before .before .before .before .before .before .before .loop .inv .lengths .0
 
 -- src/feed.rt:84:13
 same-length-8 : tie.Need-same-length-8 Inv-loop μ-loop
-same-length-8 c = c .before .before .before .before .before .before .before .give-word .kept .1 .1 .1 .1 .0 ∙ c .before .before .before .before .before .before .before .before .before .before .before .before .before .before .before .burst .kept .1 .1 .1 .1 .1 .1 .0 ∙ c .before .before .before .before .before .before .before .before .before .before .before .before .before .before .before .before .before .before .before .before .before .before .loop .inv .lengths .1
+same-length-8 c = c .before .before .before .before .before .before .before .give-word .kept .1 .1 .1 .1 .0 ∙ c .before .before .before .before .before .before .before .before .before .before .before .before .before .before .before .before .before .burst .kept .1 .1 .1 .1 .1 .1 .0 ∙ c .before .before .before .before .before .before .before .before .before .before .before .before .before .before .before .before .before .before .before .before .before .before .before .before .before .loop .inv .lengths .1
 
 -- src/feed.rt:84:13
 same-length-9 : tie.Need-same-length-9 Inv-loop μ-loop
-same-length-9 c = c .before .before .before .before .before .before .before .give-word .kept .1 .1 .1 .1 .1 .0 ∙ c .before .before .before .before .before .before .before .before .before .before .before .before .before .before .before .before .before .before .before .before .before .before .loop .inv .lengths .2
+same-length-9 c = c .before .before .before .before .before .before .before .give-word .kept .1 .1 .1 .1 .1 .0 ∙ c .before .before .before .before .before .before .before .before .before .before .before .before .before .before .before .before .before .burst .kept .1 .1 .1 .1 .1 .1 .1 .0 ∙ c .before .before .before .before .before .before .before .before .before .before .before .before .before .before .before .before .before .before .before .before .before .before .before .before .before .loop .inv .lengths .2
 
 -- src/feed.rt:84:13
 returns-3 : tie.Need-returns-3 Inv-loop μ-loop
 returns-3 c =
-    let u = c .before .before .before .before .before .before .before .before .before .before .before .before .before .before .before .burst .ensures (c .before .before .before .before .before .before .before .before .before .before .before .before .before .before .before .before .before .before .before .before .before .before .loop .log) in
-    rest-ends _ _ _ _ _ (c .before .before .before .before .before .before .before .before .before .before .before .before .before .before .before .before .before .before .before .before .before .before .before .taken .ensures) (c .before .before .before .before .before .before .before .before .before .before .before .before .before .before .before .before .before .before .before .before .before .before .loop .inv .same) (u .same ∙ c .before .before .before .before .before .before .before .give-word .ensures .stops _ _ (u .going) (c .if3 .taken))
+    let u = c .before .before .before .before .before .before .before .before .before .before .before .before .before .before .before .before .before .burst .ensures in
+    rest-ends _ _ _ _ _ (c .before .before .before .before .before .before .before .before .before .before .before .before .before .before .before .before .before .before .before .before .before .before .before .before .before .before .taken .ensures) (c .before .before .before .before .before .before .before .before .before .before .before .before .before .before .before .before .before .before .before .before .before .before .before .before .before .loop .inv .same) (u .same ∙ c .before .before .before .before .before .before .before .give-word .ensures .stops _ _ (u .going) (c .if3 .taken))
 
 -- src/feed.rt:87:13
 same-length-10 : tie.Need-same-length-10 Inv-loop μ-loop
-same-length-10 c = c .before .before .before .before .before .before .before .before .before .before .give-word .kept .1 .1 .1 .0 ∙ c .before .before .before .before .before .before .before .before .before .before .before .before .before .before .before .before .before .before .burst .kept .1 .1 .1 .1 .1 .0 ∙ c .before .before .before .before .before .before .before .before .before .before .before .before .before .before .before .before .before .before .before .before .before .before .before .before .before .loop .inv .lengths .0
+same-length-10 c = c .before .before .before .before .before .before .before .before .before .before .give-word .kept .1 .1 .1 .0 ∙ c .before .before .before .before .before .before .before .before .before .before .before .before .before .before .before .before .before .before .before .before .burst .kept .1 .1 .1 .1 .1 .0 ∙ c .before .before .before .before .before .before .before .before .before .before .before .before .before .before .before .before .before .before .before .before .before .before .before .before .before .before .before .before .loop .inv .lengths .0
 
 -- src/feed.rt:87:13
 same-length-11 : tie.Need-same-length-11 Inv-loop μ-loop
-same-length-11 c = c .before .before .before .before .before .before .before .before .before .before .give-word .kept .1 .1 .1 .1 .0 ∙ c .before .before .before .before .before .before .before .before .before .before .before .before .before .before .before .before .before .before .burst .kept .1 .1 .1 .1 .1 .1 .0 ∙ c .before .before .before .before .before .before .before .before .before .before .before .before .before .before .before .before .before .before .before .before .before .before .before .before .before .loop .inv .lengths .1
+same-length-11 c = c .before .before .before .before .before .before .before .before .before .before .give-word .kept .1 .1 .1 .1 .0 ∙ c .before .before .before .before .before .before .before .before .before .before .before .before .before .before .before .before .before .before .before .before .burst .kept .1 .1 .1 .1 .1 .1 .0 ∙ c .before .before .before .before .before .before .before .before .before .before .before .before .before .before .before .before .before .before .before .before .before .before .before .before .before .before .before .before .loop .inv .lengths .1
 
 -- src/feed.rt:87:13
 same-length-12 : tie.Need-same-length-12 Inv-loop μ-loop
-same-length-12 c = c .before .before .before .before .before .before .before .before .before .before .give-word .kept .1 .1 .1 .1 .1 .0 ∙ c .before .before .before .before .before .before .before .before .before .before .before .before .before .before .before .before .before .before .before .before .before .before .before .before .before .loop .inv .lengths .2
+same-length-12 c = c .before .before .before .before .before .before .before .before .before .before .give-word .kept .1 .1 .1 .1 .1 .0 ∙ c .before .before .before .before .before .before .before .before .before .before .before .before .before .before .before .before .before .before .before .before .burst .kept .1 .1 .1 .1 .1 .1 .1 .0 ∙ c .before .before .before .before .before .before .before .before .before .before .before .before .before .before .before .before .before .before .before .before .before .before .before .before .before .before .before .before .loop .inv .lengths .2
 
 -- src/feed.rt:87:13
 returns-4 : tie.Need-returns-4 Inv-loop μ-loop
 returns-4 c =
-    let u = c .before .before .before .before .before .before .before .before .before .before .before .before .before .before .before .before .before .before .burst .ensures (c .before .before .before .before .before .before .before .before .before .before .before .before .before .before .before .before .before .before .before .before .before .before .before .before .before .loop .log) in
-    rest-ends _ _ _ _ _ (c .before .before .before .before .before .before .before .before .before .before .before .before .before .before .before .before .before .before .before .before .before .before .before .before .before .before .taken .ensures) (c .before .before .before .before .before .before .before .before .before .before .before .before .before .before .before .before .before .before .before .before .before .before .before .before .before .loop .inv .same) (u .same ∙ c .before .before .before .before .before .before .before .before .before .before .give-word .ensures .refuses _ _ (u .going) (c .if4 .taken))
+    let u = c .before .before .before .before .before .before .before .before .before .before .before .before .before .before .before .before .before .before .before .before .burst .ensures in
+    rest-ends _ _ _ _ _ (c .before .before .before .before .before .before .before .before .before .before .before .before .before .before .before .before .before .before .before .before .before .before .before .before .before .before .before .before .before .taken .ensures) (c .before .before .before .before .before .before .before .before .before .before .before .before .before .before .before .before .before .before .before .before .before .before .before .before .before .before .before .before .loop .inv .same) (u .same ∙ c .before .before .before .before .before .before .before .before .before .before .give-word .ensures .refuses _ _ (u .going) (c .if4 .taken))
 
 -- src/feed.rt:74:5
 loop-less : tie.Need-loop-less Inv-loop μ-loop
 loop-less c =
-    let u = c .before .before .before .before .before .before .before .before .before .before .before .before .before .before .before .before .before .before .burst .ensures (c .before .before .before .before .before .before .before .before .before .before .before .before .before .before .before .before .before .before .before .before .before .before .before .before .before .loop .log) in
+    let u = c .before .before .before .before .before .before .before .before .before .before .before .before .before .before .before .before .before .before .before .before .burst .ensures in
     let g = c .before .before .before .before .before .before .before .before .before .before .give-word .ensures in
-    let l = c .before .before .before .before .before .before .before .before .before .before .before .before .before .before .before .before .before .before .before .before .before .before .before .if1 .left in
+    let l = c .before .before .before .before .before .before .before .before .before .before .before .before .before .before .before .before .before .before .before .before .before .before .before .before .before .before .if1 .left in
     let z = c .if4 .left in
     omega arith
 
 -- src/feed.rt:74:5
 loop-again : tie.Need-loop-again Inv-loop μ-loop
 loop-again c =
-    let u = c .before .before .before .before .before .before .before .before .before .before .before .before .before .before .before .before .before .before .burst .ensures (c .before .before .before .before .before .before .before .before .before .before .before .before .before .before .before .before .before .before .before .before .before .before .before .before .before .loop .log) in
+    let u = c .before .before .before .before .before .before .before .before .before .before .before .before .before .before .before .before .before .before .before .before .burst .ensures in
     let h = u .going in
     let g = c .before .before .before .before .before .before .before .before .before .before .give-word .ensures in
     record {
       ready = g .ready;
-      lengths = (c .before .before .before .before .before .before .before .before .before .before .give-word .kept .1 .1 .1 .0 ∙ c .before .before .before .before .before .before .before .before .before .before .before .before .before .before .before .before .before .before .burst .kept .1 .1 .1 .1 .1 .0 ∙ c .before .before .before .before .before .before .before .before .before .before .before .before .before .before .before .before .before .before .before .before .before .before .before .before .before .loop .inv .lengths .0, c .before .before .before .before .before .before .before .before .before .before .give-word .kept .1 .1 .1 .1 .0 ∙ c .before .before .before .before .before .before .before .before .before .before .before .before .before .before .before .before .before .before .burst .kept .1 .1 .1 .1 .1 .1 .0 ∙ c .before .before .before .before .before .before .before .before .before .before .before .before .before .before .before .before .before .before .before .before .before .before .before .before .before .loop .inv .lengths .1, c .before .before .before .before .before .before .before .before .before .before .give-word .kept .1 .1 .1 .1 .1 .0 ∙ c .before .before .before .before .before .before .before .before .before .before .before .before .before .before .before .before .before .before .before .before .before .before .before .before .before .loop .inv .lengths .2);
-      near = omega arith;
+      lengths = (c .before .before .before .before .before .before .before .before .before .before .give-word .kept .1 .1 .1 .0 ∙ c .before .before .before .before .before .before .before .before .before .before .before .before .before .before .before .before .before .before .before .before .burst .kept .1 .1 .1 .1 .1 .0 ∙ c .before .before .before .before .before .before .before .before .before .before .before .before .before .before .before .before .before .before .before .before .before .before .before .before .before .before .before .before .loop .inv .lengths .0, c .before .before .before .before .before .before .before .before .before .before .give-word .kept .1 .1 .1 .1 .0 ∙ c .before .before .before .before .before .before .before .before .before .before .before .before .before .before .before .before .before .before .before .before .burst .kept .1 .1 .1 .1 .1 .1 .0 ∙ c .before .before .before .before .before .before .before .before .before .before .before .before .before .before .before .before .before .before .before .before .before .before .before .before .before .before .before .before .loop .inv .lengths .1, c .before .before .before .before .before .before .before .before .before .before .give-word .kept .1 .1 .1 .1 .1 .0 ∙ c .before .before .before .before .before .before .before .before .before .before .before .before .before .before .before .before .before .before .before .before .burst .kept .1 .1 .1 .1 .1 .1 .1 .0 ∙ c .before .before .before .before .before .before .before .before .before .before .before .before .before .before .before .before .before .before .before .before .before .before .before .before .before .before .before .before .loop .inv .lengths .2);
       quiet = c .before .before .before .if3 .left;
-      same = sym (u .same ∙ g .goes _ _ h (c .before .before .before .if3 .left)) ∙ c .before .before .before .before .before .before .before .before .before .before .before .before .before .before .before .before .before .before .before .before .before .before .before .before .before .loop .inv .same;
+      same = sym (u .same ∙ g .goes _ _ h (c .before .before .before .if3 .left)) ∙ c .before .before .before .before .before .before .before .before .before .before .before .before .before .before .before .before .before .before .before .before .before .before .before .before .before .before .before .before .loop .inv .same;
     }
 
 pub give-words-spec : {M : Type 1} → statement M
