@@ -98,6 +98,10 @@ impl Counts {
             let junk = write_block(&state) != case.state;
             self.add_if("state blocks with words that mean nothing", junk);
         }
+        self.add_if(
+            "state blocks with words that mean nothing, STMASK with other than one word due",
+            junk_beside_stmask(&case.state),
+        );
     }
 
     pub fn begin_run(&mut self, standing: &Standing) {
@@ -582,6 +586,15 @@ fn wrong_at_entry(before: &Block, now: &Standing) -> Vec<u32> {
         .collect()
 }
 
+/// Whether STMASK waits with other than one word due in a block that has words that mean nothing
+/// and would be a state's else.
+pub fn junk_beside_stmask(block: &Block) -> bool {
+    let mut mended = *block;
+    mended[36] = 1;
+    let junk = read_block(&mended).is_some_and(|state| write_block(&state) != mended);
+    block[34] == 1 && block[36] != 1 && junk
+}
+
 /// The fields of a state block that are out of their range, by name.
 fn state_fields(block: &Block) -> Vec<String> {
     let mut wrong: Vec<&str> = Vec::new();
@@ -713,6 +726,7 @@ const NAMES: &[&str] = &[
     "cases with main memory above 4 KiB",
     "cases with main memory not all given",
     "state blocks with words that mean nothing",
+    "state blocks with words that mean nothing, STMASK with other than one word due",
     "done",
     "done with allowance 0",
     "done where the allowance ends",

@@ -15,7 +15,7 @@ use crate::vif::{self, Code, Payload, Unit, Waiting};
 use crate::vif_cases;
 use crate::vif_generate::{
     code_word, legal_cycle, payload_word, random_code, random_mask, random_path_block,
-    random_unit_block, random_waiting_unit, stcycl, Taste as VifTaste,
+    random_unit_block, random_waiting_unit, stcycl, stmask_block, Taste as VifTaste, NOT_ONE,
 };
 
 const FILL: u64 = 0x0123_4567_89AB_CDEF;
@@ -150,6 +150,14 @@ fn fixed_cases() -> Vec<Case> {
     }
     // No calls.
     cases.push(plain_case(&reset, &end, 0, &[]));
+    // STMASK with other than one word due: refused, the block as given.
+    for due in NOT_ONE {
+        let calls = [run(NO_LIMIT), start(2, 0, 0), run(1)];
+        let mut case = plain_case(&reset, &end, 0, &calls);
+        case.state[5..7].fill(due);
+        case.state[13..45].copy_from_slice(&stmask_block(due));
+        cases.push(case);
+    }
     cases
 }
 

@@ -557,6 +557,12 @@ mod tests {
         let none = Outcome::new(&changed(|case| (case.state[3], case.state[8]) = (2, 9)));
         assert_eq!(none.ran.answer, Err((5, 0)));
         assert_eq!((none.ran.state[3], none.ran.state[8]), (2, 9));
+        for due in [0, 2, u32::MAX] {
+            let stmask = changed(|case| case.state[34..38].copy_from_slice(&[1, 0, due, 7]));
+            let none = Outcome::new(&stmask);
+            assert_eq!(none.ran.answer, Err((5, 0)));
+            assert_eq!(none.ran.state, stmask.state);
+        }
         let refused = Outcome::new(&changed(|case| (case.address, case.state[8]) = (8, 9)));
         assert_eq!(refused.ran.answer, Err((5, 0)));
         assert_eq!(refused.ran.state[8], 0);

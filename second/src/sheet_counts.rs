@@ -1,6 +1,7 @@
 //! What sheet cases reached.
 
 use crate::capture_cases::{read_block, write_block};
+use crate::capture_counts::junk_beside_stmask;
 use crate::chain::{self, State};
 use crate::gif::{self, Place};
 use crate::sheet::{self, Kind, Record, Refusal, HEADER, MARK};
@@ -234,6 +235,10 @@ impl Counts {
         if let (Some(name), None) = (names.next(), names.next()) {
             self.add(&format!("build and run: refused 5, {name}"));
         }
+        self.add_if(
+            "build and run: refused 5, words that mean nothing, STMASK with other than one word due",
+            junk_beside_stmask(&case.state),
+        );
     }
 
     fn note_no_place(&mut self, case: &Case) {
@@ -652,6 +657,7 @@ const NAMES: &[&str] = &[
     "a record refused, output empty",
     "build and run: refused 5, no state",
     "build and run: refused 5, a state out of range",
+    "build and run: refused 5, words that mean nothing, STMASK with other than one word due",
     "build and run: refused 5, address no multiple of 16",
     "build and run: refused 5, address from 2^31",
     "build and run: refused 47, address just after main memory",

@@ -13,7 +13,7 @@ use crate::sheet_random::{
     shorten_memories, CODE, DATA, GS, START,
 };
 use crate::vif::{Payload, Unit, Waiting};
-use crate::vif_generate::{code_word, random_waiting_unit};
+use crate::vif_generate::{code_word, random_waiting_unit, stmask_block, NOT_ONE};
 use crate::words::put_word;
 
 const KINDS: [u8; 4] = [DATA, CODE, GS, START];
@@ -422,8 +422,12 @@ impl Edges<'_> {
     /// State blocks in range, out of range and in no state.
     fn add_states(&mut self) {
         let blocks = field_blocks(self.random);
-        for _ in 0..FIELD_CASES {
-            let block = self.random.pick(&blocks);
+        for i in 0..FIELD_CASES {
+            let mut block = self.random.pick(&blocks);
+            // The first few with STMASK and other than one word due.
+            if let Some(&due) = NOT_ONE.get(i) {
+                block[13..45].copy_from_slice(&stmask_block(due));
+            }
             self.add_block(block);
         }
         for path_at in [45, 54] {

@@ -108,7 +108,8 @@ pub fn read_block(block: &Block) -> Option<Unit> {
                 waiting: None,
             })
         }
-        1 => Payload::Stmask,
+        // With other than one word due it exists in no unit.
+        1 if block[23] == 1 => Payload::Stmask,
         2 => Payload::Strow,
         3 => Payload::Stcol,
         4 => Payload::Mpg(Mpg {

@@ -142,6 +142,10 @@ impl Counts {
             let junk = write_block(&unit) != case.unit;
             self.add_if("unit blocks with words that mean nothing", junk);
         }
+        self.add_if(
+            "unit blocks with words that mean nothing, STMASK with other than one word due",
+            junk_beside_stmask(&case.unit),
+        );
     }
 
     /// Notes the end of a group of so many calls.
@@ -555,6 +559,15 @@ impl Counts {
     }
 }
 
+/// Whether STMASK waits with other than one word due in a block that has words that mean nothing
+/// and would be a unit's else.
+fn junk_beside_stmask(block: &Block) -> bool {
+    let mut mended = *block;
+    mended[23] = 1;
+    let junk = read_block(&mended).is_some_and(|unit| write_block(&unit) != mended);
+    block[21] == 1 && block[23] != 1 && junk
+}
+
 /// The fields of a unit block that are out of their range, by name.
 pub fn wrong_fields(block: &Block) -> Vec<String> {
     let limits = [
@@ -676,6 +689,7 @@ fn names() -> Vec<String> {
 
 const NAMES: &[&str] = &[
     "unit blocks with words that mean nothing",
+    "unit blocks with words that mean nothing, STMASK with other than one word due",
     "groups without a call",
     "groups of one call",
     "groups of 2 to 9 calls",

@@ -15,6 +15,8 @@ use crate::vif_unpack::{Format, Unpack};
 
 const IDLE: PathBlock = [0; 9];
 const FILL: u64 = 0x0123_4567_89AB_CDEF;
+/// Words due that a waiting STMASK cannot have.
+pub const NOT_ONE: [u32; 5] = [0, 2, 3, 257, u32::MAX];
 
 /// A case file of about `words` words, or more where the fixed part has more.
 pub fn generate(seed: u64, words: u64) -> Vec<u8> {
@@ -322,7 +324,28 @@ fn fixed_cases() -> Vec<Case> {
     let mut case = plain_case([0; 32], 2, 0);
     case.groups = vec![0, 3, 0];
     cases.push(case);
+    // STMASK with other than one word due: refused, both blocks as given.
+    for due in NOT_ONE {
+        let mut case = plain_case(stmask_block(due), 8, due % 4);
+        case.path[2..].fill(due);
+        let mut maker = Maker::new(case);
+        maker.words(&[0, 0x0102_0304]);
+        cases.push(maker.finish());
+        let mut case = cases.last().unwrap().clone();
+        case.data_length -= 1;
+        case.groups = vec![1, 0, 2];
+        cases.push(case);
+    }
     cases
+}
+
+/// A block in which STMASK waits with so many words due, among words that mean nothing.
+pub fn stmask_block(due: u32) -> Block {
+    let mut block = [0; 32];
+    block[21] = 1;
+    block[23] = due;
+    block[24..].fill(7);
+    block
 }
 
 fn add_edge_cases(random: &mut Random, cases: &mut Vec<Case>) {

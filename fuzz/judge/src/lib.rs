@@ -53,14 +53,9 @@ unsafe fn lent<'a, T>(start: *mut T, count: usize) -> &'a mut [T] {
     from_raw_parts_mut(start, count)
 }
 
-/// The state of a block of 63 words; none where it exists in no state. A waiting STMASK with other
-/// than one word due exists in none (docs/FORMATS.md); the second program's own reader takes it as
-/// a state out of its range, which is refused alike but written back in its plain form.
+/// The state of a block of 63 words; none where it exists in no state.
 fn read_block(block: &[u32]) -> Option<State> {
     let block: &Block = block.try_into().unwrap();
-    if block[34] == 1 && block[36] != 1 {
-        return None;
-    }
     capture_cases::read_block(block)
 }
 
