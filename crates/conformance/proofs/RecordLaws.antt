@@ -10,7 +10,6 @@ use lib.ListN.{length, getD, take, drop, length-append, length-drop}
 use lib.Seq.{sets, drop-drop, drop-append-le, take-append-le, take-add, length-take-le}
 use lib.Dec.{eqb}
 use Rattle.fields.specs.Fields.{if, quadword}
-use Rattle.fields.proofs.ChoiceLaws.{if-ind}
 use Rattle.gif.specs.declared.Path.{Path}
 use Rattle.gif.specs.declared.Place.the-variants.{Idle}
 use Rattle.gif.specs.Log.{logged, numbers}
@@ -25,6 +24,7 @@ use Rattle.vif.specs.Setters.{withCycle, withMode, withWaiting}
 use Rattle.vif.specs.Execute.{started}
 use Rattle.vif.specs.Step.{Lent, lent, wordIn}
 use Rattle.vif.specs.Feeds.{Fed, fed, Feeds, aWord, aQuadword, wordsIn, QuadwordsIn, no-quadword, one-quadword, Zeros, no-zero, one-zero}
+use Rattle.vif.proofs.BurstLaws.{incoming-word}
 use Rattle.vif.proofs.SheetLaws.{feeds-as, feeds-data, feeds-code, feeds-start, feeds-direct, feeds-entries, directWaits}
 use Rattle.chain.specs.declared.TagWords.the-variants.{Nothing as NoTagWords}
 use Rattle.chain.specs.declared.Payload.the-variants.{Nothing as NoPayload}
@@ -51,12 +51,6 @@ use Rattle.conformance.proofs.TagLaws.{IdleAt, idle-going, cnt-step}
 use Rattle.conformance.proofs.MeaningLaws.{vectors-same, instructions-same, bodyQuadword, bodyQuadwords, quadwords-length, entries-same, number-join}
 
 -- ---- what comes, as words
-
-incoming-word : (main : List ℕ) (a : ℕ) → wordIn (incomingAt main a) ≡ wordAt main a
-unfolding incomingAt
-incoming-word main a =
-    if-ind (λ (x : Incoming). wordIn x ≡ wordAt main a) _ refl
-    (if-ind (λ (x : Incoming). wordIn x ≡ wordAt main a) _ refl (if-ind (λ (x : Incoming). wordIn x ≡ wordAt main a) _ refl refl))
 
 pub incoming-words : (main : List ℕ) (k a : ℕ) → wordsIn (incomings 1 main a k) ≡ wordsFrom main a k
 unfolding incomings wordsFrom

@@ -103,8 +103,8 @@ formatExists n = leb n 15 && (not (eqb n 3) && (not (eqb n 7) && not (eqb n 11))
 unfoldable pub unpackExists : List ℕ → Bool
 unpackExists b = leb (getD b 27 0) 1 && (leb (getD b 28 0) 1 && formatExists (getD b 26 0))
 
--- "a waiting code above 7, a bit word ... above 1 where it means something": words 22 to 31 are ignored where none waits, 26 to 28 but for UNPACK. An
--- STMASK that waits has its one word due; a block with another number in word 23 is out of range, and no unit is like it
+-- "a waiting code above 7, a bit word ... above 1 where it means something, a waiting STMASK whose word 23 is not 1": words 22 to 31 are ignored where none
+-- waits, 26 to 28 but for UNPACK
 unfoldable pub waitingExists : List ℕ → Bool
 waitingExists b =
     if (eqb (getD b 21 0) 0) true

@@ -1,6 +1,6 @@
 -- One word taken by VIF1, or one quadword inside DIRECT: a step of document 01.
 use Prim.Native.Nat.{ℕ, _+_, _*_, _-_, _^_}
-use mathlib.Core.Bool.{Bool, false, _&&_}
+use mathlib.Core.Bool.{Bool, false, not, _&&_}
 use mathlib.Core.List.{List}
 use lib.ListN.{length}
 use lib.Dec.{eqb}
@@ -130,9 +130,8 @@ vifStep v p n used m = stepBy (v .waiting) v p n used m
 -- the public step, which tests its own input: 2, 3, 4, 5, else the step
 unfoldable pub takeOf : Vif → Path → Incoming → ℕ → Lent → Left
 takeOf v p n used m =
-    if (eqb (length (m .mem)) 4096)
-    (if (eqb (length (m .code)) 16384)
+    if (not (eqb (length (m .mem)) 4096)) (refused 2 v p used m)
+    (if (not (eqb (length (m .code)) 16384)) (refused 3 v p used m)
     (if (logRefused (m .log) used) (refused 4 v p used m)
-    (if (unitInRange v && pathInRange p) (vifStep v p n used m) (refused 5 v p used m)))
-    (refused 3 v p used m))
-    (refused 2 v p used m)
+    (if (not (unitInRange v && pathInRange p)) (refused 5 v p used m)
+    (vifStep v p n used m))))

@@ -60,31 +60,6 @@ fn both(a: bool, b: bool) -> bool {
     false
 }
 
-// A block that would be a unit's if its STMASK had one word due. It is out of range and no unit holds it, but it is shown like a unit's.
-fn other_stmask(block: [u32; 32]) -> bool {
-    if block[21] != 1 {
-        return false;
-    }
-    let mut one = block;
-    one[23] = 1;
-    let r = vif::unit_in_block(one);
-    r.known
-}
-
-// The words that mean nothing for an STMASK, as zero.
-fn cleared(block: [u32; 32]) -> [u32; 32] {
-    let mut b = block;
-    b[24] = 0;
-    b[25] = 0;
-    b[26] = 0;
-    b[27] = 0;
-    b[28] = 0;
-    b[29] = 0;
-    b[30] = 0;
-    b[31] = 0;
-    b
-}
-
 fn case_with(header: &[u8], known: bool, unit: [u32; 32], path: [u32; 9]) -> Case {
     Case {
         number: word_at(header, 196),
@@ -101,10 +76,6 @@ pub(crate) fn case_of(header: &[u8]) -> Case {
     let path = path_words(header);
     let r = vif::unit_in_block(unit);
     let p = path_of(path);
-    if both(other_stmask(unit), p.known) {
-        let found = p.path;
-        return case_with(header, r.known, cleared(unit), gif::path_block(found));
-    }
     case_with(header, both(r.known, p.known), unit, path)
 }
 
