@@ -5,7 +5,7 @@ use Prim.Native.Nat.{ℕ, suc, _+_, _-_, _%_, _^_, _<_, _≤_}
 use native.Mathlib.Nat.{sub-zero, zero-add}
 use native.Mathlib.Omega.{arith}
 use borrow.Author.Tests.{eq-eqb, ne-eqb}
-use Rattle.wire.specs.Words.{if, Sent, sent, sentAll}
+use Rattle.wire.specs.Words.{if, sent, sentAll}
 use Rattle.cases.specs.Changes.{differs, countFrom, counted, changeOf, changesFrom, changed}
 use Rattle.cases.proofs.Laws.{sent-append, Sending, sends-on, sends-end}
 
