@@ -1,12 +1,13 @@
 -- Changes counted and sent.
-use mathlib.Core.Path.{_≡_, refl, ap, sym, _∙_}
-use mathlib.Core.List.{List, [], _∷_, _++_}
+use mathlib.Core.Path.{_≡_, _∙_}
+use mathlib.Core.List.{List, [], _∷_}
 use Prim.Native.Nat.{ℕ, suc, _+_, _-_, _%_, _^_, _<_, _≤_}
+use native.Mathlib.Nat.{sub-zero, zero-add}
 use native.Mathlib.Omega.{arith}
 use borrow.Author.Tests.{eq-eqb, ne-eqb}
-use Rattle.wire.specs.Words.{if, Sent, sent, sentAll}
-use Rattle.cases.specs.Changes.{differs, countFrom, changeOf, changesFrom}
-use Rattle.cases.proofs.Laws.{sent-joined, sent-append}
+use Rattle.wire.specs.Words.{if, sent, sentAll}
+use Rattle.cases.specs.Changes.{differs, countFrom, counted, changeOf, changesFrom, changed}
+use Rattle.cases.proofs.Laws.{sent-append, Sending, sends-on, sends-end}
 
 -- a word sent, and then others
 pub sent-cons : (y : ℕ) (ys out : List ℕ) (at : ℕ) {x m k : ℕ} {o p : List ℕ} → x ≡ y → sent o m ≡ sentAll out at (x ∷ []) → sent p k ≡ sentAll o m ys
@@ -32,27 +33,32 @@ pub other-change : (out : List ℕ) (at i x y : ℕ) (ws : List ℕ) {o p : List
 unfolding changeOf if
 other-change out at i x y ws h e f g = rw (ne-eqb x y h) (sent-cons (i % 2 ^ 32) ws out at e f g)
 
-module _ (g h : ℕ → ℕ) (n i : ℕ) where
-  pub count-more : (c : ℕ) {x y r : ℕ} → i < n → x ≡ g i → y ≡ h i → r ≡ (c + differs x y) % 2 ^ 32
-      → (r + countFrom g h (i + 1) (n - (i + 1))) % 2 ^ 32 ≡ (c + countFrom g h i (n - i)) % 2 ^ 32
-  count-more c l p q e =
+-- a loop that counts the changes of n numbers modulo 2 ^ 32: those from number i on are left
+pub record Counting (g h : ℕ → ℕ) (n c i : ℕ) : Type 0 where
+  pub most : i ≤ n
+  pub small : c < 2 ^ 32
+  pub same : (c + countFrom g h i (n - i)) % 2 ^ 32 ≡ counted g h n
+
+module _ {g h : ℕ → ℕ} {n : ℕ} where
+  pub counts-begin : Counting g h n 0 0
+  counts-begin = record { most = omega arith; small = omega arith; same = simp (sub-zero, zero-add) }
+
+  pub counts-on : {c i x y r : ℕ} → Counting g h n c i → i < n → x ≡ g i → y ≡ h i → r ≡ (c + differs x y) % 2 ^ 32 → Counting g h n r (i + 1)
+  counts-on {c} {i} {x} {y} {r} s l p q e =
       let m : n - i ≡ suc (n - (i + 1)) = omega arith in
-      rw (m, e, p, q) (omega arith)
+      record { most = omega arith; small = omega arith; same = rw (e, p, q) (omega arith) ∙ rw m at (s .same) }
 
-  pub count-all : (c : ℕ) → n ≤ i → c < 2 ^ 32 → c ≡ (c + countFrom g h i (n - i)) % 2 ^ 32
-  count-all c l b =
+  pub counts-end : {c i : ℕ} → Counting g h n c i → n ≤ i → c ≡ counted g h n
+  counts-end {c} {i} s l =
       let m : n - i ≡ 0 = omega arith in
-      rw m (omega arith)
+      omega (arith, rw m at (s .same))
 
-  pub changes-more : (w : ℕ → List ℕ) (out : List ℕ) (at : ℕ) {x y : ℕ} {o : List ℕ} {m : ℕ} → i < n → x ≡ g i → y ≡ h i
-      → sent o m ≡ sentAll out at (changeOf i (w x) x y)
-      → sentAll o m (changesFrom w g h (i + 1) (n - (i + 1))) ≡ sentAll out at (changesFrom w g h i (n - i))
-  changes-more w out at l p q e =
-      let k : n - i ≡ suc (n - (i + 1)) = omega arith in
-      rw (k, ap (λ (s : Sent). s .out) e, ap (λ (s : Sent). s .at) e, p, q)
-      (sent-joined (changeOf i (w (g i)) (g i) (h i)) (changesFrom w g h (i + 1) (n - (i + 1))) out at)
+-- changes sent one after another
+module _ {w : ℕ → List ℕ} {g h : ℕ → ℕ} {n i : ℕ} {first : List ℕ} {from : ℕ} {out : List ℕ} {at : ℕ} (s : Sending (changesFrom w g h) n first from out at i) where
+  pub changes-on : {x y : ℕ} {o : List ℕ} {m : ℕ} → i < n → x ≡ g i → y ≡ h i → sent o m ≡ sentAll out at (changeOf i (w x) x y)
+      → Sending (changesFrom w g h) n first from o m (i + 1)
+  changes-on {x} {y} l p q e =
+      sends-on (changeOf i (w x) x y) s l (let k : n - i ≡ suc (n - (i + 1)) = omega arith in rw (k, p, q)) e
 
-  pub changes-all : (w : ℕ → List ℕ) (out : List ℕ) (at : ℕ) {s : Sent} → n ≤ i → sentAll out at (changesFrom w g h i (n - i)) ≡ s → sent out at ≡ s
-  changes-all w out at l e =
-      let m : n - i ≡ 0 = omega arith in
-      rw m at e
+  pub changes-end : n ≤ i → sent out at ≡ sentAll first from (changed w g h n)
+  changes-end l = sends-end s (let m : n - i ≡ 0 = omega arith in rw m)

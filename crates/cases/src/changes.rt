@@ -39,6 +39,47 @@ fn count_one(count: u32, x: u64, y: u64) -> u32
     std::num::wrapping_add_u32(count, 1)
 }
 
+fn count_words(memory: &[u32], before: &[u32]) -> u32
+    ensures { λ r. ⌜ r ≡ counted (numberIn (now (memory .entry))) (numberIn (now (before .entry))) (length (now (before .entry))) ⌝ }
+{
+    let mut count = 0;
+    let mut i = 0;
+    while i < before.len() {
+        count = count_one(count, word_in(memory, i) as u64, word_in(before, i) as u64);
+        i += 1;
+    }
+    count
+}
+
+fn count_bytes(memory: &[u8], before: &[u8]) -> u32
+    ensures { λ r. ⌜ r ≡ counted (byteWord (now (memory .entry))) (byteWord (now (before .entry))) (wordsIn (now (before .entry))) ⌝ }
+{
+    let words = (before.len() + 3) / 4;
+    let mut count = 0;
+    let mut k = 0;
+    while k < words {
+        count = count_one(
+            count,
+            byte_word(memory, k) as u64,
+            byte_word(before, k) as u64,
+        );
+        k += 1;
+    }
+    count
+}
+
+fn count_longs(memory: &[u64], before: &[u64]) -> u32
+    ensures { λ r. ⌜ r ≡ counted (numberIn (now (memory .entry))) (numberIn (now (before .entry))) (length (now (before .entry))) ⌝ }
+{
+    let mut count = 0;
+    let mut i = 0;
+    while i < before.len() {
+        count = count_one(count, long_in(memory, i), long_in(before, i));
+        i += 1;
+    }
+    count
+}
+
 fn emit_word_change(out: &mut [u8; 65536], at: usize, i: usize, x: u32, y: u32) -> usize
     ensures { λ r. ⌜ sent (now (out .exit)) r ≡ sentAll (now (out .entry)) at (changeOf i (one x) x y) ⌝ }
 {
@@ -59,18 +100,6 @@ fn emit_long_change(out: &mut [u8; 65536], at: usize, i: usize, x: u64, y: u64) 
     emit_long(out, n, x)
 }
 
-fn count_words(memory: &[u32], before: &[u32]) -> u32
-    ensures { λ r. ⌜ r ≡ counted (numberIn (now (memory .entry))) (numberIn (now (before .entry))) (length (now (before .entry))) ⌝ }
-{
-    let mut count = 0;
-    let mut i = 0;
-    while i < before.len() {
-        count = count_one(count, word_in(memory, i) as u64, word_in(before, i) as u64);
-        i += 1;
-    }
-    count
-}
-
 fn emit_word_changes(out: &mut [u8; 65536], at: usize, memory: &[u32], before: &[u32]) -> usize
     ensures { λ r. ⌜ sent (now (out .exit)) r ≡ sentAll (now (out .entry)) at (changed one (numberIn (now (memory .entry))) (numberIn (now (before .entry))) (length (now (before .entry)))) ⌝ }
 {
@@ -81,42 +110,6 @@ fn emit_word_changes(out: &mut [u8; 65536], at: usize, memory: &[u32], before: &
         i += 1;
     }
     n
-}
-
-fn keep_words(memory: &[u32], before: &mut [u32])
-    ensures { λ _. ⌜ now (before .exit) ≡ kept (now (memory .entry)) (now (before .entry)) ⌝ }
-{
-    let mut i = 0;
-    while i < before.len() {
-        before[i] = word_in(memory, i);
-        i += 1;
-    }
-}
-
-fn tell_word_changes(out: &mut [u8; 65536], at: usize, memory: &[u32], before: &mut [u32]) -> usize
-    ensures { λ r. ⌜ (sent (now (out .exit)) r ≡ sentAll (now (out .entry)) at (wordChanges (now (memory .entry)) (now (before .entry)))) × (now (before .exit) ≡ kept (now (memory .entry)) (now (before .entry))) ⌝ }
-{
-    let first = emit(out, at, count_words(memory, before));
-    let n = emit_word_changes(out, first, memory, before);
-    keep_words(memory, before);
-    n
-}
-
-fn count_bytes(memory: &[u8], before: &[u8]) -> u32
-    ensures { λ r. ⌜ r ≡ counted (byteWord (now (memory .entry))) (byteWord (now (before .entry))) (wordsIn (now (before .entry))) ⌝ }
-{
-    let words = (before.len() + 3) / 4;
-    let mut count = 0;
-    let mut k = 0;
-    while k < words {
-        count = count_one(
-            count,
-            byte_word(memory, k) as u64,
-            byte_word(before, k) as u64,
-        );
-        k += 1;
-    }
-    count
 }
 
 fn emit_byte_changes(out: &mut [u8; 65536], at: usize, memory: &[u8], before: &[u8]) -> usize
@@ -132,37 +125,6 @@ fn emit_byte_changes(out: &mut [u8; 65536], at: usize, memory: &[u8], before: &[
     n
 }
 
-fn keep_bytes(memory: &[u8], before: &mut [u8])
-    ensures { λ _. ⌜ now (before .exit) ≡ kept (now (memory .entry)) (now (before .entry)) ⌝ }
-{
-    let mut i = 0;
-    while i < before.len() {
-        before[i] = byte_in(memory, i);
-        i += 1;
-    }
-}
-
-fn tell_byte_changes(out: &mut [u8; 65536], at: usize, memory: &[u8], before: &mut [u8]) -> usize
-    ensures { λ r. ⌜ (sent (now (out .exit)) r ≡ sentAll (now (out .entry)) at (byteChanges (now (memory .entry)) (now (before .entry)))) × (now (before .exit) ≡ kept (now (memory .entry)) (now (before .entry))) ⌝ }
-{
-    let first = emit(out, at, count_bytes(memory, before));
-    let n = emit_byte_changes(out, first, memory, before);
-    keep_bytes(memory, before);
-    n
-}
-
-fn count_longs(memory: &[u64], before: &[u64]) -> u32
-    ensures { λ r. ⌜ r ≡ counted (numberIn (now (memory .entry))) (numberIn (now (before .entry))) (length (now (before .entry))) ⌝ }
-{
-    let mut count = 0;
-    let mut i = 0;
-    while i < before.len() {
-        count = count_one(count, long_in(memory, i), long_in(before, i));
-        i += 1;
-    }
-    count
-}
-
 fn emit_long_changes(out: &mut [u8; 65536], at: usize, memory: &[u64], before: &[u64]) -> usize
     ensures { λ r. ⌜ sent (now (out .exit)) r ≡ sentAll (now (out .entry)) at (changed two (numberIn (now (memory .entry))) (numberIn (now (before .entry))) (length (now (before .entry)))) ⌝ }
 {
@@ -173,6 +135,26 @@ fn emit_long_changes(out: &mut [u8; 65536], at: usize, memory: &[u64], before: &
         i += 1;
     }
     n
+}
+
+fn keep_words(memory: &[u32], before: &mut [u32])
+    ensures { λ _. ⌜ now (before .exit) ≡ kept (now (memory .entry)) (now (before .entry)) ⌝ }
+{
+    let mut i = 0;
+    while i < before.len() {
+        before[i] = word_in(memory, i);
+        i += 1;
+    }
+}
+
+fn keep_bytes(memory: &[u8], before: &mut [u8])
+    ensures { λ _. ⌜ now (before .exit) ≡ kept (now (memory .entry)) (now (before .entry)) ⌝ }
+{
+    let mut i = 0;
+    while i < before.len() {
+        before[i] = byte_in(memory, i);
+        i += 1;
+    }
 }
 
 fn keep_longs(memory: &[u64], before: &mut [u64])
@@ -214,7 +196,11 @@ pub fn tell_changes(
     ensures { λ r. ⌜ sent (now (out .exit)) r ≡ sentAll (now (out .entry)) at (wordChanges (now («data» .entry)) (now («data_before» .entry)) ++ (byteChanges (now (code .entry)) (now («code_before» .entry)) ++ longChanges (now (log .entry)) (now («log_before» .entry)))) ⌝ }
     ensures { λ _. ⌜ (now («data_before» .exit) ≡ kept (now («data» .entry)) (now («data_before» .entry))) × (now («code_before» .exit) ≡ kept (now (code .entry)) (now («code_before» .entry))) × (now («log_before» .exit) ≡ kept (now (log .entry)) (now («log_before» .entry))) ⌝ }
 {
-    let a = tell_word_changes(out, at, data, data_before);
-    let b = tell_byte_changes(out, a, code, code_before);
+    let words = emit(out, at, count_words(data, data_before));
+    let a = emit_word_changes(out, words, data, data_before);
+    keep_words(data, data_before);
+    let bytes = emit(out, a, count_bytes(code, code_before));
+    let b = emit_byte_changes(out, bytes, code, code_before);
+    keep_bytes(code, code_before);
     tell_long_changes(out, b, log, log_before)
 }

@@ -1,8 +1,9 @@
 -- Laws of the choice by a test, and of tests joined.
 use mathlib.Core.Path.{_≡_, refl}
-use mathlib.Core.Bool.{Bool, true, false, _&&_, _||_}
+use mathlib.Core.Bool.{Bool, true, false, not, _&&_, _||_}
 use Prim.Native.Nat.{ℕ, _<_}
 use native.Mathlib.Omega.{arith}
+use borrow.Author.Tests.{lt-ltb, le-ltb, le-leb, lt-leb, eq-eqb, ne-eqb}
 use Rattle.fields.specs.Fields.{if}
 
 -- what holds of both arms holds of the choice
@@ -38,3 +39,44 @@ or-left false b h = refl
 pub or-right : (a b : Bool) → (a || b) ≡ false → b ≡ false
 or-right true b h = absurd (let z : _≡_ {A = ℕ} 0 1 = cc in omega arith)
 or-right false b h = h
+
+-- ---- tests in turn
+
+-- the first of them fails, a later one does, or the first holds and the rest decide
+pub and-fails : (a b : Bool) → a ≡ false → false ≡ (a && b)
+and-fails a b h = rw h
+
+pub and-later : (a b : Bool) → false ≡ b → false ≡ (a && b)
+and-later true b h = h
+and-later false b h = refl
+
+pub and-holds : (a b : Bool) {r : Bool} → a ≡ true → r ≡ b → r ≡ (a && b)
+and-holds a b h e = rw h e
+
+-- the first of them holds, a later one does, or none
+pub or-holds : (a b : Bool) → a ≡ true → (a || b) ≡ true
+or-holds a b h = rw h
+
+pub or-later : (a b : Bool) → b ≡ true → (a || b) ≡ true
+or-later true b h = refl
+or-later false b h = h
+
+pub or-fails : (a b : Bool) → a ≡ false → b ≡ false → (a || b) ≡ false
+or-fails a b h e = rw (h, e)
+
+pub not-holds : (a : Bool) → a ≡ true → not a ≡ false
+not-holds a h = rw h
+
+pub not-fails : (a : Bool) → a ≡ false → not a ≡ true
+not-fails a h = rw h
+
+pub if-holds : {A : Type 0} (b : Bool) (x y : A) {r : A} → b ≡ true → r ≡ x → r ≡ if b x y
+unfolding if
+if-holds b x y h e = rw h e
+
+pub if-fails : {A : Type 0} (b : Bool) (x y : A) {r : A} → b ≡ false → r ≡ y → r ≡ if b x y
+unfolding if
+if-fails b x y h e = rw h e
+
+-- what a function that returns at each test answers, from the tests' facts
+pub ruleset in-turn = (and-fails, and-later, and-holds, or-holds, or-later, or-fails, not-holds, not-fails, if-holds, if-fails, lt-ltb, le-ltb, le-leb, lt-leb, eq-eqb, ne-eqb)

@@ -105,7 +105,7 @@ vector-stored m l q i ex ey ez ew =
     rw (ex, ey, ez, ew, e1, e2, e3)
 
 module _ (l : List ℕ) (b n j : ℕ) (h : j < n) where
-  pub vector-inside : vectorAt l (b + 16 * j) ≡ vectorOf (bytesAt l b (16 * n)) j
+  vector-inside : vectorAt l (b + 16 * j) ≡ vectorOf (bytesAt l b (16 * n)) j
   vector-inside =
       rw (
         bytes-inside l b (16 * n) (16 * j) 4 {k = b + 16 * j} (omega arith) refl,
@@ -114,7 +114,7 @@ module _ (l : List ℕ) (b n j : ℕ) (h : j < n) where
         bytes-inside l b (16 * n) (16 * j + 12) 4 {k = b + 16 * j + 12} (omega arith) (omega arith),
       )
 
-  pub instruction-inside : bytesAt l (b + 8 * j) 8 ≡ bytesAt (bytesAt l b (8 * n)) (8 * j) 8
+  instruction-inside : bytesAt l (b + 8 * j) 8 ≡ bytesAt (bytesAt l b (8 * n)) (8 * j) 8
   instruction-inside = rw (bytes-inside l b (8 * n) (8 * j) 8 {k = b + 8 * j} (omega arith) refl)
 
   pub entry-inside : {r v : ℕ} → b + 16 * n ≤ length l → r ≡ getD l (b + 16 * j + 8) 0 → v ≡ number (bytesAt l (b + 16 * j) 8)
@@ -127,6 +127,17 @@ module _ (l : List ℕ) (b n j : ℕ) (h : j < n) where
         bytes-inside l b (16 * n) (16 * j) 8 {k = b + 16 * j} (omega arith) refl,
         number-byte l (b + 16 * j + 8) (omega arith),
       )
+
+-- ---- the next item stored
+
+module _ (l : List ℕ) (b a : ℕ) {n j : ℕ} {first m m′ : List ℕ} where
+  pub vector-on : Going (putVectors a (bytesAt l b (16 * n))) n first j m → j < n → m′ ≡ sets m (4 * ((a + j) % 1024)) (vectorAt l (b + 16 * j))
+      → Going (putVectors a (bytesAt l b (16 * n))) n first (j + 1) m′
+  vector-on g h e = turns-on (vector-turns _ _) g h e (vector-inside l b n j h)
+
+  pub instruction-on : Going (putInstructions a (bytesAt l b (8 * n))) n first j m → j < n → m′ ≡ sets m (8 * ((a + j) % 2048)) (bytesAt l (b + 8 * j) 8)
+      → Going (putInstructions a (bytesAt l b (8 * n))) n first (j + 1) m′
+  instruction-on g h e = turns-on (instruction-turns _ _) g h e (instruction-inside l b n j h)
 
 -- ---- how many entries
 

@@ -1,78 +1,23 @@
-use mathlib.Core.Path.{_≡_, refl, _∙_}
-use Prim.Native.Nat.{_-_, _≤_}
-use native.Mathlib.Nat.{sub-zero}
-use native.Mathlib.Omega.{arith}
-use borrow.Author.Needs.{needs}
-use Rattle.wire.specs.Words.{sentAll}
+use Prim.Native.Nat.{_-_}
 use lib.ListN.{length}
-use Rattle.cases.specs.Changes.{changesFrom, changed, one, numberIn}
-use Rattle.cases.proofs.ChangeLaws.{changes-more, changes-all}
+use Rattle.cases.specs.Changes.{changesFrom, one, numberIn}
+use Rattle.cases.proofs.Laws.{Sending, sends-begin}
+use Rattle.cases.proofs.ChangeLaws.{changes-on, changes-end}
 use borrow.Author.Needs.{needs}
 use Rattle.cases.proofs.changes.emit_word_changes.Statement.{statement}
 use Rattle.cases.proofs.changes.emit_word_changes.Tie as tie
-use Rattle.cases.proofs.changes.emit_word_changes.Reads as reads
-use Rattle.cases.proofs.changes.emit_word_changes.Lts as lts
-use Rattle.cases.proofs.changes.emit_word_change.Reads as emit-word-change-reads
-use Rattle.cases.proofs.changes.word_in.Reads as word-in-reads
-
-abbrev Inv-loop : tie.InvT-loop
-Inv-loop out₀ at memory before n₀ i₀ out n i =
-    record {
-      within : i ≤ length before;
-      same : sentAll out n (changesFrom one (numberIn memory) (numberIn before) i (length before - i)) ≡ sentAll out₀ at (changed one (numberIn memory) (numberIn before) (length before));
-    }
-
-abbrev μ-loop : tie.MeasureT-loop
-μ-loop out₀ at memory before n₀ i₀ out n i = length before - i
-
--- src/changes.rt:79:5
-loop-holds : tie.Need-loop-holds Inv-loop μ-loop
-loop-holds c = record { within = omega arith; same = simp sub-zero }
-
--- src/changes.rt:80:41
-word-in-requires : tie.Need-word-in-requires Inv-loop μ-loop
-word-in-requires c κs = search needs
-
--- src/changes.rt:80:61
-word-in-requires-2 : tie.Need-word-in-requires-2 Inv-loop μ-loop
-word-in-requires-2 c κs = search needs
-
--- src/changes.rt:80:9
-emit-word-change-requires : tie.Need-emit-word-change-requires Inv-loop μ-loop
-emit-word-change-requires c κs = search needs
-
--- src/changes.rt:81:9
-add-i : tie.Need-add-i Inv-loop μ-loop
-add-i c = search needs
-
--- src/changes.rt:79:5
-loop-less : tie.Need-loop-less Inv-loop μ-loop
-loop-less c = search needs
-
--- src/changes.rt:79:5
-loop-again : tie.Need-loop-again Inv-loop μ-loop
-loop-again c =
-    let l = c .before .before .before .before .before .loop .inv in
-    record {
-      within = omega arith;
-      same = changes-more _ _ _ _ one _ _ (c .before .before .before .before .loop-test .taken) (c .before .before .word-in .ensures) (c .before .word-in2 .ensures) (c .emit-word-change .ensures) ∙ l .same;
-    }
-
--- src/changes.rt:74:1
-returns : tie.Need-returns Inv-loop μ-loop
-returns c = changes-all _ _ _ _ one _ _ (c .loop-test .left) (c .before .loop .inv .same)
 
 pub emit-word-changes-spec : {M : Type 1} → statement M
 emit-word-changes-spec =
     tie.close
     (tie.spec
-    Inv-loop
-    μ-loop
-    loop-holds
-    word-in-requires
-    word-in-requires-2
-    emit-word-change-requires
-    add-i
-    loop-less
-    loop-again
-    returns)
+    (λ first from memory before n₀ i₀ out n i. Sending (changesFrom one (numberIn memory) (numberIn before)) (length before) first from out n i)
+    (λ first from memory before n₀ i₀ out n i. length before - i)
+    (λ c. sends-begin)
+    (λ c κs. search needs)
+    (λ c κs. search needs)
+    (λ c κs. search needs)
+    (λ c. search needs)
+    (λ c. search needs)
+    (λ c. changes-on (c .before .before .before .before .before .loop .inv) (c .before .before .before .before .loop-test .taken) (c .before .before .word-in .ensures) (c .before .word-in2 .ensures) (c .emit-word-change .ensures))
+    (λ c. changes-end (c .before .loop .inv) (c .loop-test .left)))

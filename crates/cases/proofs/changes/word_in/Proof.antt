@@ -3,24 +3,12 @@ use lib.ListN.{List·getD-eq-default}
 use borrow.Author.Needs.{needs}
 use Rattle.cases.proofs.changes.word_in.Statement.{statement}
 use Rattle.cases.proofs.changes.word_in.Tie as tie
-use Rattle.cases.proofs.changes.word_in.Reads as reads
-use Rattle.cases.proofs.changes.word_in.Lts as lts
-
--- src/changes.rt:19:16
-mul-result : tie.Need-mul-result
-mul-result c = search needs
-
--- src/changes.rt:19:16
-shared-slice-read-result : tie.Need-shared-slice-read-result
-shared-slice-read-result c = search needs
-
--- src/changes.rt:19:9
-returns : tie.Need-returns
-returns c = search needs
-
--- src/changes.rt:15:1
-returns-2 : tie.Need-returns-2
-returns-2 c = sym (List·getD-eq-default (c .before .args .memory .now) 0 (c .if1 .left))
 
 pub word-in-spec : {M : Type 1} → statement M
-word-in-spec = tie.close (tie.spec mul-result shared-slice-read-result returns returns-2)
+word-in-spec =
+    tie.close
+    (tie.spec
+    (λ c. search needs)
+    (λ c. search needs)
+    (λ c. search needs)
+    (λ c. sym (List·getD-eq-default (c .before .args .memory .now) 0 (c .if1 .left))))
