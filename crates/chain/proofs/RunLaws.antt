@@ -18,7 +18,7 @@ use Rattle.chain.specs.Run.{Ran, ran, done, oneMore, afterStep, onStep, 
 
 -- a run with k steps before it
 abbrev pub plus : ℕ → Ran → Ran
-plus k r = record { answer = r .answer; after = r .after; steps = k + r .steps }
+plus k r = record { answer = r .answer; number = r .number; after = r .after; steps = k + r .steps }
 
 by-answer : {a b : StepAnswer} → a ≡ b → (f : State → Lent → Ran) (x : Stepped) (s : State) (m : Lent) {y : Ran} → afterStep f b x s m ≡ y → afterStep f a x s m ≡ y
 by-answer q f x s m h = rw q h

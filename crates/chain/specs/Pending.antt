@@ -2,7 +2,6 @@
 -- memory when taken."
 use Prim.Native.Nat.{ℕ, _+_, _*_, _-_, _/_, _%_}
 use mathlib.Core.Bool.{Bool, true, false, _&&_}
-use mathlib.Core.List.{List}
 use lib.Dec.{eqb, leb}
 use Rattle.fields.specs.Fields.{if}
 use Rattle.chain.specs.declared.TagWords.{TagWords}

@@ -24,14 +24,15 @@ numberOf Allowance = 90
 numberOf Interrupt = 91
 numberOf (Refused n) = n
 
--- what a run leaves: the answer, the state and the memories, and the step count
+-- what a run leaves: the answer and its number, the state and the memories, and the step count
 pub record Ran : Type 0 where
   pub answer : Answer
+  pub number : ℕ
   pub after : Machine
   pub steps : ℕ
 
 abbrev pub ran : Answer → State → ℕ → Lent → Ran
-ran a s k m = record { answer = a; after = machine s m; steps = k }
+ran a s k m = record { answer = a; number = numberOf a; after = machine s m; steps = k }
 
 abbrev pub leftBy : RunResult → Lent → Ran
 leftBy r m = ran (r .answer) (r .state) (r .steps) m
@@ -42,7 +43,7 @@ done s = s .ended && nothingPending s
 
 -- a run counted on the way back: one step more
 abbrev pub oneMore : Ran → Ran
-oneMore r = record { answer = r .answer; after = r .after; steps = suc (r .steps) }
+oneMore r = record { answer = r .answer; number = r .number; after = r .after; steps = suc (r .steps) }
 
 -- by a step's answer; f runs on
 abbrev pub afterStep : (State → Lent → Ran) → StepAnswer → Stepped → State → Lent → Ran
@@ -58,9 +59,10 @@ unfoldable pub stepsOf : List ℕ → ℕ → State → Lent → Ran
 stepsOf main zero s m = if (done s) (ran Done s 0 m) (ran Allowance s 0 m)
 stepsOf main (suc n) s m = if (done s) (ran Done s 0 m) (onStep (stepsOf main n) (stepOf main s m) s m)
 
--- a run: the entry tests, then the steps
+-- by the entry refusal n, 0 for none
 abbrev pub entered : ℕ → List ℕ → ℕ → State → Lent → Ran
 entered n main allowance s m = if (eqb n 0) (stepsOf main allowance s m) (ran (Refused n) s 0 m)
 
+-- a run: the entry tests, then the steps
 unfoldable pub runOf : List ℕ → ℕ → State → Lent → Ran
 runOf main allowance s m = entered (entryRefusal main m s) main allowance s m

@@ -1,6 +1,6 @@
 -- A step: document 01's "A step is one of: a tag read; one word taken by VIF1; one quadword taken by the GIF (channel 2, or inside DIRECT)."
-use Prim.Native.Nat.{ℕ, _+_, _*_, _-_, _/_, _%_}
-use mathlib.Core.Bool.{Bool, false}
+use Prim.Native.Nat.{ℕ}
+use mathlib.Core.Bool.{false}
 use mathlib.Core.List.{List}
 use lib.Dec.{eqb}
 use Rattle.fields.specs.Fields.{if}

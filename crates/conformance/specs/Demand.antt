@@ -1,8 +1,8 @@
 -- Demand 3: a built chain anywhere in main memory, started and run from any acceptable saved state, ends with done in exactly the sheet's steps and leaves
 -- exactly the sheet's plain meaning.
-use Prim.Native.Nat.{ℕ, zero, suc, _+_, _*_, _%_, _<_, _≤_}
-use mathlib.Core.Bool.{true, false}
-use mathlib.Core.List.{List, [], _∷_, _++_}
+use Prim.Native.Nat.{ℕ, _+_, _*_, _%_, _≤_}
+use mathlib.Core.Bool.{false}
+use mathlib.Core.List.{List, [], _++_}
 use mathlib.Core.Path.{_≡_}
 use lib.ListN.{length, take, drop}
 use Rattle.gif.specs.declared.Place.the-variants.{Idle}

@@ -88,12 +88,12 @@ pub record PlayPremises (sheet main : List ℕ) (a allowance : ℕ) (s : State) 
 
 -- and its conclusion, of what is left
 pub record PlayConclusion (sheet main : List ℕ) (a : ℕ) (s : State) (m : Lent) (r : Played) : Type 0 where
-  -- "ends with done in exactly the sheet's steps"
+  -- "the run ends with done in exactly that many steps"
   pub done : r .answer ≡ Ended Done
   pub steps : r .steps ≡ stepsMeant sheet
   -- main memory has the builder's output from the address on
   pub main-memory : r .main ≡ take a main ++ buildOf sheet (drop a main) .output
-  -- "and leaves exactly the sheet's plain meaning": both memories
+  -- both memories "equal what the sheet's plain meaning makes of those the run was lent"
   pub mem : r .memories .mem ≡ meansFrom sheet s m .mem
   pub code : r .memories .code ≡ meansFrom sheet s m .code
   -- the list of entries in the log, and their number

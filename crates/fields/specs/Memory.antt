@@ -6,7 +6,7 @@ use lib.ListN.{length, getD}
 use lib.Dec.{leb}
 use Rattle.fields.specs.Fields.{quadword}
 
--- the word at an address
+-- the word at an address; bytes past the end count as 0
 unfoldable pub wordAt : List ℕ → ℕ → ℕ
 wordAt main a =
     getD main a 0 + getD main (a + 1) 0 * 256 + getD main (a + 2) 0 * 65536 + getD main (a + 3) 0 * 16777216

@@ -56,7 +56,7 @@ module _ (p after : Path) (es : List Entry) (used : ℕ) (log : List ℕ) {n : �
   commit-full h = simp (lt-ltb _ _ (rw k at h))
 
   pub commit-fits : 2 * (used + n) ≤ length log → {m : List ℕ} → m ≡ logged log used es
-      → _≡_ {A = Left} (record { answer = Taken; path = after; used = used + n; log = m }) (commit p after es used log)
+      → _≡_ {A = Left} (record { answer = Taken; number = 0; path = after; used = used + n; log = m }) (commit p after es used log)
   unfolding commit lacksRoom if
   commit-fits h e = simp (le-ltb _ _ (rw k at h), e, k)
 

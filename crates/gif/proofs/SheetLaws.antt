@@ -35,7 +35,7 @@ sheetPlace n zero = Idle
 sheetPlace n (suc k) = Data (sheetHeld n (suc k))
 
 abbrev pub took : Path → ℕ → List ℕ → Left
-took p used log = record { answer = Taken; path = p; used = used; log = log }
+took p used log = record { answer = Taken; number = 0; path = p; used = used; log = log }
 
 -- a step's writes that fit
 pub commit-room : (p after : Path) (es : List Entry) (used : ℕ) (log : List ℕ) → 2 * (used + length es) ≤ length log

@@ -1,7 +1,7 @@
 -- The log: document 01's "Each write is a log entry: register, value, two 64-bit numbers."
 use Prim.Native.Nat.{ℕ, _+_, _*_, _%_, _≤_}
 use mathlib.Core.Bool.{Bool, true, false, _||_}
-use mathlib.Core.List.{List, [], _∷_, _++_}
+use mathlib.Core.List.{List, [], _∷_}
 use lib.ListN.{length}
 use lib.Seq.{sets}
 use lib.Dec.{eqb, ltb}
@@ -26,7 +26,7 @@ numbers (e ∷ es) = e .register ∷ e .value ∷ numbers es
 unfoldable pub logged : List ℕ → ℕ → List Entry → List ℕ
 logged log used es = sets log (entrySize * used) (numbers es)
 
--- the room that the log lacks: "31, where the step's writes don't all fit"
+-- whether the log lacks room for the entries: "31, where the step's writes don't all fit"
 unfoldable pub lacksRoom : List ℕ → ℕ → List Entry → Bool
 lacksRoom log used es = ltb (length log) (entrySize * (used + length es))
 

@@ -27,7 +27,7 @@ xyz quad = bits quad 0 15 + bits quad 32 47 * 2 ^ 16 + bits quad 64 95 * 2 ^ 32
 unfoldable pub redirected : ℕ → ℕ → ℕ
 redirected d quad = if (eqb (bits quad 111 111) 1) (d + 8) d
 
--- the writes of a data quadword under a descriptor; 6-9, C, D "low 64 bits", F "nothing", and B is refused before it comes here
+-- the writes of a data quadword under a descriptor; 2, 6-9, C, D "low 64 bits", F "nothing", and B is refused before it comes here
 unfoldable pub packedWrites : ℕ → ℕ → ℕ → List Entry
 packedWrites d q quad =
     if (eqb d 0) (entry 0 (bits quad 0 10) ∷ [])

@@ -1,6 +1,6 @@
 -- REGLIST data: document 01's "REGLIST (1): 64 bits each, E and F nothing, an odd last half is dropped unread."
 use Prim.Native.Nat.{ℕ, _+_, _*_}
-use mathlib.Core.Bool.{Bool, false, _||_, _&&_}
+use mathlib.Core.Bool.{Bool, _||_, _&&_}
 use mathlib.Core.List.{List, [], _∷_, _++_}
 use lib.Dec.{eqb, ltb}
 use Rattle.gif.specs.declared.Entry.{Entry}

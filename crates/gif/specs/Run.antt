@@ -1,5 +1,5 @@
--- Quadwords given to a path one after another, up to the first that is refused; and the GIF tag of a test sheet.
-use Prim.Native.Nat.{ℕ, _+_, _*_, _^_}
+-- For proofs; no promise cites these: quadwords of a list given to a path, and the GIF tag of a test sheet.
+use Prim.Native.Nat.{ℕ, _+_, _^_}
 use mathlib.Core.List.{List, [], _∷_}
 use Rattle.gif.specs.declared.Entry.{Entry}
 use Rattle.gif.specs.declared.Path.{Path}
@@ -15,7 +15,7 @@ onward f Taken o = f (o .path) (o .used) (o .log)
 onward f (Refused n) o = o
 
 unfoldable pub gifRun : List ℕ → Path → ℕ → List ℕ → Left
-gifRun [] p used log = record { answer = Taken; path = p; used = used; log = log }
+gifRun [] p used log = record { answer = Taken; number = 0; path = p; used = used; log = log }
 gifRun (x ∷ xs) p used log = onward (gifRun xs) (gifStep p x used log .answer) (gifStep p x used log)
 
 -- "a GIF tag (NLOOP n, EOP 1, NREG 1, descriptor E, rest 0)"

@@ -1,6 +1,5 @@
 -- One quadword taken by the GIF: a step of document 01, on one of its paths.
 use Prim.Native.Nat.{ℕ, _+_}
-use mathlib.Core.Bool.{Bool}
 use mathlib.Core.List.{List, [], _∷_}
 use lib.ListN.{length}
 use lib.Dec.{eqb}
@@ -21,9 +20,10 @@ use Rattle.gif.specs.Packed.{packedWrites, packedQ}
 use Rattle.gif.specs.Reglist.{reglistRefused, reglistWrites}
 use Rattle.gif.specs.Range.{pathInRange}
 
--- what a quadword leaves: the answer, the path, the entries used and the log
+-- what a quadword leaves: the answer and its number, the path, the entries used and the log
 pub record Left : Type 0 where
   pub answer : GifAnswer
+  pub number : ℕ
   pub path : Path
   pub used : ℕ
   pub log : List ℕ
@@ -35,11 +35,11 @@ numberOf (Refused n) = n
 
 -- what a call left, from its result and the log afterwards
 abbrev pub left : GifResult → List ℕ → Left
-left r log = record { answer = r .answer; path = r .path; used = r .used; log = log }
+left r log = record { answer = r .answer; number = numberOf (r .answer); path = r .path; used = r .used; log = log }
 
 -- a refused quadword changes nothing
 abbrev pub refused : ℕ → Path → ℕ → List ℕ → Left
-refused n p used log = record { answer = Refused n; path = p; used = used; log = log }
+refused n p used log = record { answer = Refused n; number = n; path = p; used = used; log = log }
 
 abbrev pub refusedResult : ℕ → Path → ℕ → GifResult
 refusedResult n p used = record { answer = Refused n; path = p; used = used }
@@ -48,7 +48,7 @@ refusedResult n p used = record { answer = Refused n; path = p; used = used }
 unfoldable pub commit : Path → Path → List Entry → ℕ → List ℕ → Left
 commit p after es used log =
     if (lacksRoom log used es) (refused 31 p used log)
-    (record { answer = Taken; path = after; used = used + length es; log = logged log used es })
+    (record { answer = Taken; number = 0; path = after; used = used + length es; log = logged log used es })
 
 -- a tag's own step
 unfoldable pub tagStep : Path → ℕ → ℕ → List ℕ → Left

@@ -39,7 +39,7 @@ quadwordsOf Packed nloop nreg = nloop * nreg
 quadwordsOf Reglist nloop nreg = (nloop * nreg + 1) / 2
 quadwordsOf Image nloop nreg = nloop
 
--- a tag, its format's number and NREG already read, with its whole data due
+-- a tag, its format and NREG already read, with its whole data due
 abbrev pub heldWith : TagFormat → ℕ → ℕ → HeldTag
 heldWith f nreg quad =
     record {

@@ -6,7 +6,6 @@ use lib.Dec.{ltb}
 use Rattle.fields.specs.Fields.{if}
 use Rattle.sheet.specs.declared.BuildAnswer.{BuildAnswer}
 use Rattle.sheet.specs.declared.BuildAnswer.the-variants.{Built, Refused}
-use Rattle.sheet.specs.Records.{Record}
 use Rattle.sheet.specs.Reader.{Contents, valid, refused, contentsOf}
 use Rattle.sheet.specs.Layout.{chainOf}
 

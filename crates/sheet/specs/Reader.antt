@@ -10,7 +10,7 @@ use Rattle.sheet.specs.declared.Kind.{Kind}
 use Rattle.sheet.specs.declared.Kind.the-variants.{Data, Code, Gs, Start}
 use Rattle.sheet.specs.declared.Reading.{Reading}
 use Rattle.sheet.specs.declared.Reading.the-variants.{End, Found, Refused}
-use Rattle.sheet.specs.Records.{Record, recordOf, longest, headerLength, countFits, addressFits, bodyLength, bytesAt, number, padsFit}
+use Rattle.sheet.specs.Records.{Record, recordOf, longest, headerLength, countFits, addressFits, bodyLength, bytesAt, padsFit}
 
 -- "mark 9Eh 51h"
 unfoldable pub marked : List ℕ → ℕ → Bool

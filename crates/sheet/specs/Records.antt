@@ -1,7 +1,7 @@
 -- Records: document 01's "A sheet is records to its end, at most 131,072 bytes. Each: mark 9Eh 51h, kind, count n, address (16 bits), body." and its table.
 use Prim.Native.Nat.{ℕ, zero, suc, _+_, _*_}
-use mathlib.Core.Bool.{Bool, true, false, _&&_}
-use mathlib.Core.List.{List, [], _∷_, _++_}
+use mathlib.Core.Bool.{Bool, true, _&&_}
+use mathlib.Core.List.{List, [], _∷_}
 use lib.ListN.{getD, take, drop}
 use lib.Dec.{eqb, leb, ltb}
 use Rattle.sheet.specs.declared.Kind.{Kind}

@@ -10,7 +10,6 @@ use Rattle.sheet.specs.declared.StepsAnswer.{StepsAnswer}
 use Rattle.sheet.specs.declared.StepsAnswer.the-variants.{Steps, Refused as StepsRefused}
 use Rattle.sheet.specs.declared.MeaningAnswer.{MeaningAnswer}
 use Rattle.sheet.specs.declared.MeaningAnswer.the-variants.{Meant, Refused as MeaningRefused}
-use Rattle.sheet.specs.Records.{Record}
 use Rattle.sheet.specs.Reader.{Contents, valid, refused, contentsOf}
 use Rattle.sheet.specs.Sizes.{sheetSteps, sheetEntries}
 use Rattle.sheet.specs.Meaning.{Entry, entry, Plain, plain, meaningOf}

@@ -1,5 +1,5 @@
 -- Formats and their payload: document 01's "vn 0 to 3 is one to four elements of 32, 16 or 8 bits (vl 0, 1, 2). vl 3 exists only with vn 3: one halfword".
-use Prim.Native.Nat.{ℕ, _+_, _*_, _/_, _%_, _^_, min}
+use Prim.Native.Nat.{ℕ, _+_, _*_, _/_, _^_, min}
 use mathlib.Core.Bool.{Bool, true, false}
 use mathlib.Core.List.{List, [], _∷_}
 use Rattle.unpack.specs.declared.Format.{Format}
@@ -65,6 +65,6 @@ abbrev pub value : List ℕ → ℕ
 value [] = 0
 value (w ∷ ws) = w + 2 ^ 32 * value ws
 
--- the vectors that lie wholly in the first k words, at most n
+-- how many vectors lie wholly in the first k words, at most n
 unfoldable pub wholeVectors : Format → ℕ → ℕ → ℕ
 wholeVectors f n k = min n (32 * k / vectorBits f)

@@ -35,7 +35,7 @@ unfoldable pub storeQuadword : List ℕ → ℕ → List ℕ → List ℕ
 storeQuadword mem q x =
     set (set (set (set mem (4 * q) (getD x 0 0)) (4 * q + 1) (getD x 1 0)) (4 * q + 2) (getD x 2 0)) (4 * q + 3) (getD x 3 0)
 
--- the plain meaning of an UNPACK with CL = WL = 1, no mask and no mode: n vectors from number j on, vector j to quadword (a + j) mod size
+-- what an UNPACK with CL = WL = 1, no mask and no mode writes: n vectors from number j on, vector j to quadword (a + j) mod size
 unfoldable pub copyVectors : ℕ → ℕ → (ℕ → List ℕ) → ℕ → ℕ → List ℕ → List ℕ
 copyVectors size a vec zero j mem = mem
 copyVectors size a vec (suc n) j mem = copyVectors size a vec n (suc j) (storeQuadword mem ((a + j) % size) (vec j))

@@ -1,6 +1,5 @@
 -- A vector's write: document 01's "Code 0 data, 1 ROW of the field, 2 COL of the row, 3 field unchanged" and the modes.
 use Prim.Native.Nat.{ℕ, zero, suc, _+_, _*_, _%_, _^_}
-use mathlib.Core.Bool.{Bool}
 use mathlib.Core.List.{List, [], _∷_}
 use lib.ListN.{getD, set}
 use lib.Dec.{eqb}

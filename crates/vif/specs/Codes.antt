@@ -1,12 +1,10 @@
 -- VIF codes: document 01's "Bits 0-15 IMM, 16-23 NUM, 24-30 CMD, 31 interrupt. Each word is decoded into one case of a closed list of codes, each case
 -- with its own numbers."
-use Prim.Native.Nat.{ℕ, _+_, _*_, _/_, _%_, _^_}
+use Prim.Native.Nat.{ℕ, _%_}
 use mathlib.Core.Bool.{Bool}
 use lib.Dec.{eqb, leb}
 use Rattle.fields.specs.Fields.{if, bits}
-use Rattle.unpack.specs.declared.Format.{Format}
 use Rattle.unpack.specs.declared.Format.the-variants.{S32, S16, S8, V2x32, V2x16, V2x8, V3x32, V3x16, V3x8, V4x32, V4x16, V4x8, V4x5}
-use Rattle.vif.specs.declared.Code.{Code}
 use Rattle.vif.specs.declared.Code.the-variants.{Nop, Stcycl, Offset, Base, Itop, Stmod, Mskpath3, Mark, Flushe, Flush, Flusha, Mscal, Mscalf, Mscnt, Stmask, Strow, Stcol, Mpg, Direct, Directhl, Unpack}
 use Rattle.vif.specs.declared.UnpackCode.{UnpackCode}
 use Rattle.vif.specs.declared.Decoded.{Decoded}
@@ -29,7 +27,7 @@ unfoldable pub quadwordsOf : ℕ → ℕ
 quadwordsOf imm = if (eqb imm 0) 65536 imm
 
 -- the codes below 60h; the document's numbers are hexadecimal: 10, 11, 13 are 16, 17, 19; 14, 15, 17 are 20, 21, 23; 20 is 32; 30, 31 are 48, 49; 4A is 74;
--- 50, 51 are 80, 81
+-- 50, 51 are 80, 81. MPG holds IMM modulo 2,048, which gives the same places as IMM
 unfoldable pub plainCode : ℕ → ℕ → ℕ → Decoded
 plainCode cmd num imm =
     if (eqb cmd 0) (Known Nop)

@@ -14,7 +14,7 @@ use Rattle.vif.specs.declared.CodeResult.{CodeResult}
 use Rattle.vif.specs.declared.Decoded.{Decoded}
 use Rattle.vif.specs.declared.Decoded.the-variants.{Known, Unknown}
 use Rattle.vif.specs.declared.VifAnswer.{VifAnswer}
-use Rattle.vif.specs.declared.VifAnswer.the-variants.{Word, Quadword, Refused}
+use Rattle.vif.specs.declared.VifAnswer.the-variants.{Word, Refused}
 use Rattle.vif.specs.declared.Waiting.{Waiting}
 use Rattle.vif.specs.declared.Waiting.the-variants.{MaskDue, RowDue, ColDue, MpgDue, DirectDue, DirecthlDue, UnpackDue}
 use Rattle.vif.specs.declared.Vif.{Vif}
@@ -30,7 +30,7 @@ pub record Executed : Type 0 where
 abbrev pub executed : VifAnswer → Vif → ℕ → List ℕ → Executed
 executed a v used log = record { answer = a; unit = v; used = used; log = log }
 
--- the same without the log, for codes that leave it alone
+-- the same but for the log
 abbrev pub codeResult : VifAnswer → Vif → ℕ → CodeResult
 codeResult a v used = record { answer = a; unit = v; used = used }
 

@@ -1,4 +1,4 @@
--- Words and quadwords given to the unit one after another.
+-- For proofs, but for Fed: words and quadwords given to the unit one after another, each with the same answer.
 use Prim.Native.Nat.{ℕ, zero, suc, _+_, _*_, _%_, _^_}
 use mathlib.Core.Bool.{false}
 use mathlib.Core.List.{List, [], _∷_, _++_}

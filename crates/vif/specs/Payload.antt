@@ -1,22 +1,16 @@
--- A payload word of a code that waits, and a quadword of DIRECT.
+-- A payload word of a code that waits.
 use Prim.Native.Nat.{ℕ, _+_, _*_, _-_, _/_, _%_}
 use mathlib.Core.Bool.{Bool, false}
 use mathlib.Core.List.{List, [], _∷_}
 use lib.ListN.{set}
 use lib.Seq.{sets}
 use lib.Dec.{eqb}
-use Rattle.fields.specs.Fields.{if, quadword}
-use Rattle.gif.specs.declared.Path.{Path}
-use Rattle.gif.specs.declared.GifAnswer.{GifAnswer}
-use Rattle.gif.specs.declared.GifAnswer.the-variants.{Taken}
-use Rattle.gif.specs.Step.{Left, gifStep}
+use Rattle.fields.specs.Fields.{if}
 use Rattle.unpack.specs.declared.Format.{Format}
 use Rattle.unpack.specs.declared.Unpacking.{Unpacking}
 use Rattle.unpack.specs.declared.Registers.{Registers}
 use Rattle.unpack.specs.Write.{Written, written}
 use Rattle.unpack.specs.Step.{holds, unpackWord}
-use Rattle.vif.specs.declared.VifAnswer.{VifAnswer}
-use Rattle.vif.specs.declared.VifAnswer.the-variants.{Word}
 use Rattle.vif.specs.declared.Waiting.{Waiting}
 use Rattle.vif.specs.declared.Waiting.the-variants.{Nothing, RowDue, ColDue, MpgDue, UnpackDue}
 use Rattle.vif.specs.declared.Vif.{Vif}
@@ -37,14 +31,14 @@ completes due i = if (eqb due 1) i false
 unfoldable pub orNothing : ℕ → Waiting → Waiting
 orNothing due w = if (eqb due 1) Nothing w
 
--- "STROW, STCOL take ... 4 words; word j is stored as ROW j or COL j when it comes": with `due` words left, it is word 4 - due
+-- "20 STMASK, 30 STROW, 31 STCOL take 1, 4, 4 words; word j is stored as ROW j or COL j when it comes": with `due` words left, it is word 4 - due
 abbrev pub rowWord : Vif → ℕ → Bool → ℕ → Vif
 rowWord v due i word = withWaiting (withRow v (set (v .row) (4 - due) word)) (orNothing due (RowDue (due - 1) i))
 
 abbrev pub colWord : Vif → ℕ → Bool → ℕ → Vif
 colWord v due i word = withWaiting (withCol v (set (v .col) (4 - due) word)) (orNothing due (ColDue (due - 1) i))
 
--- "20 STMASK ... take[s] 1 [word]"
+-- the one word of STMASK
 abbrev pub maskWord : Vif → ℕ → Vif
 maskWord v word = withWaiting (withMask v word) Nothing
 

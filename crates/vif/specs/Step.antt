@@ -1,6 +1,6 @@
 -- One word taken by VIF1, or one quadword inside DIRECT: a step of document 01.
 use Prim.Native.Nat.{ℕ, _+_, _*_, _-_, _^_}
-use mathlib.Core.Bool.{Bool, false, not, _&&_}
+use mathlib.Core.Bool.{Bool, not, _&&_}
 use mathlib.Core.List.{List}
 use lib.ListN.{length}
 use lib.Dec.{eqb}
@@ -37,28 +37,29 @@ pub record Lent : Type 0 where
 abbrev pub lent : List ℕ → List ℕ → List ℕ → Lent
 lent mem code log = record { mem = mem; code = code; log = log }
 
--- what a step leaves
+-- the number of an answer: 0 taken, else document 01's refusal number
+abbrev pub numberOf : VifAnswer → ℕ
+numberOf (Word i) = 0
+numberOf (Quadword i) = 0
+numberOf (Refused n) = n
+
+-- what a step leaves: the answer and its number, and all else
 pub record Left : Type 0 where
   pub answer : VifAnswer
+  pub number : ℕ
   pub unit : Vif
   pub path2 : Path
   pub used : ℕ
   pub memories : Lent
 
 abbrev pub left : VifResult → Lent → Left
-left r m = record { answer = r .answer; unit = r .unit; path2 = r .path2; used = r .used; memories = m }
+left r m = record { answer = r .answer; number = numberOf (r .answer); unit = r .unit; path2 = r .path2; used = r .used; memories = m }
 
 abbrev pub answers : VifAnswer → Vif → Path → ℕ → VifResult
 answers a v p used = record { answer = a; unit = v; path2 = p; used = used }
 
 abbrev pub leaves : VifAnswer → Vif → Path → ℕ → Lent → Left
-leaves a v p used m = record { answer = a; unit = v; path2 = p; used = used; memories = m }
-
--- the number of an answer: 0 taken, else document 01's refusal number
-abbrev pub numberOf : VifAnswer → ℕ
-numberOf (Word i) = 0
-numberOf (Quadword i) = 0
-numberOf (Refused n) = n
+leaves a v p used m = record { answer = a; number = numberOf a; unit = v; path2 = p; used = used; memories = m }
 
 -- the words that an answer took
 abbrev pub wordsTaken : VifAnswer → ℕ
