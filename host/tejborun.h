@@ -4,12 +4,13 @@
  * where the number is 0), aligned for its type, and no buffer that is written may overlap another one of the same call. What const points to is only
  * read. Nothing is kept between calls, nothing is allocated, and no function prints or stops the program.
  *
- * An answer is a number of the scope document, or TEJBORUN_SHORT. A call that is refused at once changes no memory and no log, a run that is refused after
- * some steps leaves what those steps left; the result is written in both cases. Numbers of a result beyond those stated are never written.
+ * An answer is a number of the scope document, or TEJBORUN_SHORT; tejborun_build may answer a length, and tejborun_compare has answers of its own. A call
+ * that is refused at once changes no memory and no log, a run that is refused after some steps leaves what those steps left; the result is written in both
+ * cases, but not with TEJBORUN_SHORT, which is tested before all else. Numbers of a result beyond those stated are never written.
  *
- * docs/FORMATS.md describes the state block. A call on a block that is a state's writes back the state that it leaves, also where it is refused: the words
- * that mean nothing are then zero. On a block that is no state's a call is refused with 5, or with a number that is tested before 5, and the block stays as
- * it was.
+ * docs/FORMATS.md describes the state block. A start, a run or a build and run on a block that is a state's writes back the state that it leaves, also where
+ * it is refused: the words that mean nothing are then zero. On a block that is no state's it is refused with 5, or with a number that is tested before 5, and
+ * the block stays as it was. A reset writes any block.
  */
 #ifndef TEJBORUN_H
 #define TEJBORUN_H
