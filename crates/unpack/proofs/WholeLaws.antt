@@ -25,8 +25,9 @@ use Rattle.unpack.specs.Mask.{maskOf, codeAt, codeRow}
 use Rattle.unpack.specs.Write.{rowOf, dataOf, fieldOf, rowsAfter, putField, writtenAt, Written, written, writeVector, writeVectors}
 use Rattle.unpack.specs.Step.{countOf, unpackingOf, takenWords, holds, acting, heldVector, wordOf, unpackWord}
 use Rattle.unpack.specs.Whole.{payloadVector, unpackedBy, takeWords, heldAfter, storeQuadword, copyVectors, fourWords}
-use Rattle.unpack.specs.Inner.{VectorIn}
+use Rattle.unpack.specs.Inner.{VectorIn, plain}
 use Rattle.unpack.proofs.PayloadLaws.{few-elements, bits-some, vector-in, starts-inside, vector-fits}
+use Rattle.unpack.proofs.WriteLaws.{plain-rows, plain-quadword}
 use Rattle.unpack.proofs.VectorLaws.{Words, more, digit}
 
 -- ---- a vector is known from its elements
@@ -318,33 +319,20 @@ plain-position : (size a i : ℕ) → positionOf size a 1 1 i ≡ (a + i) % size
 unfolding positionOf
 plain-position size a i = rw (div-one, mod-one, mul-one, add-zero)
 
-plain-rows : (fields row : List ℕ) → length row ≡ 4 → rowsAfter 0 fields row ≡ row
-unfolding rowsAfter rowOf if
-plain-rows fields [] h = absurd (omega arith)
-plain-rows fields (a ∷ []) h = absurd (omega arith)
-plain-rows fields (a ∷ b ∷ []) h = absurd (omega arith)
-plain-rows fields (a ∷ b ∷ c ∷ []) h = absurd (omega arith)
-plain-rows fields (a ∷ b ∷ c ∷ d ∷ []) h = refl
-plain-rows fields (a ∷ b ∷ c ∷ d ∷ e ∷ row) h = absurd (omega arith)
-
 plain-code : (r f : ℕ) → codeAt 0 r f ≡ 0
 unfolding codeAt
 plain-code r f = rw zero-div
 
-plain-put : (m : List ℕ) (at x row col : ℕ) → putField m at 0 0 x row col ≡ set m at x
-unfolding putField fieldOf dataOf if
-plain-put m at x row col = refl
-
-plain-quadword : (m fields row : List ℕ) (q col c : ℕ) → writtenAt m q fields row col (codeRow 0 c) 0 ≡ storeQuadword m q fields
-unfolding writtenAt storeQuadword
-plain-quadword m fields row q col c = simp (plain-code, plain-put)
+plain-codes : (c : ℕ) → plain (codeRow 0 c) 0 ≡ true
+unfolding plain
+plain-codes c = simp plain-code
 
 module _ (size a : ℕ) (r : Registers) (hc : r .cl ≡ 1) (hw : r .wl ≡ 1) (hm : r .mode ≡ 0) (hk : r .mask ≡ 0) where
   plain-vector : (i : ℕ) (fields : List ℕ) (w : Written) → length (w .row) ≡ 4
       → writeVector size a r i fields w ≡ written (w .row) (storeQuadword (w .mem) ((a + i) % size) fields)
   unfolding writeVector
   plain-vector i fields w h =
-      rw (hc, hw, hm, hk, plain-position size a i, plain-rows fields (w .row) h, plain-quadword (w .mem) fields (w .row) _ _ _)
+      rw (hc, hw, hm, hk, plain-position size a i, plain-rows fields (w .row) h, plain-quadword (w .mem) fields (w .row) (codeRow 0 _) _ _ 0 (plain-codes _))
 
   pub plain-written : (vec : ℕ → List ℕ) (n i : ℕ) (w : Written) → length (w .row) ≡ 4
       → writeVectors size a r vec n i w ≡ written (w .row) (copyVectors size a vec n i (w .mem))

@@ -1,15 +1,23 @@
 -- Writes from what their parts give, and one write after another.
 use mathlib.Core.Path.{_≡_, refl, sym, ap, _∙_}
+use mathlib.Core.Bool.{true}
 use mathlib.Core.List.{List, [], _∷_}
 use Prim.Native.Nat.{ℕ, zero, suc, _+_, _*_, _-_, _/_, _%_, _<_, _≤_}
 use native.Mathlib.Nat.{mul-le-mul, div-le-self, mod-lt, min-le-right}
 use native.Mathlib.Numerals.{add-one}
 use native.Mathlib.Omega.{arith}
-use lib.ListN.{length, getD}
+use borrow.Author.Tests.{eqb-true}
+use lib.ListN.{length, getD, set}
+use lib.Dec.{eqb}
+use Rattle.fields.specs.Fields.{if}
+use Rattle.fields.proofs.ChoiceLaws.{and-left, and-right}
 use Rattle.unpack.specs.declared.Registers.{Registers}
 use Rattle.unpack.specs.Position.{positionOf}
 use Rattle.unpack.specs.Mask.{rowOfCycle, codeRow, unfolded}
-use Rattle.unpack.specs.Write.{rowOf, rowsAfter, putField, writtenAt, Written, written, writeVector, writeVectors}
+use Rattle.unpack.specs.Write.{rowOf, dataOf, fieldOf, rowsAfter, putField, writtenAt, Written, written, writeVector, writeVectors}
+use Rattle.unpack.specs.Whole.{storeQuadword}
+use Rattle.unpack.specs.Range.{CycleFits}
+use Rattle.unpack.specs.Inner.{plain}
 
 pub below4 : (P : ℕ → Type 0) → P 0 → P 1 → P 2 → P 3 → (n : ℕ) → n < 4 → P n
 below4 P p0 p1 p2 p3 zero h = p0
@@ -18,19 +26,19 @@ below4 P p0 p1 p2 p3 (suc (suc zero)) h = p2
 below4 P p0 p1 p2 p3 (suc (suc (suc zero))) h = p3
 below4 P p0 p1 p2 p3 (suc (suc (suc (suc n)))) h = absurd (omega arith)
 
-pub row-few : (wl i : ℕ) → rowOfCycle wl i < 4
+pub row-few : (wl i : ℕ) {c : ℕ} → c ≡ rowOfCycle wl i → c < 4
 unfolding rowOfCycle
-row-few wl i = let h = min-le-right (i % wl) 3 in omega arith
+row-few wl i e = let h = min-le-right (i % wl) 3 in omega arith
 
 pub row-at : (mask r : ℕ) → r < 4 → getD (unfolded mask) r [] ≡ codeRow mask r
 row-at mask r h = below4 (λ (r : ℕ). getD (unfolded mask) r [] ≡ codeRow mask r) refl refl refl refl r h
 
 -- the start of a cycle
-pub cycle-most : (i cl wl : ℕ) → i ≤ 255 → cl ≤ 255 → i / wl * cl ≤ 65025
-cycle-most i cl wl hi hc =
+pub cycle-most : {i cl wl n : ℕ} → CycleFits cl wl → i ≤ 255 → n ≡ i / wl → n * cl ≤ 65025
+cycle-most {i} {cl} {wl} {n} f h e =
     let d = div-le-self i wl in
-    let q : i / wl ≤ 255 = omega arith in
-    mul-le-mul q hc
+    let q : n ≤ 255 = omega arith in
+    mul-le-mul q (f .most)
 
 -- a position lies inside the memory, once over its size
 pub position-inside : (size a cl wl i : ℕ) → 1 ≤ size → positionOf size a cl wl i < size
@@ -56,14 +64,56 @@ pub stored : (m fields row codes : List ℕ) (q col mode : ℕ) {m1 m2 m3 m4 : L
 unfolding writtenAt
 stored m fields row codes q col mode e1 e2 e3 e4 = rw (e4, e3, e2, e1)
 
+-- ---- a write without codes and mode
+
+plain-fits : (codes : List ℕ) (mode : ℕ) → plain codes mode ≡ true
+    → (mode ≡ 0) × (getD codes 0 0 ≡ 0) × (getD codes 1 0 ≡ 0) × (getD codes 2 0 ≡ 0) × (getD codes 3 0 ≡ 0)
+unfolding plain
+plain-fits codes mode h =
+    let h1 = and-right (eqb mode 0) _ h in
+    let h2 = and-right (eqb (getD codes 0 0) 0) _ h1 in
+    let h3 = and-right (eqb (getD codes 1 0) 0) _ h2 in
+    (eqb-true mode 0 (and-left _ _ h), eqb-true _ 0 (and-left _ _ h1), eqb-true _ 0 (and-left _ _ h2), eqb-true _ 0 (and-left _ _ h3), eqb-true _ 0 (and-right (eqb (getD codes 2 0) 0) _ h3))
+
+pub plain-rows : (fields row : List ℕ) → length row ≡ 4 → rowsAfter 0 fields row ≡ row
+unfolding rowsAfter rowOf if
+plain-rows fields [] h = absurd (omega arith)
+plain-rows fields (a ∷ []) h = absurd (omega arith)
+plain-rows fields (a ∷ b ∷ []) h = absurd (omega arith)
+plain-rows fields (a ∷ b ∷ c ∷ []) h = absurd (omega arith)
+plain-rows fields (a ∷ b ∷ c ∷ d ∷ []) h = refl
+plain-rows fields (a ∷ b ∷ c ∷ d ∷ e ∷ row) h = absurd (omega arith)
+
+plain-put : (m : List ℕ) (at x row col : ℕ) → putField m at 0 0 x row col ≡ set m at x
+unfolding putField fieldOf dataOf if
+plain-put m at x row col = refl
+
+pub plain-quadword : (m fields row codes : List ℕ) (q col mode : ℕ) → plain codes mode ≡ true
+    → writtenAt m q fields row col codes mode ≡ storeQuadword m q fields
+unfolding writtenAt storeQuadword
+plain-quadword m fields row codes q col mode h =
+    let p = plain-fits codes mode h in
+    simp (p .0, p .1, p .2, p .3, p .4, plain-put)
+
+pub plain-stored : (mem fields row codes : List ℕ) (q col mode : ℕ) {m : List ℕ} → length row ≡ 4 → plain codes mode ≡ true
+    → m ≡ storeQuadword mem q fields → (row ≡ rowsAfter mode fields row) × (m ≡ writtenAt mem q fields row col codes mode)
+plain-stored mem fields row codes q col mode l h e =
+    (rw (plain-fits codes mode h .0) (sym (plain-rows fields row l)), e ∙ sym (plain-quadword mem fields row codes q col mode h))
+
+-- ---- writes
+
+-- the codes of a write's row
+pub row-chosen : (mask wl i : ℕ) {codes : List (List ℕ)} {c : ℕ} → codes ≡ unfolded mask → c ≡ rowOfCycle wl i
+    → getD codes c [] ≡ codeRow mask (rowOfCycle wl i)
+row-chosen mask wl i ec er = rw (ec, er) (row-at mask (rowOfCycle wl i) (row-few wl i refl))
+
 -- one write
-pub vector-written : (size a i : ℕ) (r : Registers) (fields row mem : List ℕ) {codes : List (List ℕ)} {q c : ℕ} {rs m : List ℕ}
-    → codes ≡ unfolded (r .mask) → q ≡ positionOf size a (r .cl) (r .wl) i → c ≡ rowOfCycle (r .wl) i
-    → rs ≡ rowsAfter (r .mode) fields row → m ≡ writtenAt mem q fields row (getD (r .col) c 0) (getD codes c []) (r .mode)
+pub vector-written : (size a i : ℕ) (r : Registers) (fields row mem : List ℕ) {codes : List ℕ} {q col : ℕ} {rs m : List ℕ}
+    → q ≡ positionOf size a (r .cl) (r .wl) i → codes ≡ codeRow (r .mask) (rowOfCycle (r .wl) i) → col ≡ getD (r .col) (rowOfCycle (r .wl) i) 0
+    → rs ≡ rowsAfter (r .mode) fields row → m ≡ writtenAt mem q fields row col codes (r .mode)
     → written rs m ≡ writeVector size a r i fields (written row mem)
 unfolding writeVector
-vector-written size a i r fields row mem ec eq er es em =
-    rw (es, em, er, eq, ec, row-at (r .mask) (rowOfCycle (r .wl) i) (row-few (r .wl) i))
+vector-written size a i r fields row mem eq ec el es em = rw (es, em, eq, ec, el)
 
 -- one vector more, and none left
 module _ (size a : ℕ) (r : Registers) (vec : ℕ → List ℕ) (to i : ℕ) where

@@ -2,7 +2,9 @@
 use Prim.Native.Nat.{ℕ, _+_, _*_, _%_, _<_, _≤_}
 use mathlib.Core.List.{List}
 use mathlib.Core.Path.{_≡_}
-use lib.ListN.{length}
+use mathlib.Core.Bool.{Bool, _&&_}
+use lib.ListN.{length, getD}
+use lib.Dec.{eqb}
 use Rattle.unpack.specs.declared.Format.{Format}
 use Rattle.unpack.specs.declared.Unpacking.{Unpacking}
 use Rattle.unpack.specs.declared.Registers.{Registers}
@@ -30,6 +32,12 @@ pub record VectorFits (f : Format) (at : ℕ) : Type 0 where
 pub record VectorIn (f : Format) (k i : ℕ) : Type 0 where
   pub ends-after : 32 * k < (i + 1) * vectorBits f
   pub ends-inside : (i + 1) * vectorBits f ≤ 32 * (k + 1)
+
+-- a write stores its data as it is and leaves ROW: MODE is 0 and so is the code of each field
+unfoldable pub plain : List ℕ → ℕ → Bool
+plain codes mode =
+    eqb mode 0
+    && (eqb (getD codes 0 0) 0 && (eqb (getD codes 1 0) 0 && (eqb (getD codes 2 0) 0 && eqb (getD codes 3 0) 0)))
 
 -- a memory of `size` quadwords
 pub record MemoryFits (size : ℕ) (mem : List ℕ) : Type 0 where

@@ -1,4 +1,5 @@
 // The mask register.
+use super::cycle::place_in_cycle;
 ghost use mathlib.Core.Path.{_≡_};
 ghost use Prim.Native.Nat.{_<_};
 ghost use Rattle.unpack.specs.Mask.{rowOfCycle, maskOf, unfolded};
@@ -41,6 +42,6 @@ pub(crate) fn row_of_cycle(wl: u32, i: u32) -> u32
     requires { ⌜ 0 < wl ⌝ }
     ensures { λ r. ⌜ r ≡ rowOfCycle wl i ⌝ }
 {
-    let k = i % wl;
+    let k = place_in_cycle(wl, i);
     if k < 3 { k } else { 3 }
 }

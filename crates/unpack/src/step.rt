@@ -4,6 +4,7 @@ use super::Registers;
 use super::Rows;
 use super::Unpacking;
 use super::mask::mask_of;
+use super::mask::row_of_cycle;
 use super::mask::unfold_mask;
 use super::payload::is_five;
 use super::payload::payload_words;
@@ -71,11 +72,14 @@ fn write_vectors(
     ensures { λ rows. ⌜ written rows (now («data» .exit)) ≡ writeVectors size (u .address) r (heldVector f u word k) (to - from) from (written row (now («data» .entry))) ⌝ }
 {
     let codes = unfold_mask(r.mask);
+    let col = r.col;
     let mut rows = row;
     let mut i = from;
     while i < to {
         let fields = held_vector(f, u, word, k, i);
-        let next = write_vector(size, u.address, r, codes, i, fields, rows, data);
+        let c = row_of_cycle(r.wl, i) as usize;
+        let chosen = codes[c];
+        let next = write_vector(size, u.address, r, i, fields, chosen, col[c], rows, data);
         rows = next;
         i += 1;
     }
@@ -98,6 +102,9 @@ fn take(
     let k = payload_words(f, u.count) - u.due;
     let from = whole_vectors(f, u.count, k);
     let to = whole_vectors(f, u.count, k + 1);
+    if from == to {
+        return row;
+    }
     let s = acting_registers(f, u, r);
     write_vectors(size, f, u, s, word, k, from, to, row, data)
 }

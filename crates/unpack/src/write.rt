@@ -1,14 +1,16 @@
 // Vectors written to data memory.
 use super::Registers;
-use super::mask::row_of_cycle;
+use super::cycle::cycles_before;
+use super::cycle::place_in_cycle;
 ghost use mathlib.Core.Path.{_≡_};
 ghost use Prim.Native.Nat.{_<_, _≤_, _+_, _*_, _%_};
 ghost use lib.ListN.{length, getD};
 ghost use Rattle.unpack.specs.Position.{positionOf};
-ghost use Rattle.unpack.specs.Mask.{unfolded};
+ghost use Rattle.unpack.specs.Mask.{rowOfCycle, codeRow};
 ghost use Rattle.unpack.specs.Write.{added, rowOf, dataOf, fieldOf, rowsAfter, putField, writtenAt, written, writeVector};
+ghost use Rattle.unpack.specs.Whole.{storeQuadword};
 ghost use Rattle.unpack.specs.Range.{CycleFits};
-ghost use Rattle.unpack.specs.Inner.{MemoryFits};
+ghost use Rattle.unpack.specs.Inner.{MemoryFits, plain};
 
 fn add(x: u32, y: u32) -> u32
     ensures { λ r. ⌜ r ≡ added x y ⌝ }
@@ -61,6 +63,57 @@ fn next_rows(mode: u32, fields: [u32; 4], row: [u32; 4]) -> [u32; 4]
     ]
 }
 
+// The four fields of a quadword.
+fn put_fields(
+    data: &mut [u32],
+    quad: usize,
+    fields: [u32; 4],
+    row: [u32; 4],
+    col: u32,
+    codes: [u32; 4],
+    mode: u32,
+)
+    requires { ⌜ 4 * quad + 4 ≤ length (now «data») ⌝ }
+    ensures { λ _. ⌜ now («data» .exit) ≡ writtenAt (now («data» .entry)) quad fields row col codes mode ⌝ }
+{
+    let at = 4 * quad;
+    put_field(data, at, codes[0], mode, fields[0], row[0], col);
+    put_field(data, at + 1, codes[1], mode, fields[1], row[1], col);
+    put_field(data, at + 2, codes[2], mode, fields[2], row[2], col);
+    put_field(data, at + 3, codes[3], mode, fields[3], row[3], col);
+}
+
+// Four words stored at a quadword.
+fn store_quadword(data: &mut [u32], quad: usize, words: [u32; 4])
+    requires { ⌜ 4 * quad + 4 ≤ length (now «data») ⌝ }
+    ensures { λ _. ⌜ now («data» .exit) ≡ storeQuadword (now («data» .entry)) quad words ⌝ }
+{
+    let at = 4 * quad;
+    data[at] = words[0];
+    data[at + 1] = words[1];
+    data[at + 2] = words[2];
+    data[at + 3] = words[3];
+}
+
+// Whether a write stores its data as it is and leaves ROW.
+fn is_plain(codes: [u32; 4], mode: u32) -> bool
+    ensures { λ r. ⌜ r ≡ plain codes mode ⌝ }
+{
+    if mode != 0 {
+        return false;
+    }
+    if codes[0] != 0 {
+        return false;
+    }
+    if codes[1] != 0 {
+        return false;
+    }
+    if codes[2] != 0 {
+        return false;
+    }
+    codes[3] == 0
+}
+
 fn write_quadword(
     data: &mut [u32],
     quad: usize,
@@ -73,11 +126,11 @@ fn write_quadword(
     requires { ⌜ 4 * quad + 4 ≤ length (now «data») ⌝ }
     ensures { λ r. ⌜ (r ≡ rowsAfter mode fields row) × (now («data» .exit) ≡ writtenAt (now («data» .entry)) quad fields row col codes mode) ⌝ }
 {
-    let at = 4 * quad;
-    put_field(data, at, codes[0], mode, fields[0], row[0], col);
-    put_field(data, at + 1, codes[1], mode, fields[1], row[1], col);
-    put_field(data, at + 2, codes[2], mode, fields[2], row[2], col);
-    put_field(data, at + 3, codes[3], mode, fields[3], row[3], col);
+    if is_plain(codes, mode) {
+        store_quadword(data, quad, fields);
+        return row;
+    }
+    put_fields(data, quad, fields, row, col, codes, mode);
     next_rows(mode, fields, row)
 }
 
@@ -94,26 +147,25 @@ fn position(size: u32, address: u32, cl: u32, wl: u32, i: u32) -> u32
     requires { ⌜ CycleFits cl wl × (0 < size) × (address ≤ 1023) × (i ≤ 255) ⌝ }
     ensures { λ r. ⌜ r ≡ positionOf size address cl wl i ⌝ }
 {
-    wrapped(size, address + i / wl * cl + i % wl)
+    let start = cycles_before(wl, i) * cl;
+    wrapped(size, address + start + place_in_cycle(wl, i))
 }
 
-// Write i of an UNPACK.
+// Write i of an UNPACK, with the mask's codes and COL of its row.
 pub(crate) fn write_vector(
     size: u32,
     address: u32,
     r: Registers,
-    codes: [[u32; 4]; 4],
     i: u32,
     fields: [u32; 4],
+    codes: [u32; 4],
+    col: u32,
     row: [u32; 4],
     data: &mut [u32],
 ) -> [u32; 4]
-    requires { ⌜ CycleFits (r .cl) (r .wl) × MemoryFits size (now «data») × (address ≤ 1023) × (i ≤ 255) × (codes ≡ unfolded (r .mask)) ⌝ }
+    requires { ⌜ CycleFits (r .cl) (r .wl) × MemoryFits size (now «data») × (address ≤ 1023) × (i ≤ 255) × (codes ≡ codeRow (r .mask) (rowOfCycle (r .wl) i)) × (col ≡ getD (r .col) (rowOfCycle (r .wl) i) 0) ⌝ }
     ensures { λ rows. ⌜ written rows (now («data» .exit)) ≡ writeVector size address r i fields (written row (now («data» .entry))) ⌝ }
 {
     let quad = position(size, address, r.cl, r.wl, i);
-    let c = row_of_cycle(r.wl, i) as usize;
-    let col = r.col;
-    let chosen = codes[c];
-    write_quadword(data, quad as usize, fields, row, col[c], chosen, r.mode)
+    write_quadword(data, quad as usize, fields, row, col, codes, r.mode)
 }

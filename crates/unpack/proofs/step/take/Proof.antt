@@ -1,6 +1,8 @@
 use Rattle.unpack.proofs.StepLaws.{taken-few, word-fits, word-taken}
+use Rattle.unpack.proofs.WriteLaws.{vectors-none}
 use Rattle.unpack.specs.Step.{takenWords}
 use native.Mathlib.Omega.{arith}
+use mathlib.Core.Path.{refl, sym}
 use borrow.Author.Needs.{needs}
 use Rattle.unpack.proofs.step.take.Statement.{statement}
 use Rattle.unpack.proofs.step.take.Tie as tie
@@ -11,56 +13,37 @@ use Rattle.unpack.proofs.payload.whole_vectors.Reads as whole-vectors-r
 use Rattle.unpack.proofs.step.acting_registers.Reads as acting-registers-reads
 use Rattle.unpack.proofs.step.write_vectors.Reads as write-vectors-reads
 
--- src/step.rt:98:13
-payload-words-requires : tie.Need-payload-words-requires
-payload-words-requires c κs = search needs
-
--- src/step.rt:98:13
-sub-k : tie.Need-sub-k
-sub-k c = let m = c .before .before .before .pre .1 .most in omega (arith, c .before .payload-words .ensures)
-
--- src/step.rt:99:9
 whole-vectors-requires : tie.Need-whole-vectors-requires
 unfolding takenWords
-whole-vectors-requires c κs = let t = taken-few (c .before .before .before .args .f) (c .before .before .before .args .u) (c .before .before .before .pre .1) in omega (arith, c .before .payload-words .ensures)
+whole-vectors-requires c κs = let s = c .before .before .before in let t = taken-few (s .args .f) (s .args .u) (s .pre .1) in omega (arith, c .before .payload-words .ensures)
 
--- src/step.rt:100:40
-add-whole-vectors : tie.Need-add-whole-vectors
-add-whole-vectors c = search needs
-
--- src/step.rt:100:9
 whole-vectors-requires-2 : tie.Need-whole-vectors-requires-2
 unfolding takenWords
-whole-vectors-requires-2 c κs = let t = taken-few (c .before .before .before .before .args .f) (c .before .before .before .before .args .u) (c .before .before .before .before .pre .1) in omega (arith, c .before .before .payload-words .ensures)
+whole-vectors-requires-2 c κs = let s = c .before .before .before .before in let t = taken-few (s .args .f) (s .args .u) (s .pre .1) in omega (arith, c .before .before .payload-words .ensures)
 
--- src/step.rt:101:9
-acting-registers-requires : tie.Need-acting-registers-requires
-acting-registers-requires c κs = search needs
-
--- src/step.rt:102:5
-write-vectors-requires : tie.Need-write-vectors-requires
-unfolding takenWords
-write-vectors-requires c κs = word-fits _ _ _ _ _ (c .before .before .before .before .before .before .before .pre .0) (c .before .before .before .before .before .before .before .pre .1) (c .before .before .before .before .before .before .before .pre .2) (c .before .acting-registers .ensures) (rw (c .before .before .before .before .before .payload-words .ensures)) (c .before .before .before .whole-vectors .ensures) (c .before .before .whole-vectors2 .ensures)
-
--- src/step.rt:86:1
-same-length : tie.Need-same-length
-same-length c = search needs
-
--- src/step.rt:86:1
 returns : tie.Need-returns
 unfolding takenWords
-returns c = word-taken _ _ _ _ _ _ (c .before .before .before .before .acting-registers .ensures) (rw (c .before .before .before .before .before .before .before .before .payload-words .ensures)) (c .before .before .before .before .before .before .whole-vectors .ensures) (c .before .before .before .before .before .whole-vectors2 .ensures) (c .before .before .write-vectors .ensures)
+returns c = word-taken _ _ _ _ _ _ refl (rw (c .before .before .before .before .payload-words .ensures)) (c .before .before .whole-vectors .ensures) (c .before .whole-vectors2 .ensures) (sym (vectors-none _ _ _ _ _ _ (omega (arith, c .if1 .taken)) _))
+
+write-vectors-requires : tie.Need-write-vectors-requires
+unfolding takenWords
+write-vectors-requires c κs = let q = c .before .before .before .before .before .before .before .before .pre in word-fits _ _ _ _ _ (q .0) (q .1) (q .2) (c .before .acting-registers .ensures) (rw (c .before .before .before .before .before .before .payload-words .ensures)) (c .before .before .before .before .whole-vectors .ensures) (c .before .before .before .whole-vectors2 .ensures)
+
+returns-2 : tie.Need-returns-2
+unfolding takenWords
+returns-2 c = word-taken _ _ _ _ _ _ (c .before .before .before .before .acting-registers .ensures) (rw (c .before .before .before .before .before .before .before .before .before .payload-words .ensures)) (c .before .before .before .before .before .before .before .whole-vectors .ensures) (c .before .before .before .before .before .before .whole-vectors2 .ensures) (c .before .before .write-vectors .ensures)
 
 pub take-spec : {M : Type 1} → statement M
 take-spec =
     tie.close
     (tie.spec
-    payload-words-requires
-    sub-k
+    (λ c κs. search needs)
+    (λ c. search needs)
     whole-vectors-requires
-    add-whole-vectors
+    (λ c. search needs)
     whole-vectors-requires-2
-    acting-registers-requires
+    returns
+    (λ c κs. search needs)
     write-vectors-requires
-    same-length
-    returns)
+    (λ c. search needs)
+    returns-2)

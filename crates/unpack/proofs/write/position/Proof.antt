@@ -7,45 +7,31 @@ use Rattle.unpack.proofs.write.position.Statement.{statement}
 use Rattle.unpack.proofs.write.position.Tie as tie
 use Rattle.unpack.proofs.write.position.Reads as reads
 use Rattle.unpack.proofs.write.position.Lts as lts
+use Rattle.unpack.proofs.cycle.cycles_before.Reads as cycles-before-reads
+use Rattle.unpack.proofs.cycle.place_in_cycle.Reads as place-in-cycle-reads
 use Rattle.unpack.proofs.write.wrapped.Reads as wrapped-reads
 
--- src/write.rt:97:29
-div-wrapped : tie.Need-div-wrapped
-div-wrapped c = search needs
+mul-start : tie.Need-mul-start
+mul-start c = let m = cycle-most (c .before .pre .0) (c .before .pre .3) (c .cycles-before .ensures) in omega arith
 
--- src/write.rt:97:29
-mul-wrapped : tie.Need-mul-wrapped
-mul-wrapped c = let b = cycle-most (c .args .i) (c .args .cl) (c .args .wl) (c .pre .3) (c .pre .0 .most) in omega arith
-
--- src/write.rt:97:19
 add-wrapped : tie.Need-add-wrapped
-add-wrapped c = let b = cycle-most (c .args .i) (c .args .cl) (c .args .wl) (c .pre .3) (c .pre .0 .most) in omega arith
+add-wrapped c = let m = cycle-most (c .before .pre .0) (c .before .pre .3) (c .cycles-before .ensures) in omega arith
 
--- src/write.rt:97:43
-rem-wrapped : tie.Need-rem-wrapped
-rem-wrapped c = search needs
-
--- src/write.rt:97:19
 add-wrapped-2 : tie.Need-add-wrapped-2
-add-wrapped-2 c = let b = cycle-most (c .args .i) (c .args .cl) (c .args .wl) (c .pre .3) (c .pre .0 .most) in omega (arith, mod-le (c .args .i) (c .args .wl))
+add-wrapped-2 c = let m = cycle-most (c .before .before .pre .0) (c .before .before .pre .3) (c .before .cycles-before .ensures) in omega (arith, c .place-in-cycle .ensures, mod-le (c .before .before .args .i) (c .before .before .args .wl))
 
--- src/write.rt:97:5
-wrapped-requires : tie.Need-wrapped-requires
-wrapped-requires c κs = search needs
-
--- src/write.rt:93:1
 returns : tie.Need-returns
 unfolding positionOf
-returns c = c .wrapped .ensures
+returns c = rw (← c .before .before .cycles-before .ensures, ← c .before .place-in-cycle .ensures) (c .wrapped .ensures)
 
 pub position-spec : {M : Type 1} → statement M
 position-spec =
     tie.close
     (tie.spec
-    div-wrapped
-    mul-wrapped
+    (λ c κs. search needs)
+    mul-start
     add-wrapped
-    rem-wrapped
+    (λ c κs. search needs)
     add-wrapped-2
-    wrapped-requires
+    (λ c κs. search needs)
     returns)
