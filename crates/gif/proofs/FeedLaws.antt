@@ -3,7 +3,8 @@ use mathlib.Core.Path.{_≡_, refl, sym, ap, _∙_}
 use mathlib.Core.Bool.{Bool, true, false, not, _&&_}
 use mathlib.Core.List.{List}
 use Prim.Native.Nat.{ℕ, zero, suc, _+_, _*_, _-_, _<_, _≤_}
-use native.Mathlib.Nat.{zero-add, add-zero, sub-zero, mul-zero}
+use native.Mathlib.Nat.{zero-add, add-zero, add-assoc, sub-zero, mul-zero}
+use native.Mathlib.Numerals.{one-add}
 use native.Mathlib.Omega.{arith}
 use borrow.Author.Tests.{leb-true}
 use lib.ListN.{length}
@@ -19,13 +20,10 @@ use Rattle.gif.specs.Log.{logRefused, LogFits}
 use Rattle.gif.specs.Range.{pathInRange, PlaceFits}
 use Rattle.gif.specs.Step.{Left, left, refused, gifStep}
 use Rattle.gif.specs.Feed.{Fed, fed, oneMore, afterQuadword, onQuadword, feedsOf, feedOf}
+use Rattle.gif.specs.Inner.{plus, Leads}
 use Rattle.gif.proofs.LogLaws.{logged-length}
 use Rattle.gif.proofs.RangeLaws.{log-fits}
 use Rattle.gif.proofs.StepLaws.{step-wrote, step-ranged}
-
--- what came with k quadwords before it
-abbrev pub plus : ℕ → Fed → Fed
-plus k x = fed (x .path) (x .used) (x .log) (k + x .taken)
 
 by-answer : {x y : GifAnswer} → x ≡ y → (f : Path → ℕ → List ℕ → Fed) (o : Left) (p : Path) (used : ℕ) (log : List ℕ) {w : Fed}
     → afterQuadword f y o p used log ≡ w → afterQuadword f x o p used log ≡ w
@@ -48,6 +46,45 @@ module _ (main : List ℕ) (a : ℕ) (p : Path) (used : ℕ) (log : List ℕ) wh
     pub feeds-refused : {m : ℕ} → o .answer ≡ Refused m → feedsOf main a n p used log ≡ fed p used log 0
     feeds-refused q = one-turn ∙ by-answer q (feedsOf main (a + 16) n′) o p used log refl
 
+-- a step of the quadword that lies at an address
+pub at-quadword : (main : List ℕ) (a : ℕ) {low high : ℕ} → low ≡ longAt main a → high ≡ longAt main (a + 8)
+    → (p : Path) (used : ℕ) (log : List ℕ) {o : Left} → o ≡ gifStep p (quadword low high) used log → o ≡ gifStep p (quadwordAt main a) used log
+at-quadword main a el eh p used log e = rw (← el, ← eh) e
+
+-- ---- quadwords that lead on
+
+pub leads-none : {main : List ℕ} {a used : ℕ} {p : Path} {log : List ℕ} → Leads main a 0 p used log p used log
+leads-none {main} {a} {used} {p} {log} =
+    record {
+      goes = λ c. rw (zero-add c, add-zero a, zero-add (feedsOf main a c p used log .taken));
+      stays = λ f. f;
+    }
+
+-- a quadword that is taken
+pub leads-one : {main : List ℕ} {a used : ℕ} {p : Path} {log : List ℕ} {o : Left} → o ≡ gifStep p (quadwordAt main a) used log → o .answer ≡ Taken
+    → Leads main a 1 p used log (o .path) (o .used) (o .log)
+leads-one {main} {a} {used} {p} {log} {o} e q =
+    record {
+      goes =
+          λ c.
+          feeds-taken main a p used log (1 + c) c (one-add c) e q
+          ∙ rw (one-add (feedsOf main (a + 16) c (o .path) (o .used) (o .log) .taken));
+      stays = λ f. record { held = rw (← e) at (step-ranged p (f .held) used log (quadwordAt main a)) };
+    }
+
+-- quadwords, and then more of them
+pub leads-then : {main : List ℕ} {a i j u v w : ℕ} {p q r : Path} {l m n : List ℕ} → Leads main a i p u l q v m → Leads main (a + 16 * i) j q v m r w n
+    → Leads main a (i + j) p u l r w n
+leads-then {main} {a} {i} {j} {u} {v} {w} {p} {q} {r} {l} {m} {n} x y =
+    record {
+      goes =
+          λ c.
+          let b : a + 16 * i + 16 * j ≡ a + 16 * (i + j) = omega arith in
+          let t = feedsOf main (a + 16 * (i + j)) c r w n .taken in
+          rw (add-assoc i j c) (x .goes (j + c) ∙ ap (plus i) (y .goes c) ∙ rw (b, add-assoc i j t));
+      stays = λ f. y .stays (x .stays f);
+    }
+
 -- ---- the loop's turns, with the quadwords before them
 
 module _ (main : List ℕ) (a count : ℕ) (p : Path) (used : ℕ) (log : List ℕ) where
@@ -61,38 +98,31 @@ module _ (main : List ℕ) (a count : ℕ) (p : Path) (used : ℕ) (log : List �
         let z : count - k ≡ 0 = omega arith in
         sym (ap (plus k) (feeds-none main (a + 16 * k) p used log (count - k) z) ∙ rw add-zero) ∙ i
 
-    module _ (l : k < count) {low high : ℕ} (el : low ≡ longAt main (a + 16 * k)) (eh : high ≡ longAt main (a + 16 * k + 8))
-        {r : GifResult} {log′ : List ℕ} (e : left r log′ ≡ gifStep p (quadword low high) used log) where
-      rest : count - k ≡ suc (count - (k + 1))
-      rest = omega arith
+    -- quadwords that lead on
+    pub goes-on : (n : ℕ) → k + n ≤ count → {p′ : Path} {used′ : ℕ} {log′ : List ℕ} → Leads main (a + 16 * k) n p used log p′ used′ log′
+        → plus (k + n) (feedsOf main (a + 16 * (k + n)) (count - (k + n)) p′ used′ log′) ≡ w
+    goes-on n l {p′} {used′} {log′} h =
+        let c : n + (count - (k + n)) ≡ count - k = omega arith in
+        let b : a + 16 * k + 16 * n ≡ a + 16 * (k + n) = omega arith in
+        let t = feedsOf main (a + 16 * (k + n)) (count - (k + n)) p′ used′ log′ .taken in
+        sym (ap (plus k) (rw c at (h .goes (count - (k + n)))) ∙ rw (b, add-assoc k n t)) ∙ i
 
-      given : left r log′ ≡ gifStep p (quadwordAt main (a + 16 * k)) used log
-      given = rw (← el, ← eh) e
+    pub ends-refused : k < count → {low high : ℕ} → low ≡ longAt main (a + 16 * k) → high ≡ longAt main (a + 16 * k + 8)
+        → {r : GifResult} {log′ : List ℕ} → left r log′ ≡ gifStep p (quadword low high) used log
+        → {m : ℕ} → r .answer ≡ Refused m → 2 * used ≤ length log → fed p used log′ k ≡ w
+    ends-refused l {low} {high} el eh {r} {log′} e {m} q h =
+        let c : count - k ≡ suc (count - (k + 1)) = omega arith in
+        let s : log′ ≡ log = ap (λ (o : Left). o .log) (rw (← e) at (step-wrote p used log h (quadword low high) .same m) q) in
+        rw s
+        (sym (ap (plus k) (feeds-refused main (a + 16 * k) p used log (count - k) (count - (k + 1)) c (at-quadword main (a + 16 * k) el eh p used log e) q) ∙ rw add-zero) ∙ i)
 
-      pub goes-on : r .answer ≡ Taken → plus (k + 1) (feedsOf main (a + 16 * (k + 1)) (count - (k + 1)) (r .path) (r .used) log′) ≡ w
-      goes-on q =
-          let j = feeds-taken main (a + 16 * k) p used log (count - k) (count - (k + 1)) rest given q in
-          let b : a + 16 * k + 16 ≡ a + 16 * (k + 1) = omega arith in
-          let t = feedsOf main (a + 16 * (k + 1)) (count - (k + 1)) (r .path) (r .used) log′ .taken in
-          let c : k + suc t ≡ k + 1 + t = omega arith in
-          sym (ap (plus k) j ∙ rw (b, c)) ∙ i
-
-      pub ends-refused : {m : ℕ} → r .answer ≡ Refused m → 2 * used ≤ length log → fed p used log′ k ≡ w
-      ends-refused {m} q h =
-          let s : log′ ≡ log = ap (λ (o : Left). o .log) (rw (← e) at (step-wrote p used log h (quadword low high) .same m) q) in
-          rw s
-          (sym (ap (plus k) (feeds-refused main (a + 16 * k) p used log (count - k) (count - (k + 1)) rest given q) ∙ rw add-zero) ∙ i)
-
--- a step keeps what the next one asks
-module _ (p : Path) (quad used : ℕ) (log : List ℕ) {r : GifResult} {log′ : List ℕ} (e : left r log′ ≡ gifStep p quad used log) where
-  pub next-log-fits : LogFits log used → length log′ ≡ length log → LogFits log′ (r .used)
-  next-log-fits f n =
-      let s = f .short in
-      let o : 2 * (r .used) ≤ length log = rw (← e) at (step-wrote p used log (f .holds) quad .room) in
-      record { short = omega arith; holds = omega arith }
-
-  pub next-place-fits : PlaceFits (p .place) → PlaceFits (r .path .place)
-  next-place-fits f = record { held = rw (← e) at (step-ranged p (f .held) used log quad) }
+-- a step keeps what the next one asks of the log
+pub next-log-fits : (p : Path) (quad used : ℕ) (log : List ℕ) {r : GifResult} {log′ : List ℕ} → left r log′ ≡ gifStep p quad used log
+    → LogFits log used → length log′ ≡ length log → LogFits log′ (r .used)
+next-log-fits p quad used log {r} e f n =
+    let s = f .short in
+    let o : 2 * (r .used) ≤ length log = rw (← e) at (step-wrote p used log (f .holds) quad .room) in
+    record { short = omega arith; holds = omega arith }
 
 -- ---- the tests of the public function
 

@@ -5,5 +5,6 @@ pub mod TagLaws
 pub mod DataLaws
 pub mod StepLaws
 pub mod FeedLaws
+pub mod ImageLaws
 pub mod SheetLaws
 pub mod BlockLaws

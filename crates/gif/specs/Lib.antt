@@ -8,3 +8,4 @@ pub mod Step
 pub mod Run
 pub mod Feed
 pub mod Block
+pub mod Inner

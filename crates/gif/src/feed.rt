@@ -2,6 +2,8 @@
 use super::GifAnswer;
 use super::Path;
 use super::QuadwordsResult;
+use super::image::image_at_once;
+use super::image::image_quadwords;
 use super::log::log_refused;
 use super::range::path_in_range;
 use super::step::step;
@@ -22,6 +24,13 @@ fn feed(path: Path, main: &[u8], a: u32, count: u32, log: &mut [u64], used: u64)
     let mut entries = used;
     let mut taken: u32 = 0;
     while taken < count {
+        let n = image_at_once(p, count - taken, log, entries);
+        if 0 < n {
+            p = image_quadwords(p, main, a + 16 * taken, n, log, entries);
+            entries += 2 * n as u64;
+            taken += n;
+            continue;
+        }
         let at = a + 16 * taken;
         let low = fields::long_at(main, at);
         let high = fields::long_at(main, at + 8);

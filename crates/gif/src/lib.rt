@@ -1,6 +1,7 @@
 // The GIF: tags and data, one quadword at a time, on one path. What each function means is said by the definitions of specs/.
 mod block;
 mod feed;
+mod image;
 mod log;
 mod packed;
 mod range;

@@ -30,7 +30,7 @@ fn put(log: &mut [u64], used: u64, e: Entry)
     log[at + 1] = e.value;
 }
 
-fn store(log: &mut [u64], used: u64, writes: Writes)
+pub(crate) fn store(log: &mut [u64], used: u64, writes: Writes)
     requires { ⌜ 2 * (used + length (listed writes)) ≤ length (now log) ⌝ }
     ensures { λ _. ⌜ now (log .exit) ≡ logged (now (log .entry)) used (listed writes) ⌝ }
 {

@@ -1,12 +1,11 @@
 // One quadword taken by a path.
-use super::Entry;
 use super::GifAnswer;
 use super::GifResult;
 use super::HeldTag;
 use super::Path;
 use super::Place;
 use super::TagFormat;
-use super::Writes;
+use super::image::image_writes;
 use super::log::finish;
 use super::log::log_refused;
 use super::packed::packed_q;
@@ -106,21 +105,8 @@ fn take_image(
     ensures { λ r. ⌜ left r (now (log .exit)) ≡ imageStep path tag (quadword low high) used (now (log .entry)) ⌝ }
 {
     let place = place_after(tag);
-    let lower = Entry {
-        register: 84,
-        value: low,
-    };
-    let upper = Entry {
-        register: 84,
-        value: high,
-    };
-    finish(
-        path,
-        Path { q: path.q, place },
-        Writes::Two(lower, upper),
-        log,
-        used,
-    )
+    let writes = image_writes(low, high);
+    finish(path, Path { q: path.q, place }, writes, log, used)
 }
 
 fn take_data(path: Path, tag: HeldTag, low: u64, high: u64, log: &mut [u64], used: u64) -> GifResult

@@ -5,13 +5,17 @@ use lib.ListN.{length}
 use Rattle.gif.specs.Log.{LogFits}
 use Rattle.gif.specs.Range.{PlaceFits}
 use Rattle.gif.specs.Feed.{feedsOf}
-use Rattle.gif.proofs.FeedLaws.{plus, feeds-begin, ends-all, goes-on, ends-refused, next-log-fits, next-place-fits}
+use Rattle.gif.specs.Inner.{plus}
+use Rattle.gif.proofs.FeedLaws.{at-quadword, leads-one, feeds-begin, ends-all, goes-on, ends-refused, next-log-fits}
+use Rattle.gif.proofs.ImageLaws.{image-log-fits}
 use borrow.Author.Needs.{needs}
 use Rattle.gif.proofs.feed.feed.Statement.{statement}
 use Rattle.gif.proofs.feed.feed.Tie as tie
 use Rattle.gif.proofs.feed.feed.Reads as reads
 use Rattle.gif.proofs.feed.feed.Lts as lts
 use Rattle.fields.proofs.long_at.Reads as long-at-reads
+use Rattle.gif.proofs.image.image_at_once.Reads as image-at-once-reads
+use Rattle.gif.proofs.image.image_quadwords.Reads as image-quadwords-reads
 use Rattle.gif.proofs.step.step.Reads as step-reads
 
 abbrev Inv-loop : tie.InvT-loop
@@ -32,36 +36,72 @@ loop-holds c =
     let h = c .before .before .pre in
     record { inner = h .0; log-fits = h .1 .0; place-fits = h .1 .1; length = refl; same = feeds-begin _ _ _ _ _ _ }
 
-step-requires : tie.Need-step-requires Inv-loop μ-loop
-step-requires c κs = let i = c .before .before .before .before .loop .inv in (i .log-fits, i .place-fits)
+image-at-once-requires : tie.Need-image-at-once-requires Inv-loop μ-loop
+image-at-once-requires c κs = let i = c .before .before .loop .inv in (i .log-fits, i .place-fits)
+
+image-quadwords-requires : tie.Need-image-quadwords-requires Inv-loop μ-loop
+image-quadwords-requires c κs =
+    let i = c .before .before .before .before .before .loop .inv in
+    let g = c .before .before .image-at-once .ensures in
+    let l = c .before .before .before .before .loop-test .taken in
+    (omega arith, i .log-fits, g .1)
+
+add-entries : tie.Need-add-entries Inv-loop μ-loop
+add-entries c =
+    let s = c .before .before .before .before .before .before .before .before .loop .inv .log-fits .short in
+    let r = c .before .before .before .before .before .image-at-once .ensures .1 .room in
+    omega arith
 
 loop-less : tie.Need-loop-less Inv-loop μ-loop
-loop-less c = let l = c .before .before .before .before .before .before .before .before .before .loop-test .taken in omega arith
+loop-less c =
+    let l = c .before .before .before .before .before .before .before .loop-test .taken in
+    let z = c .before .before .before .before .if1 .taken in
+    omega arith
 
 loop-again : tie.Need-loop-again Inv-loop μ-loop
 loop-again c =
+    let s = c .before .before .image-quadwords in
+    let g = c .before .before .before .before .before .image-at-once .ensures in
+    let l = c .before .before .before .before .before .before .before .loop-test .taken in
+    let i = c .before .before .before .before .before .before .before .before .loop .inv in
+    record {
+      inner = i .inner;
+      log-fits = image-log-fits (i .log-fits) (g .1) (s .kept .1 .1 .1 .1 .0);
+      place-fits = s .ensures .stays (i .place-fits);
+      length = s .kept .1 .1 .1 .1 .0 ∙ i .length;
+      same = goes-on _ _ _ _ _ _ _ (i .same) _ (omega arith) (s .ensures);
+    }
+
+step-requires : tie.Need-step-requires Inv-loop μ-loop
+step-requires c κs = let i = c .before .before .before .before .before .before .before .loop .inv in (i .log-fits, i .place-fits)
+
+loop-less-2 : tie.Need-loop-less-2 Inv-loop μ-loop
+loop-less-2 c = let l = c .before .before .before .before .before .before .before .before .before .before .before .before .loop-test .taken in omega arith
+
+loop-again-2 : tie.Need-loop-again-2 Inv-loop μ-loop
+loop-again-2 c =
     let s = c .before .before .before .before .before .step in
-    let i = c .before .before .before .before .before .before .before .before .before .before .loop .inv in
+    let l = c .before .before .before .before .before .before .before .before .before .before .before .before .loop-test .taken in
+    let i = c .before .before .before .before .before .before .before .before .before .before .before .before .before .loop .inv in
+    let h = leads-one (at-quadword _ _ (c .before .before .before .before .before .before .before .before .long-at .ensures) (c .before .before .before .before .before .before .before .long-at2 .ensures) _ _ _ (s .ensures)) (c .enum-told .given .1) in
     record {
       inner = i .inner;
       log-fits = next-log-fits _ _ _ _ (s .ensures) (i .log-fits) (s .kept .1 .1 .1 .0);
-      place-fits = next-place-fits _ _ _ _ (s .ensures) (i .place-fits);
+      place-fits = h .stays (i .place-fits);
       length = s .kept .1 .1 .1 .0 ∙ i .length;
-      same =
-          goes-on _ _ _ _ _ _ _ (i .same) (c .before .before .before .before .before .before .before .before .before .loop-test .taken) (c .before .before .before .before .before .before .before .before .long-at .ensures) (c .before .before .before .before .before .before .before .long-at2 .ensures) (s .ensures)
-          (c .enum-told .given .1);
+      same = goes-on _ _ _ _ _ _ _ (i .same) 1 (omega arith) h;
     }
 
 returns : tie.Need-returns Inv-loop μ-loop
 returns c = ends-all _ _ _ _ _ _ _ (c .before .loop .inv .same) (c .loop-test .left)
 
 same-length-2 : tie.Need-same-length-2 Inv-loop μ-loop
-same-length-2 c = c .before .before .before .before .before .step .kept .1 .1 .1 .0 ∙ c .before .before .before .before .before .before .before .before .before .before .loop .inv .length
+same-length-2 c = c .before .before .before .before .before .step .kept .1 .1 .1 .0 ∙ c .before .before .before .before .before .before .before .before .before .before .before .before .before .loop .inv .length
 
 returns-2 : tie.Need-returns-2 Inv-loop μ-loop
 returns-2 c =
-    let i = c .before .before .before .before .before .before .before .before .before .before .loop .inv in
-    ends-refused _ _ _ _ _ _ _ (i .same) (c .before .before .before .before .before .before .before .before .before .loop-test .taken) (c .before .before .before .before .before .before .before .before .long-at .ensures) (c .before .before .before .before .before .before .before .long-at2 .ensures) (c .before .before .before .before .before .step .ensures)
+    let i = c .before .before .before .before .before .before .before .before .before .before .before .before .before .loop .inv in
+    ends-refused _ _ _ _ _ _ _ (i .same) (c .before .before .before .before .before .before .before .before .before .before .before .before .loop-test .taken) (c .before .before .before .before .before .before .before .before .long-at .ensures) (c .before .before .before .before .before .before .before .long-at2 .ensures) (c .before .before .before .before .before .step .ensures)
     (c .enum-told2 .given .1) (i .log-fits .holds)
 
 pub feed-spec : {M : Type 1} → statement M
@@ -72,6 +112,17 @@ feed-spec =
     μ-loop
     loop-holds
     (λ c. omega arith)
+    image-at-once-requires
+    (λ c. omega arith)
+    (λ c. omega arith)
+    image-quadwords-requires
+    (λ c. search needs)
+    (λ c. search needs)
+    add-entries
+    (λ c. omega arith)
+    loop-less
+    loop-again
+    (λ c. omega arith)
     (λ c. omega arith)
     (λ c κs. search needs)
     (λ c. omega arith)
@@ -79,8 +130,8 @@ feed-spec =
     step-requires
     (λ c. search needs)
     (λ c. omega arith)
-    loop-less
-    loop-again
+    loop-less-2
+    loop-again-2
     (λ c. search needs)
     (λ c. c .before .loop .inv .length)
     returns

@@ -7,23 +7,23 @@ use Rattle.gif.proofs.step.take_image.Reads as reads
 use Rattle.gif.proofs.step.take_image.Lts as lts
 use Rattle.gif.proofs.log.finish.Reads as finish-reads
 use Rattle.gif.proofs.tag.place_after.Reads as place-after-reads
+use Rattle.gif.proofs.image.image_writes.Reads as image-writes-reads
 
--- src/step.rt:108:9
 place-after-requires : tie.Need-place-after-requires
 place-after-requires c κs = search needs
 
--- src/step.rt:117:5
 finish-requires : tie.Need-finish-requires
 finish-requires c κs = search needs
 
--- src/step.rt:97:1
 same-length : tie.Need-same-length
 same-length c = search needs
 
--- src/step.rt:97:1
 returns : tie.Need-returns
 unfolding imageStep
-returns c = rw (whole-low (c .before .before .before .before .before .before .args .low) (c .before .before .before .before .before .before .args .high) (search needs), whole-high (c .before .before .before .before .before .before .args .low) (c .before .before .before .before .before .before .args .high) (search needs) (search needs), ← c .before .before .before .before .place-after .ensures) (c .before .before .finish .ensures)
+returns c =
+    let x = c .before .before .before .before .before .before .before .args in
+    rw (whole-low (x .low) (x .high) (search needs), whole-high (x .low) (x .high) (search needs) (search needs), ← c .before .before .before .before .before .place-after .ensures, ← c .before .before .before .before .image-writes .ensures)
+    (c .before .before .finish .ensures)
 
 pub take-image-spec : {M : Type 1} → statement M
-take-image-spec = tie.close (tie.spec place-after-requires finish-requires same-length returns)
+take-image-spec = tie.close (tie.spec place-after-requires (λ c κs. search needs) finish-requires same-length returns)

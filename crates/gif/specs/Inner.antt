@@ -1,0 +1,42 @@
+-- Facts that inner functions require of their input or promise; no promise of a public function cites them.
+use Prim.Native.Nat.{ℕ, _+_, _*_, _-_, _≤_}
+use mathlib.Core.Path.{_≡_}
+use mathlib.Core.List.{List, [], _∷_}
+use lib.ListN.{length}
+use Rattle.gif.specs.declared.Entry.{Entry}
+use Rattle.gif.specs.declared.TagFormat.{TagFormat}
+use Rattle.gif.specs.declared.TagFormat.the-variants.{Packed, Reglist, Image}
+use Rattle.gif.specs.declared.Place.{Place}
+use Rattle.gif.specs.declared.Place.the-variants.{Idle, Data}
+use Rattle.gif.specs.declared.Path.{Path}
+use Rattle.gif.specs.Log.{entry}
+use Rattle.gif.specs.Range.{PlaceFits}
+use Rattle.gif.specs.Feed.{Fed, fed, feedsOf}
+
+-- what came with k quadwords before it
+abbrev pub plus : ℕ → Fed → Fed
+plus k x = fed (x .path) (x .used) (x .log) (k + x .taken)
+
+-- the n quadwords from address a on lead from a path, the entries used and the log to others, whatever comes after them
+pub record Leads (main : List ℕ) (a n : ℕ) (p : Path) (used : ℕ) (log : List ℕ) (p′ : Path) (used′ : ℕ) (log′ : List ℕ) : Type 0 where
+  pub goes : (c : ℕ) → feedsOf main a (n + c) p used log ≡ plus n (feedsOf main (a + 16 * n) c p′ used′ log′)
+  pub stays : PlaceFits (p .place) → PlaceFits (p′ .place)
+
+-- the data quadwords of IMAGE that are due before a tag's last one
+abbrev pub aheadIn : TagFormat → ℕ → ℕ
+aheadIn Packed due = 0
+aheadIn Reglist due = 0
+aheadIn Image due = due - 1
+
+abbrev pub imageAhead : Place → ℕ
+imageAhead Idle = 0
+imageAhead (Data t) = aheadIn (t .format) (t .due)
+
+-- n of them, for which the log has room
+pub record ImageFits (w : Place) (used : ℕ) (log : List ℕ) (n : ℕ) : Type 0 where
+  pub ahead : n ≤ imageAhead w
+  pub room : 2 * (used + 2 * n) ≤ length log
+
+-- "each two writes to 54h, low half first"
+abbrev pub imageWrites : ℕ → ℕ → List Entry
+imageWrites low high = entry 84 low ∷ entry 84 high ∷ []
