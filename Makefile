@@ -25,6 +25,7 @@ test:
 	mkdir -p build
 	{ rt ci 2>&1; echo $$? > build/ci.status; } | tee build/ci.log; test "$$(cat build/ci.status)" = 0
 	$(MAKE) second
+	cargo test --quiet --release --offline --manifest-path second/Cargo.toml --target-dir build/second
 	$(SECOND) compare-gif target/bin/gif_replay 1,2,3 20000
 	$(SECOND) compare-vif target/bin/vif_replay 1,2,3 100000
 	$(SECOND) compare-capture target/bin/replay 1,2,3 2000

@@ -50,7 +50,7 @@ holding q t due = pathOf q (Data (withDue t due))
 
 -- what a data quadword before the tag's last one leaves
 abbrev imageLeft : ℕ → HeldTag → ℕ → List ℕ → Left
-imageLeft q t used log = record { answer = Taken; path = holding q t (t .due - 1); used = used + 2; log = log }
+imageLeft q t used log = record { answer = Taken; number = 0; path = holding q t (t .due - 1); used = used + 2; log = log }
 
 module _ (q : ℕ) (t : HeldTag) (i : t .format ≡ Image) (d : 1 < t .due) where
   place-before-last : placeAfter t ≡ Data (withDue t (t .due - 1))
