@@ -3,3 +3,4 @@ pub mod FieldLaws
 pub mod ChoiceLaws
 pub mod ListLaws
 pub mod PartLaws
+pub mod CountLaws

@@ -2,3 +2,5 @@
 pub mod Fields
 pub mod Memory
 pub mod Parts
+pub mod Refusals
+pub mod Counts

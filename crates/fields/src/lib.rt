@@ -1,5 +1,6 @@
 // Definitions and laws: fields of numbers, the choice by a test, numbers in main memory, and blocks of words put together of parts.
 mod memory;
+pub mod refusals;
 
 pub use memory::lies_inside;
 pub use memory::long_at;
@@ -7,6 +8,11 @@ pub use memory::word_at;
 ghost use mathlib.Core.Path.{_≡_};
 ghost use lib.ListN.{set};
 ghost use Rattle.fields.specs.Parts.{withWords};
+
+// What is counted over completed steps.
+pub struct Counts {
+    pub steps: u64,
+}
 
 fn put_word(block: &mut [u32], at: usize, word: u32)
     ensures { λ _. ⌜ now (block .exit) ≡ set (now (block .entry)) at word ⌝ }

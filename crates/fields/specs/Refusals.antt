@@ -1,0 +1,122 @@
+-- The refusals' numbers, in document 01's order, and the two answers of a run that are neither done nor a refusal.
+use Prim.Native.Nat.{ℕ}
+
+-- ---- "Entry, in this order"
+
+-- "1 main memory length 0, not a multiple of 16 or above 1,048,576"
+abbrev pub mainLength : ℕ
+mainLength = 1
+
+-- "2 data memory not 4,096 words"
+abbrev pub dataLength : ℕ
+dataLength = 2
+
+-- "3 code memory not 16,384 bytes"
+abbrev pub codeLength : ℕ
+codeLength = 3
+
+-- "4 log length odd, above 131,072 numbers, or below twice the entries used"
+abbrev pub logLength : ℕ
+logLength = 4
+
+-- "5 a state or start value outside the range of its field"
+abbrev pub outOfRange : ℕ
+outOfRange = 5
+
+-- "14 pending words outside this main memory"; tag step: "14 payload outside memory"
+abbrev pub payloadOutside : ℕ
+payloadOutside = 14
+
+-- ---- "Tag step, in order"
+
+-- "10 TADR outside memory"
+abbrev pub tadrOutside : ℕ
+tadrOutside = 10
+
+-- "11 used ADDR not a multiple of 16"
+abbrev pub addrUnaligned : ℕ
+addrUnaligned = 11
+
+-- "12 SPR set with a used ADDR"
+abbrev pub scratchpadSet : ℕ
+scratchpadSet = 12
+
+-- "13 call with two on the stack"
+abbrev pub stackFull : ℕ
+stackFull = 13
+
+-- ---- "VIF step"
+
+-- "20 CMD not listed"
+abbrev pub cmdUnlisted : ℕ
+cmdUnlisted = 20
+
+-- "21 vl 3 with vn below 3"
+abbrev pub formatMissing : ℕ
+formatMissing = 21
+
+-- "22 UNPACK with WL 0 or WL > CL"
+abbrev pub cycleWrong : ℕ
+cycleWrong = 22
+
+-- "23 STMOD 3"
+abbrev pub modeWrong : ℕ
+modeWrong = 23
+
+-- "24 DIRECT payload due and the next word isn't word 0"
+abbrev pub directUnaligned : ℕ
+directUnaligned = 24
+
+-- "31 log lacks room", of a VIF step and of a GIF step
+abbrev pub logFull : ℕ
+logFull = 31
+
+-- ---- "GIF step"
+
+-- "30 descriptor B met at its data, PACKED or REGLIST"
+abbrev pub descriptorB : ℕ
+descriptorB = 30
+
+-- ---- "Builder"
+
+-- "46 sheet too long"
+abbrev pub sheetLong : ℕ
+sheetLong = 46
+
+-- "44 header cut", "44 body cut"
+abbrev pub recordCut : ℕ
+recordCut = 44
+
+-- "40 mark"
+abbrev pub markWrong : ℕ
+markWrong = 40
+
+-- "41 kind"
+abbrev pub kindWrong : ℕ
+kindWrong = 41
+
+-- "42 count"
+abbrev pub countWrong : ℕ
+countWrong = 42
+
+-- "43 address"
+abbrev pub addressWrong : ℕ
+addressWrong = 43
+
+-- "45 non-zero pad"
+abbrev pub padWrong : ℕ
+padWrong = 45
+
+-- "47, exactly if the chain is longer than the output"
+abbrev pub outputShort : ℕ
+outputShort = 47
+
+-- ---- answers of a run
+
+-- "else if the allowance is used, answer 90"
+abbrev pub allowanceUsed : ℕ
+allowanceUsed = 90
+
+-- "After a step that completes a VIF code with its bit 31 set, payload included, answer 91 at once"
+abbrev pub interruptMet : ℕ
+interruptMet = 91

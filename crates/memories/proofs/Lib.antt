@@ -1,0 +1,3 @@
+-- Laws of the sizes and lengths.
+pub mod UnitLaws
+pub mod LengthLaws

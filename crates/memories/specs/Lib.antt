@@ -1,0 +1,3 @@
+-- The memories that a host lends.
+pub mod Units
+pub mod Lengths
