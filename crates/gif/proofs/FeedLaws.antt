@@ -1,25 +1,26 @@
 -- Quadwords given one after another: the turns, and what the tests give.
 use mathlib.Core.Path.{_≡_, refl, sym, ap, _∙_}
-use mathlib.Core.Bool.{Bool, true, false, not, _&&_}
+use mathlib.Core.Bool.{true, false, not}
 use mathlib.Core.List.{List}
 use Prim.Native.Nat.{ℕ, zero, suc, _+_, _*_, _-_, _<_, _≤_}
 use native.Mathlib.Nat.{zero-add, add-zero, add-assoc, sub-zero, mul-zero}
 use native.Mathlib.Numerals.{one-add}
 use native.Mathlib.Omega.{arith}
-use borrow.Author.Tests.{leb-true}
+use borrow.Author.Tests.{leb-true, ne-eqb}
 use lib.ListN.{length}
 use lib.Dec.{leb}
 use Rattle.fields.specs.Fields.{if, quadword}
+use Rattle.fields.specs.Refusals.{logLength, outOfRange, payloadOutside}
 use Rattle.fields.specs.Memory.{longAt, quadwordAt, inside}
-use Rattle.fields.proofs.ChoiceLaws.{if-ind, and-left, and-right}
+use Rattle.fields.proofs.ChoiceLaws.{if-ind, if-zero, and-left, and-right, not-false}
 use Rattle.gif.specs.declared.Path.{Path}
 use Rattle.gif.specs.declared.GifAnswer.{GifAnswer}
 use Rattle.gif.specs.declared.GifAnswer.the-variants.{Taken, Refused}
 use Rattle.gif.specs.declared.GifResult.{GifResult}
-use Rattle.gif.specs.Log.{logRefused, LogFits}
+use Rattle.gif.specs.Log.{entrySize, logRefused, LogFits}
 use Rattle.gif.specs.Range.{pathInRange, PlaceFits}
 use Rattle.gif.specs.Step.{Left, left, refused, gifStep}
-use Rattle.gif.specs.Feed.{Fed, fed, oneMore, afterQuadword, onQuadword, feedsOf, feedOf}
+use Rattle.gif.specs.Feed.{Fed, fed, oneMore, afterQuadword, onQuadword, feedsOf, feedRefusal, feedOf}
 use Rattle.gif.specs.Inner.{plus, Leads}
 use Rattle.gif.proofs.LogLaws.{logged-length}
 use Rattle.gif.proofs.RangeLaws.{log-fits}
@@ -30,7 +31,7 @@ by-answer : {x y : GifAnswer} → x ≡ y → (f : Path → ℕ → List ℕ →
 by-answer q f o p used log h = rw q h
 
 module _ (main : List ℕ) (a : ℕ) (p : Path) (used : ℕ) (log : List ℕ) where
-  pub feeds-none : (n : ℕ) → n ≡ 0 → feedsOf main a n p used log ≡ fed p used log 0
+  pub feeds-none : (n : ℕ) → n ≡ 0 → feedsOf main a n p used log ≡ fed p used log 0 Taken
   unfolding feedsOf
   feeds-none n z = rw z
 
@@ -43,7 +44,7 @@ module _ (main : List ℕ) (a : ℕ) (p : Path) (used : ℕ) (log : List ℕ) wh
     pub feeds-taken : o .answer ≡ Taken → feedsOf main a n p used log ≡ oneMore (feedsOf main (a + 16) n′ (o .path) (o .used) (o .log))
     feeds-taken q = one-turn ∙ by-answer q (feedsOf main (a + 16) n′) o p used log refl
 
-    pub feeds-refused : {m : ℕ} → o .answer ≡ Refused m → feedsOf main a n p used log ≡ fed p used log 0
+    pub feeds-refused : {m : ℕ} → o .answer ≡ Refused m → feedsOf main a n p used log ≡ fed p used log 0 (Refused m)
     feeds-refused q = one-turn ∙ by-answer q (feedsOf main (a + 16) n′) o p used log refl
 
 -- a step of the quadword that lies at an address
@@ -93,7 +94,7 @@ module _ (main : List ℕ) (a count : ℕ) (p : Path) (used : ℕ) (log : List �
   feeds-begin = rw (mul-zero, add-zero, sub-zero, zero-add)
 
   module _ (k : ℕ) {w : Fed} (i : plus k (feedsOf main (a + 16 * k) (count - k) p used log) ≡ w) where
-    pub ends-all : count ≤ k → fed p used log k ≡ w
+    pub ends-all : count ≤ k → fed p used log k Taken ≡ w
     ends-all l =
         let z : count - k ≡ 0 = omega arith in
         sym (ap (plus k) (feeds-none main (a + 16 * k) p used log (count - k) z) ∙ rw add-zero) ∙ i
@@ -109,7 +110,7 @@ module _ (main : List ℕ) (a count : ℕ) (p : Path) (used : ℕ) (log : List �
 
     pub ends-refused : k < count → {low high : ℕ} → low ≡ longAt main (a + 16 * k) → high ≡ longAt main (a + 16 * k + 8)
         → {r : GifResult} {log′ : List ℕ} → left r log′ ≡ gifStep p (quadword low high) used log
-        → {m : ℕ} → r .answer ≡ Refused m → 2 * used ≤ length log → fed p used log′ k ≡ w
+        → {m : ℕ} → r .answer ≡ Refused m → entrySize * used ≤ length log → fed p used log′ k (Refused m) ≡ w
     ends-refused l {low} {high} el eh {r} {log′} e {m} q h =
         let c : count - k ≡ suc (count - (k + 1)) = omega arith in
         let s : log′ ≡ log = ap (λ (o : Left). o .log) (rw (← e) at (step-wrote p used log h (quadword low high) .same m) q) in
@@ -121,7 +122,7 @@ pub next-log-fits : (p : Path) (quad used : ℕ) (log : List ℕ) {r : GifResult
     → LogFits log used → length log′ ≡ length log → LogFits log′ (r .used)
 next-log-fits p quad used log {r} e f n =
     let s = f .short in
-    let o : 2 * (r .used) ≤ length log = rw (← e) at (step-wrote p used log (f .holds) quad .room) in
+    let o : entrySize * (r .used) ≤ length log = rw (← e) at (step-wrote p used log (f .holds) quad .room) in
     record { short = omega arith; holds = omega arith }
 
 -- ---- the tests of the public function
@@ -133,32 +134,35 @@ inside-most main a n h =
     let m = leb-true (a + n) (length main) (and-right (leb (length main) 1048576) _ h) in
     omega arith
 
-not-true : (b : Bool) → not b ≡ true → b ≡ false
-not-true true h = sym h
-not-true false h = refl
-
 -- by the outcome of the tests
-module _ (main : List ℕ) (a n : ℕ) (p : Path) (used : ℕ) (log : List ℕ) {b : Bool}
-    (t : b ≡ (inside main a (16 * n) && (not (logRefused log used) && pathInRange p))) where
-  pub fed-fits : b ≡ true → (a + 16 * n ≤ 1048576) × (LogFits log used × PlaceFits (p .place))
-  fed-fits h =
-      let g = sym t ∙ h in
-      let g′ = and-right (inside main a (16 * n)) _ g in
-      (inside-most main a (16 * n) (and-left _ _ g), (log-fits log used (not-true _ (and-left _ _ g′)), record { held = and-right (not (logRefused log used)) _ g′ }))
+module _ (main : List ℕ) (a n : ℕ) (p : Path) (used : ℕ) (log : List ℕ) {r : ℕ} (t : r ≡ feedRefusal main a n p used log) where
+  pub fed-fits : r ≡ 0 → (a + 16 * n ≤ 1048576) × (LogFits log used × PlaceFits (p .place))
+  unfolding feedRefusal
+  fed-fits z =
+      let l = if-zero (logRefused log used) logLength (omega arith) (sym t ∙ z) in
+      let g = if-zero (not (pathInRange p)) outOfRange (omega arith) (l .1) in
+      let i = if-zero (not (inside main a (16 * n))) payloadOutside (omega arith) (g .1) in
+      (inside-most main a (16 * n) (not-false _ (i .0)), (log-fits log used (l .0), record { held = not-false _ (g .0) }))
 
-  pub fed-tested : b ≡ true → {x : Fed} → x ≡ feedsOf main a n p used log → x ≡ feedOf main a n p used log
+  pub fed-tested : r ≡ 0 → {x : Fed} → x ≡ feedsOf main a n p used log → x ≡ feedOf main a n p used log
   unfolding feedOf if
-  fed-tested h e = rw (sym t ∙ h) e
+  fed-tested z e = rw (sym t ∙ z) e
 
-  pub fed-none : b ≡ false → fed p used log 0 ≡ feedOf main a n p used log
+  pub fed-none : (r ≡ 0 → ⊥) → fed p used log 0 (Refused r) ≡ feedOf main a n p used log
   unfolding feedOf if
-  fed-none h = rw (sym t ∙ h)
+  fed-none h = rw (← t, ne-eqb r 0 h)
+
+-- input that passes the tests
+pub feed-tested : (main : List ℕ) (a n : ℕ) (p : Path) (used : ℕ) (log : List ℕ)
+    → inside main a (16 * n) ≡ true → logRefused log used ≡ false → pathInRange p ≡ true → feedOf main a n p used log ≡ feedsOf main a n p used log
+unfolding feedOf feedRefusal if
+feed-tested main a n p used log i l g = rw (l, g, i)
 
 -- ---- for callers: the quadwords taken, one step each
 
 -- as many quadwords as were taken, from address a on, each taken by a step of its own, lead to what is left
 pub data Takes (main : List ℕ) : ℕ → Path → ℕ → List ℕ → Fed → Type 0 where
-  none : {a used : ℕ} {p : Path} {log : List ℕ} → Takes main a p used log (fed p used log 0)
+  none : {a used : ℕ} {p : Path} {log : List ℕ} {g : GifAnswer} → Takes main a p used log (fed p used log 0 g)
   more : {a used : ℕ} {p : Path} {log : List ℕ} {x : Fed} → gifStep p (quadwordAt main a) used log .answer ≡ Taken
       → Takes main (a + 16) (gifStep p (quadwordAt main a) used log .path) (gifStep p (quadwordAt main a) used log .used)
       (gifStep p (quadwordAt main a) used log .log) x
@@ -166,9 +170,9 @@ pub data Takes (main : List ℕ) : ℕ → Path → ℕ → List ℕ → Fed →
 
 -- by the answer to a quadword
 answer-ind : (P : Fed → Type 0) (f : Path → ℕ → List ℕ → Fed) (g : GifAnswer) (o : Left) (p : Path) (used : ℕ) (log : List ℕ)
-    → (g ≡ Taken → P (oneMore (f (o .path) (o .used) (o .log)))) → P (fed p used log 0) → P (afterQuadword f g o p used log)
+    → (g ≡ Taken → P (oneMore (f (o .path) (o .used) (o .log)))) → ((m : ℕ) → g ≡ Refused m → P (fed p used log 0 (Refused m))) → P (afterQuadword f g o p used log)
 answer-ind P f Taken o p used log t r = t refl
-answer-ind P f (Refused m) o p used log t r = r
+answer-ind P f (Refused m) o p used log t r = r m refl
 
 pub feeds-quadwords : (main : List ℕ) (a n : ℕ) (p : Path) (used : ℕ) (log : List ℕ) → Takes main a p used log (feedsOf main a n p used log)
 unfolding feedsOf
@@ -177,7 +181,7 @@ feeds-quadwords main a (suc n) p used log =
     let o = gifStep p (quadwordAt main a) used log in
     answer-ind (Takes main a p used log) (feedsOf main (a + 16) n) (o .answer) o p used log
     (λ e. more e (feeds-quadwords main (a + 16) n (o .path) (o .used) (o .log)))
-    none
+    (λ m e. none)
 
 -- what the public function leaves, for any input
 pub feed-quadwords : (main : List ℕ) (a n : ℕ) (p : Path) (used : ℕ) (log : List ℕ) {x : Fed} → x ≡ feedOf main a n p used log → Takes main a p used log x
@@ -194,12 +198,12 @@ feeds-few main a zero p used log = record { few = omega arith }
 feeds-few main a (suc n) p used log =
     let o = gifStep p (quadwordAt main a) used log in
     let h = feeds-few main (a + 16) n (o .path) (o .used) (o .log) .few in
-    answer-ind (Few (suc n)) (feedsOf main (a + 16) n) (o .answer) o p used log (λ e. record { few = omega arith }) (record { few = omega arith })
+    answer-ind (Few (suc n)) (feedsOf main (a + 16) n) (o .answer) o p used log (λ e. record { few = omega arith }) (λ m e. record { few = omega arith })
 
 pub feed-few : (main : List ℕ) (a n : ℕ) (p : Path) (used : ℕ) (log : List ℕ) {x : Fed} → x ≡ feedOf main a n p used log → x .taken ≤ n
 unfolding feedOf
 feed-few main a n p used log e =
-    let z : Few n (fed p used log 0) = record { few = omega arith } in
+    let z : Few n (fed p used log 0 (Refused (feedRefusal main a n p used log))) = record { few = omega arith } in
     rw e (if-ind (Few n) _ (feeds-few main a n p used log) z .few)
 
 -- the path stays in range, and the log's length and its room for the entries stay
@@ -208,8 +212,8 @@ pub takes-ranged : {main : List ℕ} {a used : ℕ} {p : Path} {log : List ℕ} 
 takes-ranged none r = r
 takes-ranged {main} {a} {used} {p} {log} (more e t) r = takes-ranged t (step-ranged p r used log (quadwordAt main a))
 
-pub takes-fits : {main : List ℕ} {a used : ℕ} {p : Path} {log : List ℕ} {x : Fed} → Takes main a p used log x → 2 * used ≤ length log
-    → (length (x .log) ≡ length log) × (2 * (x .used) ≤ length log)
+pub takes-fits : {main : List ℕ} {a used : ℕ} {p : Path} {log : List ℕ} {x : Fed} → Takes main a p used log x → entrySize * used ≤ length log
+    → (length (x .log) ≡ length log) × (entrySize * (x .used) ≤ length log)
 takes-fits none h = (refl, h)
 takes-fits {main} {a} {used} {p} {log} (more e t) h =
     let w = step-wrote p used log h (quadwordAt main a) in

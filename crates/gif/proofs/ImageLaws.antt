@@ -17,7 +17,7 @@ use Rattle.gif.specs.declared.Place.{Place}
 use Rattle.gif.specs.declared.Place.the-variants.{Idle, Data}
 use Rattle.gif.specs.declared.Path.{Path}
 use Rattle.gif.specs.declared.GifAnswer.the-variants.{Taken}
-use Rattle.gif.specs.Log.{logged, LogFits}
+use Rattle.gif.specs.Log.{entrySize, HasRoom, logged, LogFits}
 use Rattle.gif.specs.Tag.{pathOf, withDue, placeAfter}
 use Rattle.gif.specs.Step.{Left, imageStep, gifStep}
 use Rattle.gif.specs.Inner.{Leads, aheadIn, ImageFits, imageWrites}
@@ -57,7 +57,7 @@ module _ (q : ℕ) (t : HeldTag) (i : t .format ≡ Image) (d : 1 < t .due) wher
   unfolding placeAfter if
   place-before-last = rw (ne-eqb (t .due) 1 (λ e. omega arith))
 
-  image-step : (low high used : ℕ) (log : List ℕ) → low < 2 ^ 64 → high < 2 ^ 64 → 2 * (used + 2) ≤ length log
+  image-step : (low high used : ℕ) (log : List ℕ) → low < 2 ^ 64 → high < 2 ^ 64 → HasRoom log used 2
       → {log′ : List ℕ} → log′ ≡ logged log used (imageWrites low high)
       → imageLeft q t used log′ ≡ gifStep (pathOf q (Data t)) (quadword low high) used log
   unfolding gifStep imageStep
@@ -74,7 +74,7 @@ module _ (main : List ℕ) (a used : ℕ) (log₀ : List ℕ) (q : ℕ) (t : Hel
   pub image-begins : Stored 0 log₀
   image-begins = rw (sub-zero (t .due), add-zero used) leads-none
 
-  pub image-more : {k low high : ℕ} {log log′ : List ℕ} {es : List Entry} → k < aheadIn (t .format) (t .due) → 2 * (used + 2 * k + 2) ≤ length log
+  pub image-more : {k low high : ℕ} {log log′ : List ℕ} {es : List Entry} → k < aheadIn (t .format) (t .due) → HasRoom log (used + 2 * k) 2
       → low ≡ longAt main (a + 16 * k) → high ≡ longAt main (a + 16 * k + 8) → low < 2 ^ 64 → high < 2 ^ 64
       → es ≡ imageWrites low high → log′ ≡ logged log (used + 2 * k) es → Stored k log → Stored (k + 1) log′
   image-more {k} {low} {high} {log} {log′} h r el eh l m ee e i =

@@ -15,13 +15,14 @@ use Rattle.gif.specs.declared.GifAnswer.the-variants.{Taken}
 use Rattle.gif.specs.declared.Writes.{Writes}
 use Rattle.gif.specs.declared.Writes.the-variants.{Nothing, One, Two}
 use Rattle.fields.specs.Fields.{if}
+use Rattle.fields.specs.Refusals.{logFull}
 use Rattle.fields.proofs.ListLaws.{sets-then}
-use Rattle.gif.specs.Log.{numbers, listed, logged, lacksRoom, Entered, entered, entryOf}
+use Rattle.gif.specs.Log.{entrySize, HasRoom, numbers, listed, logged, lacksRoom, Entered, entered, entryOf}
 use Rattle.gif.specs.Step.{Left, refused, commit}
 
 -- one entry is two stores
 pub logged-one : (log : List ℕ) (used : ℕ) (e : Entry)
-    → set (set log (2 * used) (e .register)) (2 * used + 1) (e .value) ≡ logged log used (e ∷ [])
+    → set (set log (entrySize * used) (e .register)) (entrySize * used + 1) (e .value) ≡ logged log used (e ∷ [])
 unfolding logged
 logged-one log used e = rw add-one
 
@@ -30,11 +31,11 @@ pub logged-two : (log : List ℕ) (used : ℕ) (e f : Entry) {a b : List ℕ} �
     → b ≡ logged log used (e ∷ f ∷ [])
 unfolding logged
 logged-two log used e f p q =
-    let n : 2 * (used + 1) ≡ suc (suc (2 * used)) = omega arith in rw (q, p, n)
+    let n : entrySize * (used + 1) ≡ suc (suc (entrySize * used)) = omega arith in rw (q, p, n)
 
 pub logged-length : (log : List ℕ) (used : ℕ) (es : List Entry) → length (logged log used es) ≡ length log
 unfolding logged
-logged-length log used es = length-sets log (2 * used) (numbers es)
+logged-length log used es = length-sets log (entrySize * used) (numbers es)
 
 -- a step writes at most two entries
 pub listed-most : (w : Writes) → length (listed w) ≤ 2
@@ -42,27 +43,27 @@ listed-most Nothing = omega arith
 listed-most (One e) = omega arith
 listed-most (Two e f) = omega arith
 
--- half an even number is below a number exactly if the number is below its double
-pub half-below : (n used : ℕ) → (n % 2 ≡ 1 → ⊥) → ltb (n / 2) used ≡ ltb n (2 * used)
-half-below n used h = go (ltb n (2 * used)) refl
+-- a log of whole entries has fewer than `used` exactly if its numbers are fewer than theirs
+pub entries-below : (n used : ℕ) → n % entrySize ≡ 0 → ltb (n / entrySize) used ≡ ltb n (entrySize * used)
+entries-below n used h = go (ltb n (entrySize * used)) refl
   where
-    go : (b : Bool) → ltb n (2 * used) ≡ b → ltb (n / 2) used ≡ b
-    go true e = let l = ltb-true n (2 * used) e in lt-ltb (n / 2) used (omega arith)
-    go false e = let l = ltb-false n (2 * used) e in le-ltb (n / 2) used (omega arith)
+    go : (b : Bool) → ltb n (entrySize * used) ≡ b → ltb (n / entrySize) used ≡ b
+    go true e = let l = ltb-true n (entrySize * used) e in lt-ltb (n / entrySize) used (omega arith)
+    go false e = let l = ltb-false n (entrySize * used) e in le-ltb (n / entrySize) used (omega arith)
 
 module _ (p after : Path) (es : List Entry) (used : ℕ) (log : List ℕ) {n : ℕ} (k : n ≡ length es) where
-  pub commit-full : length log < 2 * (used + n) → refused 31 p used log ≡ commit p after es used log
+  pub commit-full : length log < entrySize * (used + n) → refused logFull p used log ≡ commit p after es used log
   unfolding commit lacksRoom if
   commit-full h = simp (lt-ltb _ _ (rw k at h))
 
-  pub commit-fits : 2 * (used + n) ≤ length log → {m : List ℕ} → m ≡ logged log used es
+  pub commit-fits : HasRoom log used n → {m : List ℕ} → m ≡ logged log used es
       → _≡_ {A = Left} (record { answer = Taken; number = 0; path = after; used = used + n; log = m }) (commit p after es used log)
   unfolding commit lacksRoom if
   commit-fits h e = simp (le-ltb _ _ (rw k at h), e, k)
 
 -- ---- what entries leave of a log that has room for them
 
-pub numbers-length : (es : List Entry) → length (numbers es) ≡ 2 * length es
+pub numbers-length : (es : List Entry) → length (numbers es) ≡ entrySize * length es
 numbers-length [] = refl
 numbers-length (e ∷ es) = let h = numbers-length es in omega arith
 
@@ -75,50 +76,50 @@ pub logged-then : (log : List ℕ) (used : ℕ) (es fs : List Entry) → logged 
 unfolding logged
 logged-then log used es fs =
     let n = numbers-length es in
-    let e : 2 * (used + length es) ≡ 2 * used + length (numbers es) = omega arith in
-    rw (e, numbers-append es fs) (sets-then log (2 * used) (numbers es) (numbers fs))
+    let e : entrySize * (used + length es) ≡ entrySize * used + length (numbers es) = omega arith in
+    rw (e, numbers-append es fs) (sets-then log (entrySize * used) (numbers es) (numbers fs))
 
-module _ (log : List ℕ) (used : ℕ) (es : List Entry) (h : 2 * (used + length es) ≤ length log) where
-  counted-numbers : 2 * used + length (numbers es) ≡ 2 * (used + length es)
+module _ (log : List ℕ) (used : ℕ) (es : List Entry) (h : HasRoom log used (length es)) where
+  counted-numbers : entrySize * used + length (numbers es) ≡ entrySize * (used + length es)
   counted-numbers = let n = numbers-length es in omega arith
 
-  front-length : length (take (2 * used) log) ≡ 2 * used
-  front-length = length-take-le (2 * used) log (omega arith)
+  front-length : length (take (entrySize * used) log) ≡ entrySize * used
+  front-length = length-take-le (entrySize * used) log (omega arith)
 
-  both-length : length (take (2 * used) log ++ numbers es) ≡ 2 * (used + length es)
-  both-length = length-append (take (2 * used) log) (numbers es) ∙ rw front-length counted-numbers
+  both-length : length (take (entrySize * used) log ++ numbers es) ≡ entrySize * (used + length es)
+  both-length = length-append (take (entrySize * used) log) (numbers es) ∙ rw front-length counted-numbers
 
   -- the old entries, the new ones and what lies past them
-  pub logged-parts : logged log used es ≡ (take (2 * used) log ++ numbers es) ++ drop (2 * (used + length es)) log
+  pub logged-parts : logged log used es ≡ (take (entrySize * used) log ++ numbers es) ++ drop (entrySize * (used + length es)) log
   unfolding logged
   logged-parts =
-      sets-eq (numbers es) log (2 * used) (rw counted-numbers h) ∙ rw counted-numbers refl
+      sets-eq (numbers es) log (entrySize * used) (rw counted-numbers h) ∙ rw counted-numbers refl
 
-  pub logged-list : take (2 * (used + length es)) (logged log used es) ≡ take (2 * used) log ++ numbers es
-  logged-list = rw logged-parts (take-at (take (2 * used) log ++ numbers es) _ (2 * (used + length es)) both-length)
+  pub logged-list : take (entrySize * (used + length es)) (logged log used es) ≡ take (entrySize * used) log ++ numbers es
+  logged-list = rw logged-parts (take-at (take (entrySize * used) log ++ numbers es) _ (entrySize * (used + length es)) both-length)
 
-  pub logged-past : drop (2 * (used + length es)) (logged log used es) ≡ drop (2 * (used + length es)) log
-  logged-past = rw logged-parts (drop-at (take (2 * used) log ++ numbers es) _ (2 * (used + length es)) both-length)
+  pub logged-past : drop (entrySize * (used + length es)) (logged log used es) ≡ drop (entrySize * (used + length es)) log
+  logged-past = rw logged-parts (drop-at (take (entrySize * used) log ++ numbers es) _ (entrySize * (used + length es)) both-length)
 
-  pub logged-below : take (2 * used) (logged log used es) ≡ take (2 * used) log
+  pub logged-below : take (entrySize * used) (logged log used es) ≡ take (entrySize * used) log
   logged-below =
-      rw (logged-parts, append-assoc) (take-at (take (2 * used) log) _ (2 * used) front-length)
+      rw (logged-parts, append-assoc) (take-at (take (entrySize * used) log) _ (entrySize * used) front-length)
 
 -- one entry, with room for it and without
 module _ (log : List ℕ) (used : ℕ) (e : Entry) where
-  pub entry-fits : 2 * (used + 1) ≤ length log → {m : List ℕ} → m ≡ logged log used (e ∷ []) → entered true m ≡ entryOf log used e
+  pub entry-fits : HasRoom log used 1 → {m : List ℕ} → m ≡ logged log used (e ∷ []) → entered true m ≡ entryOf log used e
   unfolding entryOf lacksRoom if
-  entry-fits h q = rw (le-ltb (length log) (2 * (used + 1)) h, q)
+  entry-fits h q = rw (le-ltb (length log) (entrySize * (used + 1)) h, q)
 
-  pub entry-full : length log < 2 * (used + 1) → entered false log ≡ entryOf log used e
+  pub entry-full : length log < entrySize * (used + 1) → entered false log ≡ entryOf log used e
   unfolding entryOf lacksRoom if
-  entry-full h = rw (lt-ltb (length log) (2 * (used + 1)) h)
+  entry-full h = rw (lt-ltb (length log) (entrySize * (used + 1)) h)
 
   -- what was stored says of the room
-  pub entry-stored : {b : Bool} {m : List ℕ} → entered b m ≡ entryOf log used e → b ≡ true → 2 * (used + 1) ≤ length log
+  pub entry-stored : {b : Bool} {m : List ℕ} → entered b m ≡ entryOf log used e → b ≡ true → HasRoom log used 1
   unfolding entryOf lacksRoom if
-  entry-stored {b} q t = go (ltb (length log) (2 * (used + 1))) refl (ap (λ (x : Entered). x .stored) q)
+  entry-stored {b} q t = go (ltb (length log) (entrySize * (used + 1))) refl (ap (λ (x : Entered). x .stored) q)
     where
-      go : (c : Bool) → ltb (length log) (2 * (used + 1)) ≡ c → b ≡ if c (entered false log) (entered true (logged log used (e ∷ []))) .stored → 2 * (used + 1) ≤ length log
+      go : (c : Bool) → ltb (length log) (entrySize * (used + 1)) ≡ c → b ≡ if c (entered false log) (entered true (logged log used (e ∷ []))) .stored → HasRoom log used 1
       go true w s = absurd (let z : _≡_ {A = ℕ} 0 1 = cc in omega arith)
-      go false w s = ltb-false (length log) (2 * (used + 1)) w
+      go false w s = ltb-false (length log) (entrySize * (used + 1)) w

@@ -1,6 +1,6 @@
 -- Tests as facts.
 use mathlib.Core.Path.{_≡_, refl}
-use mathlib.Core.Bool.{Bool, true, false, _&&_, _||_}
+use mathlib.Core.Bool.{Bool, true, false, not, _&&_, _||_}
 use mathlib.Core.List.{List}
 use Prim.Native.Nat.{ℕ, _+_, _*_, _%_, _<_, _≤_}
 use native.Mathlib.Omega.{arith}
@@ -11,7 +11,7 @@ use lib.Dec.{eqb, ltb, leb}
 use Rattle.gif.specs.declared.HeldTag.{HeldTag}
 use Rattle.gif.specs.declared.Place.{Place}
 use Rattle.gif.specs.declared.Place.the-variants.{Idle, Data}
-use Rattle.gif.specs.Log.{logRefused, LogFits}
+use Rattle.gif.specs.Log.{entrySize, logMost, logRefused, LogFits}
 use Rattle.gif.specs.Tag.{quadwordsOf}
 use Rattle.gif.specs.Range.{within, tagInRange, placeInRange, TagFits, PlaceFits}
 
@@ -40,10 +40,10 @@ fits-tag t f =
 pub log-fits : (log : List ℕ) (used : ℕ) → logRefused log used ≡ false → LogFits log used
 unfolding logRefused
 log-fits log used h =
-    let h′ = or-right (eqb (length log % 2) 1) _ h in
+    let h′ = or-right (not (eqb (length log % entrySize) 0)) _ h in
     record {
       short = ltb-false _ _ (or-left _ _ h′);
-      holds = ltb-false _ _ (or-right (ltb 131072 (length log)) _ h′);
+      holds = ltb-false _ _ (or-right (ltb logMost (length log)) _ h′);
     }
 
 -- the last test of a tag's range, where the others passed

@@ -16,7 +16,7 @@ use Rattle.gif.specs.declared.Place.the-variants.{Idle, Data}
 use Rattle.gif.specs.declared.Path.{Path}
 use Rattle.gif.specs.declared.GifAnswer.the-variants.{Taken, Refused}
 use Rattle.fields.specs.Fields.{if, bits, quadword}
-use Rattle.gif.specs.Log.{logged, lacksRoom}
+use Rattle.gif.specs.Log.{entrySize, HasRoom, logged, lacksRoom}
 use Rattle.gif.specs.Tag.{pathOf, formatOf, nregOf, quadwordsOf, tagOf, tagQ, tagWrites, takenOf, descriptorAt, placeAfter, placeAtTag, withDue}
 use Rattle.gif.specs.Packed.{packedWrites, packedQ}
 use Rattle.gif.specs.Step.{Left, commit, tagStep, packedWith, packedStep, stepAt, gifStep}
@@ -38,7 +38,7 @@ abbrev pub took : Path → ℕ → List ℕ → Left
 took p used log = record { answer = Taken; number = 0; path = p; used = used; log = log }
 
 -- a step's writes that fit
-pub commit-room : (p after : Path) (es : List Entry) (used : ℕ) (log : List ℕ) → 2 * (used + length es) ≤ length log
+pub commit-room : (p after : Path) (es : List Entry) (used : ℕ) (log : List ℕ) → HasRoom log used (length es)
     → commit p after es used log ≡ took after (used + length es) (logged log used es)
 unfolding commit lacksRoom if
 commit-room p after es used log h = simp (le-ltb _ _ h)
@@ -74,7 +74,7 @@ module _ (n : ℕ) (some : 0 < n) (few : n < 32768) where
       simp (loops-at, ne-eqb n 0 (λ e. omega arith), e)
 
   -- the tag's own step writes nothing
-  pub sheet-tag : (q used : ℕ) (log : List ℕ) → 2 * used ≤ length log
+  pub sheet-tag : (q used : ℕ) (log : List ℕ) → entrySize * used ≤ length log
       → gifStep (pathOf q Idle) (sheetTag n) used log ≡ took (pathOf tagQ (sheetPlace n n)) used log
   unfolding gifStep tagStep logged
   sheet-tag q used log h =
@@ -97,7 +97,7 @@ module _ (n : ℕ) (some : 0 < n) (few : n < 32768) where
   descriptor-e d j = rw (mod-one j)
 
   -- a data quadword is one entry
-  pub sheet-data : (k q quad used : ℕ) (log : List ℕ) → 2 * (used + 1) ≤ length log
+  pub sheet-data : (k q quad used : ℕ) (log : List ℕ) → HasRoom log used 1
       → gifStep (pathOf q (sheetPlace n (suc k))) quad used log
       ≡ took (pathOf q (sheetPlace n k)) (used + 1) (logged log used (addressData quad ∷ []))
   unfolding gifStep packedWith packedQ packedWrites if
@@ -105,7 +105,7 @@ module _ (n : ℕ) (some : 0 < n) (few : n < 32768) where
       rw (descriptor-e (suc k) (takenOf (sheetHeld n (suc k))), place-next k)
       (commit-room _ _ (addressData quad ∷ []) used log h)
 
-  pub sheet-datas : (xs : List ℕ) (q used : ℕ) (log : List ℕ) → 2 * (used + length xs) ≤ length log
+  pub sheet-datas : (xs : List ℕ) (q used : ℕ) (log : List ℕ) → HasRoom log used (length xs)
       → gifRun xs (pathOf q (sheetPlace n (length xs))) used log
       ≡ took (pathOf q Idle) (used + length xs) (logged log used (addressDatas xs))
   unfolding gifRun logged
@@ -117,7 +117,7 @@ module _ (n : ℕ) (some : 0 < n) (few : n < 32768) where
       ∙ rw (e, ← logged-then log used (addressData x ∷ []) (addressDatas xs)))
 
 -- an idle path given a sheet's GIF tag and then n A+D quadwords is idle again with those n entries
-pub sheet-run : (xs : List ℕ) (q used : ℕ) (log : List ℕ) → 0 < length xs → length xs < 32768 → 2 * (used + length xs) ≤ length log
+pub sheet-run : (xs : List ℕ) (q used : ℕ) (log : List ℕ) → 0 < length xs → length xs < 32768 → HasRoom log used (length xs)
     → gifRun (sheetTag (length xs) ∷ xs) (pathOf q Idle) used log
     ≡ took (pathOf tagQ Idle) (used + length xs) (logged log used (addressDatas xs))
 unfolding gifRun

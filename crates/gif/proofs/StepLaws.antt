@@ -19,7 +19,7 @@ use Rattle.gif.specs.declared.Path.{Path}
 use Rattle.gif.specs.declared.GifAnswer.{GifAnswer}
 use Rattle.gif.specs.declared.GifAnswer.the-variants.{Taken, Refused}
 use Rattle.fields.specs.Fields.{if, bits, quadword}
-use Rattle.gif.specs.Log.{numbers, logged, lacksRoom, logRefused}
+use Rattle.gif.specs.Log.{entrySize, numbers, logged, lacksRoom, logRefused}
 use Rattle.gif.specs.Tag.{pathOf, formatOf, nregOf, quadwordsOf, tagOf, placeAfter, placeAtTag, withDue, nloopOf}
 use Rattle.gif.specs.Range.{within, tagInRange, placeInRange, pathInRange, TagFits}
 use Rattle.gif.specs.Step.{Left, refused, commit, tagStep, packedWith, reglistStep, imageStep, dataStep, stepAt, gifStep, takeOf}
@@ -37,9 +37,9 @@ pub record Wrote (p : Path) (used : ℕ) (log : List ℕ) (o : Left) : Type 0 wh
   pub entries : List Entry
   pub counted : o .used ≡ used + length entries
   pub stored : o .log ≡ logged log used entries
-  pub room : 2 * (o .used) ≤ length log
+  pub room : entrySize * (o .used) ≤ length log
 
-module _ (p : Path) (used : ℕ) (log : List ℕ) (h : 2 * used ≤ length log) where
+module _ (p : Path) (used : ℕ) (log : List ℕ) (h : entrySize * used ≤ length log) where
   wrote-refused : (n : ℕ) → Wrote p used log (refused n p used log)
   unfolding logged
   wrote-refused n =
@@ -54,7 +54,7 @@ module _ (p : Path) (used : ℕ) (log : List ℕ) (h : 2 * used ≤ length log) 
   wrote-commit : (after : Path) (es : List Entry) → Wrote p used log (commit p after es used log)
   unfolding commit lacksRoom
   wrote-commit after es =
-      if-ind-by (Wrote p used log) (ltb (length log) (2 * (used + length es)))
+      if-ind-by (Wrote p used log) (ltb (length log) (entrySize * (used + length es)))
       (λ e. wrote-refused 31)
       (λ e.
       record {
@@ -62,7 +62,7 @@ module _ (p : Path) (used : ℕ) (log : List ℕ) (h : 2 * used ≤ length log) 
         entries = es;
         counted = refl;
         stored = refl;
-        room = ltb-false (length log) (2 * (used + length es)) e;
+        room = ltb-false (length log) (entrySize * (used + length es)) e;
       })
 
   wrote-data : (f : TagFormat) (t : HeldTag) (quad : ℕ) → Wrote p used log (dataStep f p t quad used log)

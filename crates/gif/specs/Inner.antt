@@ -9,13 +9,13 @@ use Rattle.gif.specs.declared.TagFormat.the-variants.{Packed, Reglist, I
 use Rattle.gif.specs.declared.Place.{Place}
 use Rattle.gif.specs.declared.Place.the-variants.{Idle, Data}
 use Rattle.gif.specs.declared.Path.{Path}
-use Rattle.gif.specs.Log.{entry}
+use Rattle.gif.specs.Log.{HasRoom, entry}
 use Rattle.gif.specs.Range.{PlaceFits}
-use Rattle.gif.specs.Feed.{Fed, fed, feedsOf}
+use Rattle.gif.specs.Feed.{Fed, feedsOf}
 
 -- what came with k quadwords before it
 abbrev pub plus : ℕ → Fed → Fed
-plus k x = fed (x .path) (x .used) (x .log) (k + x .taken)
+plus k x = record { path = x .path; used = x .used; log = x .log; taken = k + x .taken; answer = x .answer; number = x .number }
 
 -- the n quadwords from address a on lead from a path, the entries used and the log to others, whatever comes after them
 pub record Leads (main : List ℕ) (a n : ℕ) (p : Path) (used : ℕ) (log : List ℕ) (p′ : Path) (used′ : ℕ) (log′ : List ℕ) : Type 0 where
@@ -35,7 +35,7 @@ imageAhead (Data t) = aheadIn (t .format) (t .due)
 -- n of them, for which the log has room
 pub record ImageFits (w : Place) (used : ℕ) (log : List ℕ) (n : ℕ) : Type 0 where
   pub ahead : n ≤ imageAhead w
-  pub room : 2 * (used + 2 * n) ≤ length log
+  pub room : HasRoom log used (2 * n)
 
 -- "each two writes to 54h, low half first"
 abbrev pub imageWrites : ℕ → ℕ → List Entry

@@ -1,6 +1,6 @@
 -- The log: document 01's "Each write is a log entry: register, value, two 64-bit numbers."
 use Prim.Native.Nat.{ℕ, _+_, _*_, _%_, _≤_}
-use mathlib.Core.Bool.{Bool, true, false, _||_}
+use mathlib.Core.Bool.{Bool, true, false, not, _||_}
 use mathlib.Core.List.{List, [], _∷_}
 use lib.ListN.{length}
 use lib.Seq.{sets}
@@ -22,6 +22,10 @@ abbrev pub numbers : List Entry → List ℕ
 numbers [] = []
 numbers (e ∷ es) = e .register ∷ e .value ∷ numbers es
 
+-- so many entries more fit after the first `used` ones
+abbrev pub HasRoom : List ℕ → ℕ → ℕ → Type 0
+HasRoom log used n = entrySize * (used + n) ≤ length log
+
 -- entries stored after the first `used` ones
 unfoldable pub logged : List ℕ → ℕ → List Entry → List ℕ
 logged log used es = sets log (entrySize * used) (numbers es)
@@ -30,10 +34,14 @@ logged log used es = sets log (entrySize * used) (numbers es)
 unfoldable pub lacksRoom : List ℕ → ℕ → List Entry → Bool
 lacksRoom log used es = ltb (length log) (entrySize * (used + length es))
 
+-- "above 131,072 numbers"
+abbrev pub logMost : ℕ
+logMost = 131072
+
 -- "4 log length odd, above 131,072 numbers, or below twice the entries used"
 unfoldable pub logRefused : List ℕ → ℕ → Bool
 logRefused log used =
-    eqb (length log % 2) 1 || (ltb 131072 (length log) || ltb (length log) (entrySize * used))
+    not (eqb (length log % entrySize) 0) || (ltb logMost (length log) || ltb (length log) (entrySize * used))
 
 -- one entry stored where there is room for it, and whether it was
 pub record Entered : Type 0 where
@@ -54,5 +62,5 @@ listed (Two e f) = e ∷ f ∷ []
 
 -- what a log that 4 does not name fulfils, as facts for inner functions
 pub record LogFits (log : List ℕ) (used : ℕ) : Type 0 where
-  pub short : length log ≤ 131072
-  pub holds : 2 * used ≤ length log
+  pub short : length log ≤ logMost
+  pub holds : entrySize * used ≤ length log

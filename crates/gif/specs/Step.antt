@@ -14,6 +14,7 @@ use Rattle.gif.specs.declared.GifAnswer.{GifAnswer}
 use Rattle.gif.specs.declared.GifAnswer.the-variants.{Taken, Refused}
 use Rattle.gif.specs.declared.GifResult.{GifResult}
 use Rattle.fields.specs.Fields.{if, bits}
+use Rattle.fields.specs.Refusals.{logLength, outOfRange, descriptorB, logFull}
 use Rattle.gif.specs.Log.{entry, logged, lacksRoom, logRefused}
 use Rattle.gif.specs.Tag.{pathOf, placeAfter, placeAtTag, tagQ, tagWrites, takenOf, descriptorAt}
 use Rattle.gif.specs.Packed.{packedWrites, packedQ}
@@ -47,7 +48,7 @@ refusedResult n p used = record { answer = Refused n; path = p; used = used }
 -- A step's writes and the path after it, all or none: "31, where the step's writes don't all fit".
 unfoldable pub commit : Path → Path → List Entry → ℕ → List ℕ → Left
 commit p after es used log =
-    if (lacksRoom log used es) (refused 31 p used log)
+    if (lacksRoom log used es) (refused logFull p used log)
     (record { answer = Taken; number = 0; path = after; used = used + length es; log = logged log used es })
 
 -- a tag's own step
@@ -57,7 +58,7 @@ tagStep p quad used log = commit p (pathOf tagQ (placeAtTag quad)) (tagWrites qu
 -- a PACKED data quadword under its descriptor: "30 descriptor B met at its data", "then 31"
 unfoldable pub packedWith : ℕ → Path → HeldTag → ℕ → ℕ → List ℕ → Left
 packedWith d p t quad used log =
-    if (eqb d 11) (refused 30 p used log)
+    if (eqb d 11) (refused descriptorB p used log)
     (commit p (pathOf (packedQ d (p .q) quad) (placeAfter t)) (packedWrites d (p .q) quad) used log)
 
 -- "PACKED (0), one quadword per descriptor": data quadword j is item j
@@ -66,7 +67,7 @@ packedStep p t quad used log = packedWith (descriptorAt t (takenOf t)) p t quad 
 
 unfoldable pub reglistStep : Path → HeldTag → ℕ → ℕ → List ℕ → Left
 reglistStep p t quad used log =
-    if (reglistRefused t) (refused 30 p used log)
+    if (reglistRefused t) (refused descriptorB p used log)
     (commit p (pathOf (p .q) (placeAfter t)) (reglistWrites t quad) used log)
 
 -- "IMAGE (2, 3): NLOOP quadwords, each two writes to 54h, low half first."
@@ -90,5 +91,5 @@ gifStep p quad used log = stepAt (p .place) p quad used log
 -- the public step, which tests its own input: 4, then 5, else the step
 unfoldable pub takeOf : Path → ℕ → ℕ → List ℕ → Left
 takeOf p quad used log =
-    if (logRefused log used) (refused 4 p used log)
-    (if (pathInRange p) (gifStep p quad used log) (refused 5 p used log))
+    if (logRefused log used) (refused logLength p used log)
+    (if (pathInRange p) (gifStep p quad used log) (refused outOfRange p used log))

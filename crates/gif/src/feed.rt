@@ -7,13 +7,23 @@ use super::image::image_quadwords;
 use super::log::log_refused;
 use super::range::path_in_range;
 use super::step::step;
+use fields::refusals;
 ghost use mathlib.Core.Path.{_≡_};
-ghost use mathlib.Core.Bool.{not, _&&_};
 ghost use Prim.Native.Nat.{_+_, _*_, _≤_};
-ghost use Rattle.fields.specs.Memory.{inside};
-ghost use Rattle.gif.specs.Log.{logRefused, LogFits};
-ghost use Rattle.gif.specs.Range.{pathInRange, PlaceFits};
-ghost use Rattle.gif.specs.Feed.{fedBy, feedsOf, feedOf};
+ghost use Rattle.gif.specs.Log.{LogFits};
+ghost use Rattle.gif.specs.Range.{PlaceFits};
+ghost use Rattle.gif.specs.Feed.{fedBy, feedsOf, feedRefusal, feedOf, quadwordsResult};
+
+fn ended(path: Path, used: u64, taken: u32, answer: GifAnswer) -> QuadwordsResult
+    ensures { λ r. ⌜ r ≡ quadwordsResult path used taken answer ⌝ }
+{
+    QuadwordsResult {
+        path,
+        used,
+        taken,
+        answer,
+    }
+}
 
 // The quadwords up to the first that is refused, where all was tested.
 fn feed(path: Path, main: &[u8], a: u32, count: u32, log: &mut [u64], used: u64) -> QuadwordsResult
@@ -43,27 +53,26 @@ fn feed(path: Path, main: &[u8], a: u32, count: u32, log: &mut [u64], used: u64)
                 entries = r.used;
                 taken += 1;
             }
-            GifAnswer::Refused(_) => break,
+            GifAnswer::Refused(n) => return ended(p, entries, taken, GifAnswer::Refused(n)),
         }
     }
-    QuadwordsResult {
-        path: p,
-        used: entries,
-        taken,
-    }
+    ended(p, entries, taken, GifAnswer::Taken)
 }
 
-// Whether the quadwords lie inside, and the log and the path are not refused.
-fn may_take(path: Path, main: &[u8], a: u32, count: u32, log: &[u64], used: u64) -> bool
-    ensures { λ r. ⌜ r ≡ (inside (now (main .entry)) a (16 * count) && (not (logRefused (now (log .entry)) used) && pathInRange path)) ⌝ }
+// The refusal of the input, 0 for none.
+fn feed_refusal(path: Path, main: &[u8], a: u32, count: u32, log: &[u64], used: u64) -> u32
+    ensures { λ r. ⌜ r ≡ feedRefusal (now (main .entry)) a count path used (now (log .entry)) ⌝ }
 {
-    if fields::lies_inside(main, a, 16 * count as usize) {
-        if log_refused(log, used) {
-            return false;
-        }
-        return path_in_range(path);
+    if log_refused(log, used) {
+        return refusals::LOG_LENGTH;
     }
-    false
+    if path_in_range(path) {
+        if fields::lies_inside(main, a, 16 * count as usize) {
+            return 0;
+        }
+        return refusals::PAYLOAD_OUTSIDE;
+    }
+    refusals::OUT_OF_RANGE
 }
 
 // Quadwords given to a path, on any input at all; none is taken where one lies outside.
@@ -77,12 +86,9 @@ pub fn take_quadwords(
 ) -> QuadwordsResult
     ensures { λ r. ⌜ fedBy r (now (log .exit)) ≡ feedOf (now (main .entry)) a count path used (now (log .entry)) ⌝ }
 {
-    if may_take(path, main, a, count, log, used) {
+    let number = feed_refusal(path, main, a, count, log, used);
+    if number == 0 {
         return feed(path, main, a, count, log, used);
     }
-    QuadwordsResult {
-        path,
-        used,
-        taken: 0,
-    }
+    ended(path, used, 0, GifAnswer::Refused(number))
 }

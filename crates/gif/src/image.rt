@@ -1,4 +1,5 @@
 // Data of IMAGE, many quadwords at a time: never a tag's last one, so that no tag ends here.
+use super::ENTRY_SIZE;
 use super::Entry;
 use super::HeldTag;
 use super::Path;
@@ -66,7 +67,7 @@ pub(crate) fn image_at_once(path: Path, left: u32, log: &[u64], used: u64) -> u3
     ensures { λ r. ⌜ (r ≤ left) × ImageFits (path .place) used (now (log .entry)) r ⌝ }
 {
     let ahead = image_ahead(path);
-    let room = (log.len() as u64 - 2 * used) / 4;
+    let room = (log.len() as u64 - ENTRY_SIZE * used) / (2 * ENTRY_SIZE);
     smaller(smaller(left, ahead as u64), room)
 }
 

@@ -43,6 +43,12 @@ pub struct Path {
     pub place: Place,
 }
 
+// The numbers of the log that an entry takes.
+pub const ENTRY_SIZE: u64 = 2;
+
+// The most numbers that a log has.
+pub const LOG_MOST: u64 = 131072;
+
 // One write, as the log has it.
 pub struct Entry {
     pub register: u64,
@@ -73,9 +79,10 @@ pub struct GifResult {
     pub used: u64,
 }
 
-// What quadwords given one after another left, and how many were taken.
+// What quadwords given one after another left, how many were taken, and the answer to the next one: taken, where none is left.
 pub struct QuadwordsResult {
     pub path: Path,
     pub used: u64,
     pub taken: u32,
+    pub answer: GifAnswer,
 }

@@ -1,14 +1,17 @@
 // The log's entries.
+use super::ENTRY_SIZE;
 use super::Entry;
 use super::GifAnswer;
 use super::GifResult;
+use super::LOG_MOST;
 use super::Path;
 use super::Writes;
+use fields::refusals;
 ghost use mathlib.Core.Path.{_≡_};
 ghost use mathlib.Core.List.{[], _∷_};
 ghost use Prim.Native.Nat.{_+_, _*_, _≤_};
 ghost use lib.ListN.{length};
-ghost use Rattle.gif.specs.Log.{entry, listed, logged, logRefused, LogFits, entered, entryOf};
+ghost use Rattle.gif.specs.Log.{HasRoom, entry, listed, logged, logRefused, LogFits, entered, entryOf};
 ghost use Rattle.gif.specs.Step.{left, commit};
 
 fn count(writes: Writes) -> u64
@@ -22,16 +25,16 @@ fn count(writes: Writes) -> u64
 }
 
 fn put(log: &mut [u64], used: u64, e: Entry)
-    requires { ⌜ 2 * (used + 1) ≤ length (now log) ⌝ }
+    requires { ⌜ HasRoom (now log) used 1 ⌝ }
     ensures { λ _. ⌜ now (log .exit) ≡ logged (now (log .entry)) used (e ∷ []) ⌝ }
 {
-    let at = (2 * used) as usize;
+    let at = (ENTRY_SIZE * used) as usize;
     log[at] = e.register;
     log[at + 1] = e.value;
 }
 
 pub(crate) fn store(log: &mut [u64], used: u64, writes: Writes)
-    requires { ⌜ 2 * (used + length (listed writes)) ≤ length (now log) ⌝ }
+    requires { ⌜ HasRoom (now log) used (length (listed writes)) ⌝ }
     ensures { λ _. ⌜ now (log .exit) ≡ logged (now (log .entry)) used (listed writes) ⌝ }
 {
     match writes {
@@ -56,9 +59,9 @@ pub(crate) fn finish(
     ensures { λ r. ⌜ left r (now (log .exit)) ≡ commit path after (listed writes) used (now (log .entry)) ⌝ }
 {
     let n = count(writes);
-    if (log.len() as u64) < 2 * (used + n) {
+    if (log.len() as u64) < ENTRY_SIZE * (used + n) {
         return GifResult {
-            answer: GifAnswer::Refused(31),
+            answer: GifAnswer::Refused(refusals::LOG_FULL),
             path,
             used,
         };
@@ -76,20 +79,20 @@ pub fn log_refused(log: &[u64], used: u64) -> bool
     ensures { λ r. ⌜ r ≡ logRefused (now (log .entry)) used ⌝ }
 {
     let n = log.len() as u64;
-    if n % 2 == 1 {
+    if n % ENTRY_SIZE != 0 {
         return true;
     }
-    if 131072 < n {
+    if LOG_MOST < n {
         return true;
     }
-    n / 2 < used
+    n / ENTRY_SIZE < used
 }
 
 // Stores one entry after the first `used` ones, where there is room for it.
 pub fn write_entry(log: &mut [u64], used: u64, register: u64, value: u64) -> bool
     ensures { λ r. ⌜ entered r (now (log .exit)) ≡ entryOf (now (log .entry)) used (entry register value) ⌝ }
 {
-    if used < (log.len() / 2) as u64 {
+    if used < log.len() as u64 / ENTRY_SIZE {
         put(log, used, Entry { register, value });
         true
     } else {

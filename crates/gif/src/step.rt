@@ -18,6 +18,7 @@ use super::tag::place_after;
 use super::tag::place_at_tag;
 use super::tag::tag_writes;
 use super::tag::taken;
+use fields::refusals;
 ghost use mathlib.Core.Path.{_≡_};
 ghost use Rattle.fields.specs.Fields.{quadword};
 ghost use Rattle.gif.specs.Log.{LogFits};
@@ -60,7 +61,7 @@ fn take_packed(
 {
     let descriptor = descriptor_at(tag, taken(tag));
     if descriptor == 11 {
-        return refuse(30, path, used);
+        return refuse(refusals::DESCRIPTOR_B, path, used);
     }
     let place = place_after(tag);
     let q = packed_q(descriptor, path.q, low, high);
@@ -83,10 +84,10 @@ fn take_reglist(
     let first = descriptor_at(tag, item);
     let second = second_descriptor(tag, item + 1);
     if first == 11 {
-        return refuse(30, path, used);
+        return refuse(refusals::DESCRIPTOR_B, path, used);
     }
     if second == 11 {
-        return refuse(30, path, used);
+        return refuse(refusals::DESCRIPTOR_B, path, used);
     }
     let place = place_after(tag);
     let writes = halves(first, second, low, high);
@@ -138,11 +139,11 @@ pub fn take_quadword(path: Path, low: u64, high: u64, log: &mut [u64], used: u64
     ensures { λ r. ⌜ left r (now (log .exit)) ≡ takeOf path (quadword low high) used (now (log .entry)) ⌝ }
 {
     if log_refused(log, used) {
-        return refuse(4, path, used);
+        return refuse(refusals::LOG_LENGTH, path, used);
     }
     if path_in_range(path) {
         step(path, low, high, log, used)
     } else {
-        refuse(5, path, used)
+        refuse(refusals::OUT_OF_RANGE, path, used)
     }
 }

@@ -92,17 +92,22 @@ loop-again-2 c =
       same = goes-on _ _ _ _ _ _ _ (i .same) 1 (omega arith) h;
     }
 
-returns : tie.Need-returns Inv-loop μ-loop
-returns c = ends-all _ _ _ _ _ _ _ (c .before .loop .inv .same) (c .loop-test .left)
+same-length : tie.Need-same-length Inv-loop μ-loop
+same-length c =
+    let after-step = c .before .before .before .before .before .before .before in
+    after-step .step .kept .1 .1 .1 .0 ∙ after-step .before .before .before .before .before .before .before .before .loop .inv .length
 
-same-length-2 : tie.Need-same-length-2 Inv-loop μ-loop
-same-length-2 c = c .before .before .before .before .before .step .kept .1 .1 .1 .0 ∙ c .before .before .before .before .before .before .before .before .before .before .before .before .before .loop .inv .length
+returns : tie.Need-returns Inv-loop μ-loop
+returns c =
+    let after-step = c .before .before .before .before .before .before .before in
+    let in-loop = after-step .before .before .before .before .before .before .before in
+    let i = in-loop .before .loop .inv in
+    rw (c .ended .ensures)
+    (ends-refused _ _ _ _ _ _ _ (i .same) (in-loop .loop-test .taken) (after-step .before .before .before .long-at .ensures) (after-step .before .before .long-at2 .ensures) (after-step .step .ensures)
+    (c .before .before .answer .given .1) (i .log-fits .holds))
 
 returns-2 : tie.Need-returns-2 Inv-loop μ-loop
-returns-2 c =
-    let i = c .before .before .before .before .before .before .before .before .before .before .before .before .before .loop .inv in
-    ends-refused _ _ _ _ _ _ _ (i .same) (c .before .before .before .before .before .before .before .before .before .before .before .before .loop-test .taken) (c .before .before .before .before .before .before .before .before .long-at .ensures) (c .before .before .before .before .before .before .before .long-at2 .ensures) (c .before .before .before .before .before .step .ensures)
-    (c .enum-told2 .given .1) (i .log-fits .holds)
+returns-2 c = rw (c .ended2 .ensures) (ends-all _ _ _ _ _ _ _ (c .before .before .loop .inv .same) (c .before .loop-test .left))
 
 pub feed-spec : {M : Type 1} → statement M
 feed-spec =
@@ -133,7 +138,9 @@ feed-spec =
     loop-less-2
     loop-again-2
     (λ c. search needs)
-    (λ c. c .before .loop .inv .length)
+    (λ c κs. search needs)
+    same-length
     returns
-    same-length-2
+    (λ c κs. search needs)
+    (λ c. c .before .before .loop .inv .length)
     returns-2)
