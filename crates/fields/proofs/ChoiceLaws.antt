@@ -1,5 +1,5 @@
 -- Laws of the choice by a test, and of tests joined.
-use mathlib.Core.Path.{_≡_, refl, sym}
+use mathlib.Core.Path.{_≡_, refl}
 use mathlib.Core.Bool.{Bool, true, false, not, _&&_, _||_}
 use Prim.Native.Nat.{ℕ, _<_}
 use native.Mathlib.Omega.{arith}
@@ -39,10 +39,6 @@ or-left false b h = refl
 pub or-right : (a b : Bool) → (a || b) ≡ false → b ≡ false
 or-right true b h = absurd (let z : _≡_ {A = ℕ} 0 1 = cc in omega arith)
 or-right false b h = h
-
-pub not-false : (b : Bool) → not b ≡ false → b ≡ true
-not-false true h = refl
-not-false false h = sym h
 
 -- ---- tests in turn
 

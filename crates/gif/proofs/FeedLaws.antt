@@ -6,13 +6,13 @@ use Prim.Native.Nat.{ℕ, zero, suc, _+_, _*_, _-_, _<_, _≤_}
 use native.Mathlib.Nat.{zero-add, add-zero, add-assoc, sub-zero, mul-zero}
 use native.Mathlib.Numerals.{one-add}
 use native.Mathlib.Omega.{arith}
-use borrow.Author.Tests.{leb-true, ne-eqb}
+use borrow.Author.Tests.{leb-true, ne-eqb, not-false}
 use lib.ListN.{length}
 use lib.Dec.{leb}
 use Rattle.fields.specs.Fields.{if, quadword}
 use Rattle.fields.specs.Refusals.{logLength, outOfRange, payloadOutside}
 use Rattle.fields.specs.Memory.{longAt, quadwordAt, inside}
-use Rattle.fields.proofs.ChoiceLaws.{if-ind, if-zero, and-left, and-right, not-false}
+use Rattle.fields.proofs.ChoiceLaws.{if-ind, if-zero, and-left, and-right}
 use Rattle.gif.specs.declared.Path.{Path}
 use Rattle.gif.specs.declared.GifAnswer.{GifAnswer}
 use Rattle.gif.specs.declared.GifAnswer.the-variants.{Taken, Refused}

@@ -10,3 +10,9 @@ pub use units::quadwords;
 pub enum VifUnit {
     Vif1,
 }
+
+// The quadwords of VIF1's data memory.
+pub const VIF1_QUADWORDS: u32 = 1024;
+
+// The instructions of VIF1's code memory.
+pub const VIF1_INSTRUCTIONS: u32 = 2048;

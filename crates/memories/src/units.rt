@@ -1,4 +1,6 @@
 // The sizes of the memories behind a unit.
+use super::VIF1_INSTRUCTIONS;
+use super::VIF1_QUADWORDS;
 use super::VifUnit;
 ghost use mathlib.Core.Path.{_≡_};
 ghost use Prim.Native.Nat.{_≤_};
@@ -9,7 +11,7 @@ pub fn quadwords(unit: VifUnit) -> u32
     ensures { λ r. ⌜ (r ≡ quadwords unit) × ((1 ≤ r) × (r ≤ 1024)) ⌝ }
 {
     match unit {
-        VifUnit::Vif1 => 1024,
+        VifUnit::Vif1 => VIF1_QUADWORDS,
     }
 }
 
@@ -18,6 +20,6 @@ pub fn instructions(unit: VifUnit) -> u32
     ensures { λ r. ⌜ (r ≡ instructions unit) × ((1 ≤ r) × (r ≤ 2048)) ⌝ }
 {
     match unit {
-        VifUnit::Vif1 => 2048,
+        VifUnit::Vif1 => VIF1_INSTRUCTIONS,
     }
 }

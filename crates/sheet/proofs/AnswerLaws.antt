@@ -3,11 +3,15 @@ use mathlib.Core.Path.{_≡_, sym, ap, _∙_}
 use mathlib.Core.List.{List}
 use Prim.Native.Nat.{ℕ, _+_, _*_, _-_, _/_, _<_, _≤_}
 use native.Mathlib.Omega.{arith}
-use borrow.Author.Tests.{ne-eqb, eqb-true, lt-ltb, le-ltb, not-false}
+use borrow.Author.Tests.{ne-eqb, lt-ltb, le-ltb}
 use lib.ListN.{length}
 use Rattle.fields.specs.Fields.{if}
-use Rattle.fields.proofs.ChoiceLaws.{if-zero}
 use Rattle.gif.proofs.RangeLaws.{log-fits}
+use Rattle.gif.specs.Log.{entrySize}
+use Rattle.memories.specs.declared.VifUnit.the-variants.{Vif1}
+use Rattle.memories.specs.Units.{dataWords, codeBytes}
+use Rattle.memories.specs.Lengths.{lent}
+use Rattle.memories.proofs.LengthLaws.{lengths-fit}
 use Rattle.sheet.specs.declared.MeaningAnswer.the-variants.{Meant, Refused}
 use Rattle.sheet.specs.declared.totals.Totals.{Totals}
 use Rattle.sheet.specs.declared.totals.Measured.{Measured}
@@ -25,36 +29,29 @@ use Rattle.sheet.proofs.FedLaws.{fedPlain, fed-sheet}
 
 -- lengths that are accepted
 pub record Lengths (mem code log : List ℕ) (used : ℕ) : Type 0 where
-  pub words : length mem ≡ 4096
-  pub bytes : length code ≡ 16384
-  pub held : 2 * used ≤ length log
+  pub words : length mem ≡ dataWords Vif1
+  pub bytes : length code ≡ codeBytes Vif1
+  pub held : entrySize * used ≤ length log
 
 pub lengths-of : (mem code log : List ℕ) (used : ℕ) → lengthRefusal mem code log used ≡ 0 → Lengths mem code log used
-unfolding lengthRefusal
 lengths-of mem code log used h =
-    let a = if-zero _ _ (omega arith) h in
-    let b = if-zero _ _ (omega arith) (a .1) in
-    let d = if-zero _ _ (omega arith) (b .1) in
-    record {
-      words = eqb-true _ _ (not-false _ (a .0));
-      bytes = eqb-true _ _ (not-false _ (b .0));
-      held = log-fits log used (d .0) .holds;
-    }
+    let f = lengths-fit Vif1 (lent mem code log) used h in
+    record { words = f .long; bytes = f .wide; held = log-fits log used (f .logged) .holds }
 
 -- an accepted sheet, and the room of the log
 module _ {sheet mem code log : List ℕ} {used entries : ℕ} (m : Means sheet mem code log used entries) where
   pub means-lengths : Lengths mem code log used
   means-lengths = lengths-of mem code log used (m .lengths)
 
-  pub mean-full : length log / 2 - used < entries → left (Refused 31 0) mem code log ≡ meaningOfSheet sheet mem code log used
+  pub mean-full : length log / entrySize - used < entries → left (Refused 31 0) mem code log ≡ meaningOfSheet sheet mem code log used
   unfolding meaningOfSheet if
   mean-full h =
       let l = means-lengths in
       let s = m .sum in
-      rw (m .lengths, m .accepted, lt-ltb (length log) (2 * (used + sheetEntries (m .records))) (omega arith))
+      rw (m .lengths, m .accepted, lt-ltb (length log) (entrySize * (used + sheetEntries (m .records))) (omega arith))
 
-  module _ (h : entries ≤ length log / 2 - used) where
-    room : 2 * (used + sheetEntries (m .records)) ≤ length log
+  module _ (h : entries ≤ length log / entrySize - used) where
+    room : entrySize * (used + sheetEntries (m .records)) ≤ length log
     room =
         let l = means-lengths in
         let s = m .sum in
@@ -77,7 +74,7 @@ module _ {sheet mem code log : List ℕ} {used entries : ℕ} (m : Means sheet m
         → left (Meant r) mem′ code′ log′ ≡ meaningOfSheet sheet mem code log used
     unfolding meaningOfSheet if
     mean-fed e =
-        rw (m .lengths, m .accepted, le-ltb (length log) (2 * (used + sheetEntries (m .records))) room)
+        rw (m .lengths, m .accepted, le-ltb (length log) (entrySize * (used + sheetEntries (m .records))) room)
         (ap (λ (x : Fed). left (Meant (x .used)) (x .mem) (x .code) (x .log)) (e ∙ fed-meaning))
 
 -- ---- refusals

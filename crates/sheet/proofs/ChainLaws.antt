@@ -9,6 +9,8 @@ use lib.ListN.{length, length-append}
 use lib.Seq.{sets}
 use lib.Dec.{leb}
 use Rattle.fields.proofs.ChoiceLaws.{and-right}
+use Rattle.memories.specs.declared.VifUnit.the-variants.{Vif1}
+use Rattle.memories.specs.Units.{quadwords, instructions}
 use Rattle.sheet.specs.declared.Kind.{Kind}
 use Rattle.sheet.specs.declared.Kind.the-variants.{Data, Code, Gs, Start}
 use Rattle.sheet.specs.declared.Reading.{Reading}
@@ -30,10 +32,10 @@ count-few Gs n h = leb-true n 255 (and-right (leb 1 n) _ h)
 count-few Start n h = let e = eqb-true n 0 h in omega arith
 
 address-few : (k : Kind) (a : ℕ) → addressFits k a ≡ true → a < 65536
-address-few Data a h = let e = ltb-true a 1024 h in omega arith
-address-few Code a h = let e = ltb-true a 2048 h in omega arith
+address-few Data a h = let e = ltb-true a (quadwords Vif1) h in omega arith
+address-few Code a h = let e = ltb-true a (instructions Vif1) h in omega arith
 address-few Gs a h = let e = eqb-true a 0 h in omega arith
-address-few Start a h = let e = ltb-true a 2048 h in omega arith
+address-few Start a h = let e = ltb-true a (instructions Vif1) h in omega arith
 
 module _ (sheet : List ℕ) (at : ℕ) {g : Reading} (e : g ≡ readingAt sheet at) where
   pub end-chain : g ≡ End → chainIn (contentsFrom sheet at) ≡ endTag

@@ -4,6 +4,7 @@ use mathlib.Core.List.{List, [], _∷_}
 use Prim.Native.Nat.{ℕ, _+_, _*_, _≤_}
 use native.Mathlib.Omega.{arith}
 use lib.ListN.{length, length-append}
+use Rattle.gif.specs.Log.{entrySize}
 use Rattle.sheet.specs.declared.Kind.{Kind}
 use Rattle.sheet.specs.declared.Reading.{Reading}
 use Rattle.sheet.specs.declared.Reading.the-variants.{End, Found}
@@ -22,7 +23,7 @@ use Rattle.sheet.proofs.RestLaws.{Rest, recordAt, found-after, rest-end
 abbrev pub fedPlain : Plain → List ℕ → Fed
 fedPlain x log = fed (x .mem) (x .code) (logWith (x .entries) log) (length (x .entries))
 
-pub fed-record : (r : Record) (x : Plain) (log : List ℕ) → 2 * (length (x .entries) + entriesOf (r .kind) (r .count)) ≤ length log
+pub fed-record : (r : Record) (x : Plain) (log : List ℕ) → entrySize * (length (x .entries) + entriesOf (r .kind) (r .count)) ≤ length log
     → fedBy r (fedPlain x log) ≡ fedPlain (fedRecord r x) log
 unfolding fedBy fedRecord
 fed-record r x log h =
@@ -30,7 +31,7 @@ fed-record r x log h =
     let es : List Entry = entriesBy (r .kind) (r .count) (r .address) (r .body) in
     rw (log-then (x .entries) es log (rw c h), length-append (x .entries) es, c)
 
-pub fed-sheet : (rs : List Record) (x : Plain) (log : List ℕ) → 2 * (length (x .entries) + sheetEntries rs) ≤ length log
+pub fed-sheet : (rs : List Record) (x : Plain) (log : List ℕ) → entrySize * (length (x .entries) + sheetEntries rs) ≤ length log
     → fedAll rs (fedPlain x log) ≡ fedPlain (meaningOf rs x) log
 unfolding fedAll meaningOf sheetEntries
 fed-sheet [] x log h = refl
@@ -47,7 +48,7 @@ module _ (sheet : List ℕ) (at : ℕ) {g : Reading} (e : g ≡ readingAt sheet 
     after : Rest (recordAt sheet at k n a) (contentsFrom sheet next) (f .records)
     after = rest-found sheet at e (f .accepted) q
 
-    room-after : 2 * (used + (entriesOf k n + sheetEntries (after .others))) ≤ length log
+    room-after : entrySize * (used + (entriesOf k n + sheetEntries (after .others))) ≤ length log
     unfolding sheetEntries
     room-after = rw (after .whole) at (f .room)
 

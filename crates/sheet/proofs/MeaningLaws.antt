@@ -7,6 +7,9 @@ use native.Mathlib.Numerals.{add-one}
 use native.Mathlib.Omega.{arith}
 use lib.ListN.{length, getD, set, take, drop, length-append, length-drop, take-append-drop}
 use lib.Seq.{sets, length-sets, sets-eq, take-at, drop-append-add, drop-drop}
+use Rattle.gif.specs.Log.{entrySize}
+use Rattle.memories.specs.declared.VifUnit.the-variants.{Vif1}
+use Rattle.memories.specs.Units.{quadwords, instructions}
 use Rattle.sheet.specs.declared.Kind.{Kind}
 use Rattle.sheet.specs.declared.Kind.the-variants.{Data, Code, Gs, Start}
 use Rattle.sheet.specs.Records.{Record, bytesAt, number}
@@ -72,24 +75,24 @@ module _ {puts : ℕ → ℕ → List ℕ → List ℕ} {place : ℕ → ℕ} {i
 
 -- entries into a log, those from number j on behind the ones before them
 unfoldable pub putEntries : ℕ → List ℕ → ℕ → ℕ → List ℕ → List ℕ
-putEntries used body n j log = sets log (2 * (used + j)) (numbersOf (entriesAt body n j))
+putEntries used body n j log = sets log (entrySize * (used + j)) (numbersOf (entriesAt body n j))
 
 module _ (a : ℕ) (body : List ℕ) where
-  pub vector-turns : Turns (putVectors a body) (λ (j : ℕ). 4 * ((a + j) % 1024)) (vectorOf body)
+  pub vector-turns : Turns (putVectors a body) (λ (j : ℕ). 4 * ((a + j) % quadwords Vif1)) (vectorOf body)
   unfolding putVectors
   vector-turns = record { none = λ j m. refl; more = λ n j m. refl }
 
-  pub instruction-turns : Turns (putInstructions a body) (λ (j : ℕ). 8 * ((a + j) % 2048)) (λ (j : ℕ). bytesAt body (8 * j) 8)
+  pub instruction-turns : Turns (putInstructions a body) (λ (j : ℕ). 8 * ((a + j) % instructions Vif1)) (λ (j : ℕ). bytesAt body (8 * j) 8)
   unfolding putInstructions
   instruction-turns = record { none = λ j m. refl; more = λ n j m. refl }
 
-  pub entry-turns : Turns (putEntries a body) (λ (j : ℕ). 2 * (a + j)) (λ (j : ℕ). numbersOf (entryAt body j ∷ []))
+  pub entry-turns : Turns (putEntries a body) (λ (j : ℕ). entrySize * (a + j)) (λ (j : ℕ). numbersOf (entryAt body j ∷ []))
   unfolding putEntries entriesAt
   entry-turns =
-      record { none = λ j m. refl; more = λ n j m. let e : 2 * (a + suc j) ≡ suc (suc (2 * (a + j))) = omega arith in rw e }
+      record { none = λ j m. refl; more = λ n j m. let e : entrySize * (a + suc j) ≡ suc (suc (entrySize * (a + j))) = omega arith in rw e }
 
 -- all entries
-pub entries-all : (used : ℕ) (body : List ℕ) (n : ℕ) (log : List ℕ) → putEntries used body n 0 log ≡ sets log (2 * used) (numbersOf (entriesAt body n 0))
+pub entries-all : (used : ℕ) (body : List ℕ) (n : ℕ) (log : List ℕ) → putEntries used body n 0 log ≡ sets log (entrySize * used) (numbersOf (entriesAt body n 0))
 unfolding putEntries
 entries-all used body n log = rw add-zero
 
@@ -131,11 +134,11 @@ module _ (l : List ℕ) (b n j : ℕ) (h : j < n) where
 -- ---- the next item stored
 
 module _ (l : List ℕ) (b a : ℕ) {n j : ℕ} {first m m′ : List ℕ} where
-  pub vector-on : Going (putVectors a (bytesAt l b (16 * n))) n first j m → j < n → m′ ≡ sets m (4 * ((a + j) % 1024)) (vectorAt l (b + 16 * j))
+  pub vector-on : Going (putVectors a (bytesAt l b (16 * n))) n first j m → j < n → m′ ≡ sets m (4 * ((a + j) % quadwords Vif1)) (vectorAt l (b + 16 * j))
       → Going (putVectors a (bytesAt l b (16 * n))) n first (j + 1) m′
   vector-on g h e = turns-on (vector-turns _ _) g h e (vector-inside l b n j h)
 
-  pub instruction-on : Going (putInstructions a (bytesAt l b (8 * n))) n first j m → j < n → m′ ≡ sets m (8 * ((a + j) % 2048)) (bytesAt l (b + 8 * j) 8)
+  pub instruction-on : Going (putInstructions a (bytesAt l b (8 * n))) n first j m → j < n → m′ ≡ sets m (8 * ((a + j) % instructions Vif1)) (bytesAt l (b + 8 * j) 8)
       → Going (putInstructions a (bytesAt l b (8 * n))) n first (j + 1) m′
   instruction-on g h e = turns-on (instruction-turns _ _) g h e (instruction-inside l b n j h)
 
@@ -193,7 +196,7 @@ meaning-kept (r ∷ rs) x =
 
 -- ---- the log
 
-pub numbers-length : (es : List Entry) → length (numbersOf es) ≡ 2 * length es
+pub numbers-length : (es : List Entry) → length (numbersOf es) ≡ entrySize * length es
 numbers-length [] = refl
 numbers-length (e ∷ es) = let h = numbers-length es in omega arith
 
@@ -202,22 +205,22 @@ numbers-append [] fs = refl
 numbers-append (e ∷ es) fs = rw (numbers-append es fs)
 
 -- the entries in a log are its first numbers
-numbers-in : (log : List ℕ) (n : ℕ) → 2 * n ≤ length log → numbersOf (entriesIn log n) ≡ take (2 * n) log
+numbers-in : (log : List ℕ) (n : ℕ) → entrySize * n ≤ length log → numbersOf (entriesIn log n) ≡ take (entrySize * n) log
 numbers-in log zero h = refl
 numbers-in [] (suc n) h = absurd (omega arith)
 numbers-in (r ∷ []) (suc n) h = absurd (omega arith)
 numbers-in (r ∷ v ∷ log) (suc n) h =
-    let e : 2 * suc n ≡ suc (suc (2 * n)) = omega arith in
+    let e : entrySize * suc n ≡ suc (suc (entrySize * n)) = omega arith in
     rw (e, numbers-in log n (omega arith))
 
-pub in-count : (log : List ℕ) (n : ℕ) → 2 * n ≤ length log → length (entriesIn log n) ≡ n
+pub in-count : (log : List ℕ) (n : ℕ) → entrySize * n ≤ length log → length (entriesIn log n) ≡ n
 in-count log zero h = refl
 in-count [] (suc n) h = absurd (omega arith)
 in-count (r ∷ []) (suc n) h = absurd (omega arith)
 in-count (r ∷ v ∷ log) (suc n) h = ap suc (in-count log n (omega arith))
 
-pub log-same : (log : List ℕ) (n : ℕ) → 2 * n ≤ length log → logWith (entriesIn log n) log ≡ log
-log-same log n h = rw (in-count log n h, numbers-in log n h) (take-append-drop (2 * n) log)
+pub log-same : (log : List ℕ) (n : ℕ) → entrySize * n ≤ length log → logWith (entriesIn log n) log ≡ log
+log-same log n h = rw (in-count log n h, numbers-in log n h) (take-append-drop (entrySize * n) log)
 
 -- stores at a seam
 sets-seam : (p q ys : List ℕ) (n : ℕ) → length p ≡ n → length ys ≤ length q → sets (p ++ q) n ys ≡ p ++ ys ++ drop (length ys) q
@@ -225,17 +228,17 @@ sets-seam p q ys n e h =
     sets-eq ys (p ++ q) n (rw (length-append p q) (omega arith)) ∙ rw (take-at p q n e, ← e, drop-append-add p q (length ys))
 
 -- stores behind the first entries add entries
-pub log-then : (es fs : List Entry) (log : List ℕ) → 2 * (length es + length fs) ≤ length log
-    → sets (logWith es log) (2 * length es) (numbersOf fs) ≡ logWith (es ++ fs) log
+pub log-then : (es fs : List Entry) (log : List ℕ) → entrySize * (length es + length fs) ≤ length log
+    → sets (logWith es log) (entrySize * length es) (numbersOf fs) ≡ logWith (es ++ fs) log
 log-then es fs log h =
     let m = numbers-length fs in
-    let k : 2 * length es + 2 * length fs ≡ 2 * (length es + length fs) = omega arith in
-    sets-seam (numbersOf es) (drop (2 * length es) log) (numbersOf fs) (2 * length es) (numbers-length es) (rw (length-drop (2 * length es) log) (omega arith))
-    ∙ rw (drop-drop (length (numbersOf fs)) (2 * length es) log, m, k, numbers-append es fs, length-append es fs)
+    let k : entrySize * length es + entrySize * length fs ≡ entrySize * (length es + length fs) = omega arith in
+    sets-seam (numbersOf es) (drop (entrySize * length es) log) (numbersOf fs) (entrySize * length es) (numbers-length es) (rw (length-drop (entrySize * length es) log) (omega arith))
+    ∙ rw (drop-drop (length (numbersOf fs)) (entrySize * length es) log, m, k, numbers-append es fs, length-append es fs)
 
 -- entries more in a log
-pub log-more : (log : List ℕ) (used : ℕ) (es : List Entry) → 2 * (used + length es) ≤ length log
-    → logWith (entriesIn log used ++ es) log ≡ sets log (2 * used) (numbersOf es)
+pub log-more : (log : List ℕ) (used : ℕ) (es : List Entry) → entrySize * (used + length es) ≤ length log
+    → logWith (entriesIn log used ++ es) log ≡ sets log (entrySize * used) (numbersOf es)
 log-more log used es h =
     let n = in-count log used (omega arith) in
     sym (log-then (entriesIn log used) es log (rw n h)) ∙ rw (log-same log used (omega arith), n)

@@ -3,6 +3,7 @@ use Prim.Native.Nat.{ℕ}
 use mathlib.Core.List.{List, _++_}
 use lib.ListN.{length, drop}
 use lib.Dec.{ltb}
+use Rattle.fields.specs.Refusals.{outputShort}
 use Rattle.fields.specs.Fields.{if}
 use Rattle.sheet.specs.declared.BuildAnswer.{BuildAnswer}
 use Rattle.sheet.specs.declared.BuildAnswer.the-variants.{Built, Refused}
@@ -23,7 +24,7 @@ stored chain output = chain ++ drop (length chain) output
 
 abbrev pub builtFrom : Contents → List ℕ → Left
 builtFrom (valid rs) output =
-    if (ltb (length output) (length (chainOf rs))) (left (Refused 47 0) output)
+    if (ltb (length output) (length (chainOf rs))) (left (Refused outputShort 0) output)
     (left (Built (length (chainOf rs))) (stored (chainOf rs) output))
 builtFrom (refused n offset) output = left (Refused n offset) output
 

@@ -4,6 +4,9 @@ use mathlib.Core.Path.{_≡_}
 use mathlib.Core.List.{List, [], _∷_}
 use lib.ListN.{length}
 use lib.Seq.{sets}
+use Rattle.gif.specs.Log.{entrySize}
+use Rattle.memories.specs.declared.VifUnit.the-variants.{Vif1}
+use Rattle.memories.specs.Units.{dataWords, codeBytes}
 use Rattle.sheet.specs.declared.Kind.{Kind}
 use Rattle.sheet.specs.Records.{Record, bodyLength, bytesAt, number}
 use Rattle.sheet.specs.Reader.{Contents, valid, refused, contentsFrom, contentsOf}
@@ -34,7 +37,7 @@ fed mem code log used = record { mem = mem; code = code; log = log; used = used 
 unfoldable pub fedBy : Record → Fed → Fed
 fedBy r x =
     fed (memBy (r .kind) (r .count) (r .address) (r .body) (x .mem)) (codeBy (r .kind) (r .count) (r .address) (r .body) (x .code))
-    (sets (x .log) (2 * x .used) (numbersOf (entriesBy (r .kind) (r .count) (r .address) (r .body))))
+    (sets (x .log) (entrySize * x .used) (numbersOf (entriesBy (r .kind) (r .count) (r .address) (r .body))))
     (x .used + entriesOf (r .kind) (r .count))
 
 -- what records do to them, in order
@@ -50,17 +53,17 @@ fedIn (refused n offset) x = x
 -- a record's body lies in the sheet, the memories have their lengths, and the log has room for the record's entries
 pub record FeedRoom (sheet : List ℕ) (body : ℕ) (k : Kind) (n : ℕ) (mem code log : List ℕ) (used : ℕ) : Type 0 where
   pub inside : body + bodyLength k n ≤ length sheet
-  pub words : length mem ≡ 4096
-  pub bytes : length code ≡ 16384
-  pub room : 2 * (used + entriesOf k n) ≤ length log
+  pub words : length mem ≡ dataWords Vif1
+  pub bytes : length code ≡ codeBytes Vif1
+  pub room : entrySize * (used + entriesOf k n) ≤ length log
 
 -- the records from a place of a sheet on are accepted, the memories have their lengths, and the log has room for the records' entries
 pub record Feeds (sheet : List ℕ) (at : ℕ) (mem code log : List ℕ) (used : ℕ) : Type 0 where
   pub records : List Record
   pub accepted : contentsFrom sheet at ≡ valid records
-  pub words : length mem ≡ 4096
-  pub bytes : length code ≡ 16384
-  pub room : 2 * (used + sheetEntries records) ≤ length log
+  pub words : length mem ≡ dataWords Vif1
+  pub bytes : length code ≡ codeBytes Vif1
+  pub room : entrySize * (used + sheetEntries records) ≤ length log
 
 -- an accepted sheet with so many entries, and memories and a log whose lengths are accepted
 pub record Means (sheet mem code log : List ℕ) (used entries : ℕ) : Type 0 where

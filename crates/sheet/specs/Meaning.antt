@@ -4,6 +4,8 @@
 use Prim.Native.Nat.{ℕ, zero, suc, _+_, _*_, _%_}
 use mathlib.Core.List.{List, [], _∷_, _++_}
 use lib.Seq.{sets}
+use Rattle.memories.specs.declared.VifUnit.the-variants.{Vif1}
+use Rattle.memories.specs.Units.{quadwords, instructions}
 use Rattle.sheet.specs.declared.Kind.{Kind}
 use Rattle.sheet.specs.declared.Kind.the-variants.{Data, Code, Gs, Start}
 use Rattle.sheet.specs.Records.{Record, bytesAt, number}
@@ -37,12 +39,12 @@ vectorOf body j =
 -- "vector j to (address+j) mod 1,024": n vectors from number j on
 unfoldable pub putVectors : ℕ → List ℕ → ℕ → ℕ → List ℕ → List ℕ
 putVectors a body zero j mem = mem
-putVectors a body (suc n) j mem = putVectors a body n (suc j) (sets mem (4 * ((a + j) % 1024)) (vectorOf body j))
+putVectors a body (suc n) j mem = putVectors a body n (suc j) (sets mem (4 * ((a + j) % quadwords Vif1)) (vectorOf body j))
 
 -- "instruction j to (address+j) mod 2,048"; "instruction j bytes 8j to 8j+7"
 unfoldable pub putInstructions : ℕ → List ℕ → ℕ → ℕ → List ℕ → List ℕ
 putInstructions a body zero j code = code
-putInstructions a body (suc n) j code = putInstructions a body n (suc j) (sets code (8 * ((a + j) % 2048)) (bytesAt body (8 * j) 8))
+putInstructions a body (suc n) j code = putInstructions a body n (suc j) (sets code (8 * ((a + j) % instructions Vif1)) (bytesAt body (8 * j) 8))
 
 -- "16n: value 8, register 1, zero 7": entry j
 abbrev pub entryAt : List ℕ → ℕ → Entry

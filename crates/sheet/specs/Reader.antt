@@ -5,6 +5,7 @@ use mathlib.Core.Bool.{Bool, not, _&&_}
 use mathlib.Core.List.{List, [], _∷_}
 use lib.ListN.{length, getD}
 use lib.Dec.{eqb, leb, ltb}
+use Rattle.fields.specs.Refusals.{markWrong, kindWrong, countWrong, addressWrong, recordCut, padWrong, sheetLong}
 use Rattle.fields.specs.Fields.{if}
 use Rattle.sheet.specs.declared.Kind.{Kind}
 use Rattle.sheet.specs.declared.Kind.the-variants.{Data, Code, Gs, Start}
@@ -40,18 +41,18 @@ nextAt sheet at = at + headerLength + bodyLength (kindAt sheet at) (countAt shee
 -- "42 count, 43 address, 44 body cut, 45 non-zero pad": the refusal of a record by its row, 0 where there is none
 unfoldable pub rowRefusal : List ℕ → ℕ → ℕ
 rowRefusal sheet at =
-    if (not (countFits (kindAt sheet at) (countAt sheet at))) 42
-    (if (not (addressFits (kindAt sheet at) (addressAt sheet at))) 43
-    (if (ltb (length sheet) (nextAt sheet at)) 44
-    (if (not (padsFit (kindAt sheet at) sheet (at + headerLength) (countAt sheet at))) 45
+    if (not (countFits (kindAt sheet at) (countAt sheet at))) countWrong
+    (if (not (addressFits (kindAt sheet at) (addressAt sheet at))) addressWrong
+    (if (ltb (length sheet) (nextAt sheet at)) recordCut
+    (if (not (padsFit (kindAt sheet at) sheet (at + headerLength) (countAt sheet at))) padWrong
     0)))
 
 -- "each: 44 header cut, 40 mark, 41 kind", and then by its row: the refusal of the record at a place, 0 where there is none
 unfoldable pub recordRefusal : List ℕ → ℕ → ℕ
 recordRefusal sheet at =
-    if (ltb (length sheet) (at + headerLength)) 44
-    (if (not (marked sheet at)) 40
-    (if (not (kindListed (getD sheet (at + 2) 0))) 41
+    if (ltb (length sheet) (at + headerLength)) recordCut
+    (if (not (marked sheet at)) markWrong
+    (if (not (kindListed (getD sheet (at + 2) 0))) kindWrong
     (rowRefusal sheet at)))
 
 -- the record at a place, with the place after it
@@ -92,4 +93,4 @@ contentsFrom sheet at = recordsFrom (length sheet) sheet at
 
 -- "A sheet is records to its end"; "46 sheet too long, first"
 unfoldable pub contentsOf : List ℕ → Contents
-contentsOf sheet = if (ltb longest (length sheet)) (refused 46 0) (contentsFrom sheet 0)
+contentsOf sheet = if (ltb longest (length sheet)) (refused sheetLong 0) (contentsFrom sheet 0)

@@ -4,6 +4,8 @@ use mathlib.Core.Bool.{Bool, true, _&&_}
 use mathlib.Core.List.{List, [], _∷_}
 use lib.ListN.{getD, take, drop}
 use lib.Dec.{eqb, leb, ltb}
+use Rattle.memories.specs.declared.VifUnit.the-variants.{Vif1}
+use Rattle.memories.specs.Units.{quadwords, instructions}
 use Rattle.sheet.specs.declared.Kind.{Kind}
 use Rattle.sheet.specs.declared.Kind.the-variants.{Data, Code, Gs, Start}
 
@@ -41,10 +43,10 @@ countFits Start n = eqb n 0
 
 -- "address": <1,024, <2,048, 0, <2,048
 abbrev pub addressFits : Kind → ℕ → Bool
-addressFits Data a = ltb a 1024
-addressFits Code a = ltb a 2048
+addressFits Data a = ltb a (quadwords Vif1)
+addressFits Code a = ltb a (instructions Vif1)
 addressFits Gs a = eqb a 0
-addressFits Start a = ltb a 2048
+addressFits Start a = ltb a (instructions Vif1)
 
 -- "body": 16n, 8n, 16n, none
 abbrev pub bodyLength : Kind → ℕ → ℕ

@@ -1,11 +1,13 @@
 -- The steps and the meaning of a sheet as functions answer them, refused sheets included.
 use Prim.Native.Nat.{ℕ, zero, suc, _+_, _*_}
-use mathlib.Core.Bool.{not}
 use mathlib.Core.List.{List, [], _∷_, _++_}
 use lib.ListN.{length, drop}
 use lib.Dec.{eqb, ltb}
 use Rattle.fields.specs.Fields.{if}
-use Rattle.gif.specs.Log.{logRefused}
+use Rattle.fields.specs.Refusals.{logFull}
+use Rattle.gif.specs.Log.{entrySize}
+use Rattle.memories.specs.declared.VifUnit.the-variants.{Vif1}
+use Rattle.memories.specs.Lengths.{lent, lengthsRefusal}
 use Rattle.sheet.specs.declared.StepsAnswer.{StepsAnswer}
 use Rattle.sheet.specs.declared.StepsAnswer.the-variants.{Steps, Refused as StepsRefused}
 use Rattle.sheet.specs.declared.MeaningAnswer.{MeaningAnswer}
@@ -36,7 +38,7 @@ entriesIn (r ∷ v ∷ log) (suc n) = entry r v ∷ entriesIn log n
 
 -- a log whose first entries are these, the numbers past them as they were
 abbrev pub logWith : List Entry → List ℕ → List ℕ
-logWith es log = numbersOf es ++ drop (2 * length es) log
+logWith es log = numbersOf es ++ drop (entrySize * length es) log
 
 -- what `meaning` leaves
 pub record Left : Type 0 where
@@ -54,17 +56,13 @@ leftPlain x log = left (Meant (length (x .entries))) (x .mem) (x .code) (logWith
 -- the meaning where the log has room for all entries of the sheet, else 31
 abbrev pub meaningIn : Contents → List ℕ → List ℕ → List ℕ → ℕ → Left
 meaningIn (valid rs) mem code log used =
-    if (ltb (length log) (2 * (used + sheetEntries rs))) (left (MeaningRefused 31 0) mem code log)
+    if (ltb (length log) (entrySize * (used + sheetEntries rs))) (left (MeaningRefused logFull 0) mem code log)
     (leftPlain (meaningOf rs (plain mem code (entriesIn log used))) log)
 meaningIn (refused n offset) mem code log used = left (MeaningRefused n offset) mem code log
 
--- the memories' lengths first, as a run tests them: 2, 3, 4
-unfoldable pub lengthRefusal : List ℕ → List ℕ → List ℕ → ℕ → ℕ
-lengthRefusal mem code log used =
-    if (not (eqb (length mem) 4096)) 2
-    (if (not (eqb (length code) 16384)) 3
-    (if (logRefused log used) 4
-    0))
+-- the memories' lengths first, as a run on VIF1 tests them: 2, 3, 4
+abbrev pub lengthRefusal : List ℕ → List ℕ → List ℕ → ℕ → ℕ
+lengthRefusal mem code log used = lengthsRefusal Vif1 (lent mem code log) used
 
 unfoldable pub meaningOfSheet : List ℕ → List ℕ → List ℕ → List ℕ → ℕ → Left
 meaningOfSheet sheet mem code log used =

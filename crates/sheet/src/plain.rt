@@ -7,16 +7,24 @@ use super::reader::read_record;
 use super::totals::Measured;
 use super::totals::measure;
 use super::writer::copy_bytes;
+use fields::refusals;
+use memories::VifUnit;
 ghost use mathlib.Core.Path.{_≡_};
 ghost use mathlib.Core.List.{[], _∷_};
 ghost use Prim.Native.Nat.{_+_, _*_, _<_, _≤_};
 ghost use lib.ListN.{length};
 ghost use lib.Seq.{sets};
+ghost use Rattle.gif.specs.Log.{entrySize};
+ghost use Rattle.memories.specs.declared.VifUnit.the-variants.{Vif1};
+ghost use Rattle.memories.specs.Units.{dataWords, codeBytes};
 ghost use Rattle.sheet.specs.Records.{recordOf, bodyLength, bytesAt, number};
 ghost use Rattle.sheet.specs.Reader.{contentsFrom};
 ghost use Rattle.sheet.specs.Meaning.{entry, putVectors, putInstructions, entriesAt};
 ghost use Rattle.sheet.specs.Results.{numbersOf, left, lengthRefusal, meaningOfSheet};
 ghost use Rattle.sheet.specs.Fed.{vectorAt, FeedRoom, fed, fedBy, Feeds, fedIn, Means};
+
+const QUADWORDS: usize = memories::VIF1_QUADWORDS as usize;
+const INSTRUCTIONS: usize = memories::VIF1_INSTRUCTIONS as usize;
 
 fn wide(x: u32) -> u64
     ensures { λ r. ⌜ (r ≡ x) × (r < 4294967296) ⌝ }
@@ -53,39 +61,39 @@ fn put_vector(sheet: &[u8], at: usize, data: &mut [u32], q: usize)
 }
 
 fn put_vectors(sheet: &[u8], body: usize, n: usize, a: usize, data: &mut [u32])
-    requires { ⌜ (body + 16 * n ≤ length (now sheet)) × (a < 4294967296) × (length (now «data») ≡ 4096) ⌝ }
+    requires { ⌜ (body + 16 * n ≤ length (now sheet)) × (a < 4294967296) × (length (now «data») ≡ dataWords Vif1) ⌝ }
     ensures { λ _. ⌜ now («data» .exit) ≡ putVectors a (bytesAt (now (sheet .entry)) body (16 * n)) n 0 (now («data» .entry)) ⌝ }
 {
     let mut j = 0;
     while j < n {
-        put_vector(sheet, body + 16 * j, data, (a + j) % 1024);
+        put_vector(sheet, body + 16 * j, data, (a + j) % QUADWORDS);
         j += 1;
     }
 }
 
 fn put_instructions(sheet: &[u8], body: usize, n: usize, a: usize, code: &mut [u8])
-    requires { ⌜ (body + 8 * n ≤ length (now sheet)) × (a < 4294967296) × (length (now code) ≡ 16384) ⌝ }
+    requires { ⌜ (body + 8 * n ≤ length (now sheet)) × (a < 4294967296) × (length (now code) ≡ codeBytes Vif1) ⌝ }
     ensures { λ _. ⌜ now (code .exit) ≡ putInstructions a (bytesAt (now (sheet .entry)) body (8 * n)) n 0 (now (code .entry)) ⌝ }
 {
     let mut j = 0;
     while j < n {
-        copy_bytes(sheet, body + 8 * j, 8, code, 8 * ((a + j) % 2048));
+        copy_bytes(sheet, body + 8 * j, 8, code, 8 * ((a + j) % INSTRUCTIONS));
         j += 1;
     }
 }
 
 fn put_entry(log: &mut [u64], used: u64, register: u64, value: u64)
-    requires { ⌜ 2 * (used + 1) ≤ length (now log) ⌝ }
-    ensures { λ _. ⌜ now (log .exit) ≡ sets (now (log .entry)) (2 * used) (numbersOf (entry register value ∷ [])) ⌝ }
+    requires { ⌜ entrySize * (used + 1) ≤ length (now log) ⌝ }
+    ensures { λ _. ⌜ now (log .exit) ≡ sets (now (log .entry)) (entrySize * used) (numbersOf (entry register value ∷ [])) ⌝ }
 {
-    let at = 2 * used as usize;
+    let at = (gif::ENTRY_SIZE * used) as usize;
     log[at] = register;
     log[at + 1] = value;
 }
 
 fn put_entries(sheet: &[u8], body: usize, n: usize, log: &mut [u64], used: u64)
-    requires { ⌜ (body + 16 * n ≤ length (now sheet)) × (2 * (used + n) ≤ length (now log)) ⌝ }
-    ensures { λ _. ⌜ now (log .exit) ≡ sets (now (log .entry)) (2 * used) (numbersOf (entriesAt (bytesAt (now (sheet .entry)) body (16 * n)) n 0)) ⌝ }
+    requires { ⌜ (body + 16 * n ≤ length (now sheet)) × (entrySize * (used + n) ≤ length (now log)) ⌝ }
+    ensures { λ _. ⌜ now (log .exit) ≡ sets (now (log .entry)) (entrySize * used) (numbersOf (entriesAt (bytesAt (now (sheet .entry)) body (16 * n)) n 0)) ⌝ }
 {
     let mut j = 0;
     while j < n {
@@ -162,22 +170,6 @@ fn feed_records(sheet: &[u8], data: &mut [u32], code: &mut [u8], log: &mut [u64]
     }
 }
 
-// The refusal of the memories' lengths, 0 where there is none.
-fn length_refusal(data: &[u32], code: &[u8], log: &[u64], used: u64) -> u32
-    ensures { λ r. ⌜ r ≡ lengthRefusal (now («data» .entry)) (now (code .entry)) (now (log .entry)) used ⌝ }
-{
-    if data.len() != 4096 {
-        return 2;
-    }
-    if code.len() != 16384 {
-        return 3;
-    }
-    if gif::log_refused(log, used) {
-        return 4;
-    }
-    0
-}
-
 // The meaning of an accepted sheet with so many entries, where the log has room for them.
 fn mean_measured(
     sheet: &[u8],
@@ -190,10 +182,10 @@ fn mean_measured(
     requires { ⌜ Means (now sheet) (now «data») (now code) (now log) used entries ⌝ }
     ensures { λ r. ⌜ left r (now («data» .exit)) (now (code .exit)) (now (log .exit)) ≡ meaningOfSheet (now (sheet .entry)) (now («data» .entry)) (now (code .entry)) (now (log .entry)) used ⌝ }
 {
-    let room = (log.len() / 2) as u64 - used;
+    let room = log.len() as u64 / gif::ENTRY_SIZE - used;
     if room < entries {
         return MeaningAnswer::Refused {
-            number: 31,
+            number: refusals::LOG_FULL,
             offset: 0,
         };
     }
@@ -210,7 +202,7 @@ pub fn meaning(
 ) -> MeaningAnswer
     ensures { λ r. ⌜ left r (now («data» .exit)) (now (code .exit)) (now (log .exit)) ≡ meaningOfSheet (now (sheet .entry)) (now («data» .entry)) (now (code .entry)) (now (log .entry)) used ⌝ }
 {
-    let number = length_refusal(data, code, log, used);
+    let number = memories::lengths_refusal(VifUnit::Vif1, data, code, log, used);
     if number != 0 {
         return MeaningAnswer::Refused { number, offset: 0 };
     }

@@ -1,6 +1,7 @@
 // The record reader.
 use super::Kind;
 use super::Reading;
+use fields::refusals;
 ghost use mathlib.Core.Path.{_≡_};
 ghost use Prim.Native.Nat.{_+_, _*_, _<_, _≤_};
 ghost use lib.ListN.{length, getD};
@@ -66,10 +67,10 @@ fn address_fits(kind: Kind, a: u32) -> bool
     ensures { λ r. ⌜ r ≡ addressFits kind a ⌝ }
 {
     match kind {
-        Kind::Data => a < 1024,
-        Kind::Code => a < 2048,
+        Kind::Data => a < memories::VIF1_QUADWORDS,
+        Kind::Code => a < memories::VIF1_INSTRUCTIONS,
         Kind::Gs => a == 0,
-        Kind::Start => a < 2048,
+        Kind::Start => a < memories::VIF1_INSTRUCTIONS,
     }
 }
 
@@ -198,16 +199,16 @@ fn row_refusal(sheet: &[u8], at: usize) -> u32
     ensures { λ r. ⌜ r ≡ rowRefusal (now (sheet .entry)) at ⌝ }
 {
     if !has_count(sheet, at) {
-        return 42;
+        return refusals::COUNT_WRONG;
     }
     if !has_address(sheet, at) {
-        return 43;
+        return refusals::ADDRESS_WRONG;
     }
     if sheet.len() - (at + 6) < body_at(sheet, at) {
-        return 44;
+        return refusals::RECORD_CUT;
     }
     if !has_pads(sheet, at) {
-        return 45;
+        return refusals::PAD_WRONG;
     }
     0
 }
@@ -218,13 +219,13 @@ fn record_refusal(sheet: &[u8], at: usize) -> u32
     ensures { λ r. ⌜ r ≡ recordRefusal (now (sheet .entry)) at ⌝ }
 {
     if sheet.len() - at < 6 {
-        return 44;
+        return refusals::RECORD_CUT;
     }
     if !has_mark(sheet, at) {
-        return 40;
+        return refusals::MARK_WRONG;
     }
     if !has_kind(sheet, at) {
-        return 41;
+        return refusals::KIND_WRONG;
     }
     row_refusal(sheet, at)
 }

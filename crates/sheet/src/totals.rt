@@ -3,6 +3,7 @@ use super::Kind;
 use super::Reading;
 use super::StepsAnswer;
 use super::reader::read_record;
+use fields::refusals;
 ghost use mathlib.Core.Path.{_≡_};
 ghost use Rattle.sheet.specs.Sizes.{quadwordsOf, stepsOf, entriesOf};
 ghost use Rattle.sheet.specs.Reader.{contentsOf};
@@ -95,7 +96,7 @@ pub(crate) fn measure(sheet: &[u8]) -> Measured
 {
     if 131072 < sheet.len() {
         return Measured::Refused {
-            number: 46,
+            number: refusals::SHEET_LONG,
             offset: 0,
         };
     }

@@ -6,6 +6,7 @@ use super::reader::body_length;
 use super::reader::read_record;
 use super::totals::Measured;
 use super::totals::measure;
+use fields::refusals;
 ghost use mathlib.Core.Path.{_≡_};
 ghost use Prim.Native.Nat.{_+_, _*_, _<_, _≤_};
 ghost use lib.ListN.{length};
@@ -184,7 +185,7 @@ fn build_measured(sheet: &[u8], output: &mut [u8], quadwords: u64) -> BuildAnswe
     let room = (output.len() / 16) as u64;
     if room < quadwords {
         return BuildAnswer::Refused {
-            number: 47,
+            number: refusals::OUTPUT_SHORT,
             offset: 0,
         };
     }
