@@ -7,6 +7,9 @@ use borrow.Author.Needs.{needs}
 use borrow.Author.Tests.{ne-eqb, ltb-true, ltb-false}
 use Rattle.fields.specs.Fields.{if}
 use Rattle.fields.proofs.ChoiceLaws.{if-ind-by}
+use Rattle.gif.specs.Log.{entrySize}
+use Rattle.memories.specs.declared.VifUnit.the-variants.{Vif1}
+use Rattle.memories.specs.Units.{dataWords, codeBytes}
 use Rattle.compare.specs.declared.Comparison.{Comparison}
 use Rattle.compare.specs.declared.CompareAnswer.the-variants.{Compared, Refused}
 use Rattle.compare.specs.Boards.{Board, refusal, smaller, comparisonOf, compareOf}
@@ -24,13 +27,13 @@ smaller-same x = if-ind-by (λ (k : ℕ). k ≡ x) (ltb x x) (λ t. refl) (λ f.
 
 module _ (a b : Board) (e : refusal a b ≡ 0) where
   -- what is compared lies in the lists
-  pub quadwords-inside : Inside 4096 (a .mem) (b .mem)
+  pub quadwords-inside : Inside (dataWords Vif1) (a .mem) (b .mem)
   quadwords-inside = let w = boards-whole a b e in search needs
 
-  pub instructions-inside : Inside 16384 (a .code) (b .code)
+  pub instructions-inside : Inside (codeBytes Vif1) (a .code) (b .code)
   instructions-inside = let w = boards-whole a b e in search needs
 
-  pub entries-inside : {n : ℕ} → n ≡ smaller (a .used) (b .used) → Inside (2 * n) (a .log) (b .log)
+  pub entries-inside : {n : ℕ} → n ≡ smaller (a .used) (b .used) → Inside (entrySize * n) (a .log) (b .log)
   entries-inside q =
       let w = boards-whole a b e in
       let s = smaller-below (a .used) (b .used) in

@@ -1,11 +1,13 @@
 -- Two boards: which are refused, and what the comparison of the others says.
 use Prim.Native.Nat.{ℕ}
-use mathlib.Core.Bool.{Bool, not, _&&_, _||_}
+use mathlib.Core.Bool.{Bool, _&&_}
 use mathlib.Core.List.{List}
-use lib.ListN.{length}
 use lib.Dec.{eqb, ltb}
 use Rattle.fields.specs.Fields.{if}
-use Rattle.gif.specs.Log.{logRefused}
+use Rattle.gif.specs.Log.{entrySize}
+use Rattle.memories.specs.declared.VifUnit.the-variants.{Vif1}
+use Rattle.memories.specs.Units.{quadwords, instructions}
+use Rattle.memories.specs.Lengths.{lent, lengthsRefusal}
 use Rattle.compare.specs.declared.Comparison.{Comparison}
 use Rattle.compare.specs.declared.CompareAnswer.{CompareAnswer}
 use Rattle.compare.specs.declared.CompareAnswer.the-variants.{Compared, Refused}
@@ -23,41 +25,39 @@ board mem code log used = record { mem = mem; code = code; log = log; used = use
 
 -- ---- refusals
 
--- a data memory has 4,096 words
-abbrev pub dataRefused : List ℕ → Bool
-dataRefused mem = not (eqb (length mem) 4096)
-
--- a code memory has 16,384 bytes
-abbrev pub codeRefused : List ℕ → Bool
-codeRefused code = not (eqb (length code) 16384)
-
--- the refusal of two boards, 0 where there is none; a log is refused as a run refuses it
-unfoldable pub refusal : Board → Board → ℕ
-refusal a b =
-    if (dataRefused (a .mem) || dataRefused (b .mem)) 2
-    (if (codeRefused (a .code) || codeRefused (b .code)) 3
-    (if (logRefused (a .log) (a .used) || logRefused (b .log) (b .used)) 4
-    0))
-
--- ---- the comparison
-
 -- the smaller of two numbers
 unfoldable pub smaller : ℕ → ℕ → ℕ
 smaller x y = if (ltb x y) x y
 
--- 1,024 quadwords, 2,048 instructions, and the entries that both boards have
+-- the refusal of a board's lengths, as a run on VIF1 refuses them: 2, 3, 4; 0 where there is none
+abbrev pub boardRefusal : Board → ℕ
+boardRefusal a = lengthsRefusal Vif1 (lent (a .mem) (a .code) (a .log)) (a .used)
+
+-- the first of two refusals in document 01's order, which is that of these numbers
+unfoldable pub firstRefusal : ℕ → ℕ → ℕ
+firstRefusal x y = if (eqb x 0) y (if (eqb y 0) x (smaller x y))
+
+-- the refusal of two boards, 0 where there is none
+unfoldable pub refusal : Board → Board → ℕ
+refusal a b = firstRefusal (boardRefusal a) (boardRefusal b)
+
+-- ---- the comparison
+
+-- 1,024 quadwords, 2,048 instructions, the entries that both boards have, and how many each has
 unfoldable pub comparisonOf : Board → Board → Comparison
 comparisonOf a b =
     record {
-      quadwords = foundIn 4 (a .mem) (b .mem) 1024;
-      instructions = foundIn 8 (a .code) (b .code) 2048;
-      entries = foundIn 2 (a .log) (b .log) (smaller (a .used) (b .used));
+      quadwords = foundIn 4 (a .mem) (b .mem) (quadwords Vif1);
+      instructions = foundIn 8 (a .code) (b .code) (instructions Vif1);
+      entries = foundIn entrySize (a .log) (b .log) (smaller (a .used) (b .used));
+      used = record { first = a .used; second = b .used };
     }
 
 unfoldable pub compareOf : Board → Board → CompareAnswer
 compareOf a b = if (eqb (refusal a b) 0) (Compared (comparisonOf a b)) (Refused (refusal a b))
 
 -- the verdict: no quadword, no instruction and no entry differs, and both boards have as many entries
-unfoldable pub sameOf : Comparison → ℕ → ℕ → Bool
-sameOf c usedA usedB =
-    eqb (c .quadwords .count) 0 && (eqb (c .instructions .count) 0 && (eqb (c .entries .count) 0 && eqb usedA usedB))
+unfoldable pub sameOf : Comparison → Bool
+sameOf c =
+    eqb (c .quadwords .count) 0
+    && (eqb (c .instructions .count) 0 && (eqb (c .entries .count) 0 && eqb (c .used .first) (c .used .second)))

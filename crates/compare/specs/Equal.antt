@@ -4,23 +4,26 @@ use mathlib.Core.Path.{_≡_}
 use mathlib.Core.Logic.{_↔_}
 use mathlib.Core.List.{List}
 use lib.ListN.{length, take, drop}
+use Rattle.gif.specs.Log.{entrySize, logMost}
+use Rattle.memories.specs.declared.VifUnit.the-variants.{Vif1}
+use Rattle.memories.specs.Units.{dataWords, codeBytes}
 use Rattle.compare.specs.declared.Found.{Found}
 use Rattle.compare.specs.Boards.{Board}
 
 -- a board that is not refused
 pub record Whole (a : Board) : Type 0 where
-  pub words : length (a .mem) ≡ 4096
-  pub bytes : length (a .code) ≡ 16384
-  pub even : length (a .log) % 2 ≡ 0
-  pub most : length (a .log) ≤ 131072
-  pub room : 2 * a .used ≤ length (a .log)
+  pub words : length (a .mem) ≡ dataWords Vif1
+  pub bytes : length (a .code) ≡ codeBytes Vif1
+  pub whole : length (a .log) % entrySize ≡ 0
+  pub most : length (a .log) ≤ logMost
+  pub room : entrySize * a .used ≤ length (a .log)
 
 -- the memories are equal, and so are the lists of entries: as many, with the same numbers
 pub record Equal (a b : Board) : Type 0 where
   pub mem : a .mem ≡ b .mem
   pub code : a .code ≡ b .code
   pub used : a .used ≡ b .used
-  pub entries : take (2 * a .used) (a .log) ≡ take (2 * b .used) (b .log)
+  pub entries : take (entrySize * a .used) (a .log) ≡ take (entrySize * b .used) (b .log)
 
 -- the first n elements of two lists are equal
 abbrev pub EqualTo : ℕ → List ℕ → List ℕ → ℕ → Type 0

@@ -5,6 +5,7 @@ use mathlib.Core.List.{List}
 use lib.ListN.{length}
 use lib.Dec.{ltb}
 use Rattle.fields.specs.Fields.{if}
+use Rattle.gif.specs.Log.{logMost}
 use Rattle.compare.specs.declared.Found.{Found}
 use Rattle.compare.specs.declared.parts.Part.{Part}
 use Rattle.compare.specs.declared.parts.Part.the-variants.{Data, Code, Log}
@@ -18,7 +19,7 @@ listOf Log mem code log = log
 
 -- two lists have at least n numbers, and n is in the range of a log's length
 pub record Inside (n : ℕ) (a b : List ℕ) : Type 0 where
-  pub small : n ≤ 131072
+  pub small : n ≤ logMost
   pub left : n ≤ length a
   pub right : n ≤ length b
 

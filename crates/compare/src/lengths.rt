@@ -1,6 +1,20 @@
 // The lengths that are compared, and the others.
+use memories::VifUnit;
 ghost use mathlib.Core.Path.{_≡_};
-ghost use Rattle.compare.specs.Boards.{board, refusal};
+ghost use Rattle.compare.specs.Boards.{board, firstRefusal, refusal};
+
+// The first of two refusals in the document's order, which is that of their numbers.
+fn first_refusal(a: u32, b: u32) -> u32
+    ensures { λ r. ⌜ r ≡ firstRefusal a b ⌝ }
+{
+    if a == 0 {
+        return b;
+    }
+    if b == 0 {
+        return a;
+    }
+    if a < b { a } else { b }
+}
 
 // The refusal, 0 where there is none.
 pub(crate) fn refusal(
@@ -13,25 +27,12 @@ pub(crate) fn refusal(
     log_b: &[u64],
     used_b: u64,
 ) -> u32
-    ensures { λ r. ⌜ r ≡ refusal (board (now («data_a» .entry)) (now («code_a» .entry)) (now («log_a» .entry)) «used_a») (board (now («data_b» .entry)) (now («code_b» .entry)) (now («log_b» .entry)) «used_b») ⌝ }
+    ensures { λ r. ⌜ r
+        ≡ refusal (board (now («data_a» .entry)) (now («code_a» .entry)) (now («log_a» .entry)) «used_a»)
+        (board (now («data_b» .entry)) (now («code_b» .entry)) (now («log_b» .entry)) «used_b») ⌝ }
 {
-    if data_a.len() != 4096 {
-        return 2;
-    }
-    if data_b.len() != 4096 {
-        return 2;
-    }
-    if code_a.len() != 16384 {
-        return 3;
-    }
-    if code_b.len() != 16384 {
-        return 3;
-    }
-    if gif::log_refused(log_a, used_a) {
-        return 4;
-    }
-    if gif::log_refused(log_b, used_b) {
-        return 4;
-    }
-    0
+    first_refusal(
+        memories::lengths_refusal(VifUnit::Vif1, data_a, code_a, log_a, used_a),
+        memories::lengths_refusal(VifUnit::Vif1, data_b, code_b, log_b, used_b),
+    )
 }

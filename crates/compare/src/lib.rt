@@ -14,11 +14,18 @@ pub struct Found {
     pub count: u64,
 }
 
+// How many entries of each log are used.
+pub struct Used {
+    pub first: u64,
+    pub second: u64,
+}
+
 // The entries are those that both logs have.
 pub struct Comparison {
     pub quadwords: Found,
     pub instructions: Found,
     pub entries: Found,
+    pub used: Used,
 }
 
 pub enum CompareAnswer {
@@ -56,8 +63,8 @@ pub fn compare(
 }
 
 // The verdict: whether the boards are the same.
-pub fn same(comparison: Comparison, used_a: u64, used_b: u64) -> bool
-    ensures { λ r. ⌜ r ≡ sameOf comparison «used_a» «used_b» ⌝ }
+pub fn same(comparison: Comparison) -> bool
+    ensures { λ r. ⌜ r ≡ sameOf comparison ⌝ }
 {
     if comparison.quadwords.count != 0 {
         return false;
@@ -68,5 +75,5 @@ pub fn same(comparison: Comparison, used_a: u64, used_b: u64) -> bool
     if comparison.entries.count != 0 {
         return false;
     }
-    used_a == used_b
+    comparison.used.first == comparison.used.second
 }

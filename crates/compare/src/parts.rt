@@ -2,12 +2,19 @@
 // Here d is a data memory, c a code memory, l a log and u its entries used, each of board a and of board b.
 use super::Comparison;
 use super::Found;
+use super::Used;
 ghost use mathlib.Core.Path.{_≡_};
 ghost use Prim.Native.Nat.{_+_, _*_, _<_, _≤_};
 ghost use Rattle.compare.specs.Tests.{holdsOfSome};
 ghost use Rattle.compare.specs.Elements.{notEqual, numberDiffers, foundIn};
 ghost use Rattle.compare.specs.Boards.{board, refusal, smaller, comparisonOf};
 ghost use Rattle.compare.specs.Inner.{listOf, Inside, foundAfter};
+
+const QUADWORDS: usize = memories::VIF1_QUADWORDS as usize;
+
+const INSTRUCTIONS: usize = memories::VIF1_INSTRUCTIONS as usize;
+
+const ENTRY_SIZE: usize = gif::ENTRY_SIZE as usize;
 
 enum Part {
     Data,
@@ -152,8 +159,12 @@ pub(crate) fn compare_whole(
 {
     let both = smaller(ua, ub) as usize;
     Comparison {
-        quadwords: found_in(Part::Data, 4, 1024, da, ca, la, db, cb, lb),
-        instructions: found_in(Part::Code, 8, 2048, da, ca, la, db, cb, lb),
-        entries: found_in(Part::Log, 2, both, da, ca, la, db, cb, lb),
+        quadwords: found_in(Part::Data, 4, QUADWORDS, da, ca, la, db, cb, lb),
+        instructions: found_in(Part::Code, 8, INSTRUCTIONS, da, ca, la, db, cb, lb),
+        entries: found_in(Part::Log, ENTRY_SIZE, both, da, ca, la, db, cb, lb),
+        used: Used {
+            first: ua,
+            second: ub,
+        },
     }
 }

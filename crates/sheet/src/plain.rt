@@ -24,6 +24,7 @@ ghost use Rattle.sheet.specs.Results.{numbersOf, left, lengthRefusal, me
 ghost use Rattle.sheet.specs.Fed.{vectorAt, FeedRoom, fed, fedBy, Feeds, fedIn, Means};
 
 const QUADWORDS: usize = memories::VIF1_QUADWORDS as usize;
+
 const INSTRUCTIONS: usize = memories::VIF1_INSTRUCTIONS as usize;
 
 fn wide(x: u32) -> u64
