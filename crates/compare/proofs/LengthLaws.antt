@@ -1,18 +1,18 @@
 -- Lengths that are refused, and those that are not.
 use mathlib.Core.Path.{_≡_}
 use mathlib.Core.Bool.{false}
-use Prim.Native.Nat.{ℕ, _*_, _%_}
-use native.Mathlib.Omega.{arith}
+use Prim.Native.Nat.{ℕ, _*_, _%_, _≤_}
 use lib.ListN.{length}
 use lib.Dec.{eqb, ltb}
 use borrow.Author.Tests.{eq-eqb, le-ltb, eqb-true, eqb-false, not-false}
 use Rattle.fields.specs.Fields.{if}
-use Rattle.fields.proofs.ChoiceLaws.{if-ind-by, or-left}
+use Rattle.fields.specs.Refusals.{logLength}
+use Rattle.fields.proofs.ChoiceLaws.{if-ind, if-ind-by, or-left}
 use Rattle.gif.specs.Log.{entrySize, logMost, logRefused}
 use Rattle.gif.proofs.RangeLaws.{log-fits}
 use Rattle.memories.specs.declared.VifUnit.the-variants.{Vif1}
 use Rattle.memories.specs.Lengths.{lent}
-use Rattle.memories.proofs.LengthLaws.{lengths-fit, fit-lengths}
+use Rattle.memories.proofs.LengthLaws.{lengths-fit, fit-lengths, lengths-most}
 use Rattle.compare.specs.Boards.{Board, smaller, boardRefusal, firstRefusal, refusal}
 use Rattle.compare.specs.Equal.{Whole}
 
@@ -60,3 +60,11 @@ boards-whole a b e =
 pub whole-boards : (a b : Board) → Whole a → Whole b → refusal a b ≡ 0
 unfolding refusal firstRefusal if
 whole-boards a b v w = rw (whole-board a v, whole-board b w)
+
+-- no other number than a board's lengths give
+pub refusal-most : (a b : Board) → refusal a b ≤ logLength
+unfolding refusal firstRefusal smaller
+refusal-most a b =
+    let h = lengths-most Vif1 (lent (a .mem) (a .code) (a .log)) (a .used) in
+    let k = lengths-most Vif1 (lent (b .mem) (b .code) (b .log)) (b .used) in
+    if-ind (λ (n : ℕ). n ≤ logLength) _ k (if-ind (λ (n : ℕ). n ≤ logLength) _ h (if-ind (λ (n : ℕ). n ≤ logLength) _ h k))

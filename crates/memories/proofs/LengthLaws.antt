@@ -1,13 +1,14 @@
 -- The lengths that are refused, as facts.
 use mathlib.Core.Path.{_≡_}
 use mathlib.Core.Bool.{not}
-use Prim.Native.Nat.{ℕ}
+use Prim.Native.Nat.{ℕ, _≤_}
 use native.Mathlib.Omega.{arith}
 use borrow.Author.Tests.{eq-eqb, eqb-true, not-false}
 use lib.ListN.{length}
 use lib.Dec.{eqb}
 use Rattle.fields.specs.Fields.{if}
-use Rattle.fields.proofs.ChoiceLaws.{if-zero}
+use Rattle.fields.specs.Refusals.{dataLength, codeLength, logLength}
+use Rattle.fields.proofs.ChoiceLaws.{if-zero, if-ind}
 use Rattle.gif.specs.Log.{logRefused}
 use Rattle.memories.specs.declared.VifUnit.{VifUnit}
 use Rattle.memories.specs.Units.{dataWords, codeBytes}
@@ -16,9 +17,9 @@ use Rattle.memories.specs.Lengths.{Lent, lengthsRefusal, LengthsFit}
 pub lengths-fit : (u : VifUnit) (m : Lent) (used : ℕ) → lengthsRefusal u m used ≡ 0 → LengthsFit u m used
 unfolding lengthsRefusal
 lengths-fit u m used e =
-    let e2 = if-zero (not (eqb (length (m .mem)) (dataWords u))) 2 (omega arith) e in
-    let e3 = if-zero (not (eqb (length (m .code)) (codeBytes u))) 3 (omega arith) (e2 .1) in
-    let e4 = if-zero (logRefused (m .log) used) 4 (omega arith) (e3 .1) in
+    let e2 = if-zero (not (eqb (length (m .mem)) (dataWords u))) dataLength (omega arith) e in
+    let e3 = if-zero (not (eqb (length (m .code)) (codeBytes u))) codeLength (omega arith) (e2 .1) in
+    let e4 = if-zero (logRefused (m .log) used) logLength (omega arith) (e3 .1) in
     record {
       long = eqb-true (length (m .mem)) (dataWords u) (not-false _ (e2 .0));
       wide = eqb-true (length (m .code)) (codeBytes u) (not-false _ (e3 .0));
@@ -28,3 +29,9 @@ lengths-fit u m used e =
 pub fit-lengths : (u : VifUnit) (m : Lent) (used : ℕ) → LengthsFit u m used → lengthsRefusal u m used ≡ 0
 unfolding lengthsRefusal if
 fit-lengths u m used f = rw (eq-eqb (length (m .mem)) (dataWords u) (f .long), eq-eqb (length (m .code)) (codeBytes u) (f .wide), f .logged)
+
+-- no other number
+pub lengths-most : (u : VifUnit) (m : Lent) (used : ℕ) → lengthsRefusal u m used ≤ logLength
+unfolding lengthsRefusal
+lengths-most u m used =
+    if-ind (λ (n : ℕ). n ≤ logLength) _ (omega arith) (if-ind (λ (n : ℕ). n ≤ logLength) _ (omega arith) (if-ind (λ (n : ℕ). n ≤ logLength) _ (omega arith) (omega arith)))

@@ -11,13 +11,9 @@ use Rattle.fields.proofs.ChoiceLaws.{if-ind}
 use Rattle.compare.specs.declared.CompareAnswer.{CompareAnswer}
 use Rattle.compare.specs.declared.CompareAnswer.the-variants.{Refused}
 use Rattle.compare.specs.Boards.{Board, refusal, compareOf}
+use Rattle.compare.proofs.LengthLaws.{refusal-most}
 use Rattle.tejborun.specs.Buffers.{short, Answered, answered}
 use Rattle.tejborun.specs.Boards.{compareAnswered, compareCall}
-
-refusal-small : (a b : Board) → refusal a b ≤ 4
-unfolding refusal
-refusal-small a b =
-    if-ind (λ (n : ℕ). n ≤ 4) _ (omega arith) (if-ind (λ (n : ℕ). n ≤ 4) _ (omega arith) (if-ind (λ (n : ℕ). n ≤ 4) _ (omega arith) (omega arith)))
 
 module _ (a b : Board) where
   -- a refusal has a small number
@@ -25,7 +21,7 @@ module _ (a b : Board) where
   unfolding compareOf
   refused-small {x} {n} e q =
       if-ind (λ (y : CompareAnswer). y ≡ Refused n → n ≤ 4) (eqb (refusal a b) 0) (λ p. absurd (let z : _≡_ {A = ℕ} 0 1 = cc in omega arith))
-      (λ p. let r = refusal-small a b in let z : refusal a b ≡ n = cc in omega arith) (sym e ∙ q)
+      (λ p. let r = refusal-most a b in let z : refusal a b ≡ n = cc in omega arith) (sym e ∙ q)
 
   module _ (result : List ℕ) where
     pub compare-short : length result < 6 → answered short result ≡ compareCall a b result
@@ -35,7 +31,7 @@ module _ (a b : Board) where
     -- by the comparison's answer
     pub compare-told : 6 ≤ length result → {x y : CompareAnswer} → x ≡ compareOf a b → x ≡ y
         → {z : Answered}
-        → z ≡ compareAnswered y (a .used) (b .used) result
+        → z ≡ compareAnswered y result
         → z ≡ compareCall a b result
     unfolding compareCall if
     compare-told h e q k = rw (le-ltb (length result) 6 h, ← e, q) k

@@ -31,10 +31,10 @@ verdict true = 0
 verdict false = 1
 
 -- a refusal is 100 more than its number
-abbrev pub compareAnswered : CompareAnswer → ℕ → ℕ → List ℕ → Answered
-compareAnswered (Compared c) usedA usedB result = answered (verdict (sameOf c usedA usedB)) (written (foundNumbers c) result)
-compareAnswered (Refused n) usedA usedB result = answered (100 + n) (written zeros result)
+abbrev pub compareAnswered : CompareAnswer → List ℕ → Answered
+compareAnswered (Compared c) result = answered (verdict (sameOf c)) (written (foundNumbers c) result)
+compareAnswered (Refused n) result = answered (100 + n) (written zeros result)
 
 unfoldable pub compareCall : Board → Board → List ℕ → Answered
 compareCall a b result =
-    if (ltb (length result) 6) (answered short result) (compareAnswered (compareOf a b) (a .used) (b .used) result)
+    if (ltb (length result) 6) (answered short result) (compareAnswered (compareOf a b) result)

@@ -50,7 +50,7 @@ pub extern "C" fn tejborun_compare(
     match compare::compare(data_a, code_a, log_a, used_a, data_b, code_b, log_b, used_b) {
         CompareAnswer::Compared(comparison) => {
             put_comparison(result, comparison);
-            verdict(compare::same(comparison, used_a, used_b))
+            verdict(compare::same(comparison))
         }
         CompareAnswer::Refused(number) => {
             put_six(result, 0, 0, 0, 0, 0, 0);
