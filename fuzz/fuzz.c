@@ -249,20 +249,21 @@ static void spoil(struct bytes *in, struct lengths *n) {
 /* The numbers of a log: few, sometimes many, rarely odd or above the most. */
 static size_t log_numbers(struct bytes *in) {
     uint32_t how = take8(in);
-    if (how < 160) return 2 * (size_t)how;
-    if (how < 240) return 2 * (size_t)(take16(in) % 4096);
+    if (how < 160) return TEJBORUN_ENTRY_NUMBERS * (size_t)how;
+    if (how < 240) return TEJBORUN_ENTRY_NUMBERS * (size_t)(take16(in) % 4096);
     if (how < 250) return TEJBORUN_LOG_NUMBERS;
-    if (how < 253) return TEJBORUN_LOG_NUMBERS - 2 * (size_t)take8(in);
-    if (how < 254) return TEJBORUN_LOG_NUMBERS + 2;
+    if (how < 253) return TEJBORUN_LOG_NUMBERS - TEJBORUN_ENTRY_NUMBERS * (size_t)take8(in);
+    if (how < 254) return TEJBORUN_LOG_NUMBERS + TEJBORUN_ENTRY_NUMBERS;
     return take16(in);
 }
 
 static uint64_t used_entries(struct bytes *in, size_t numbers) {
     uint32_t how = take8(in);
+    size_t entries = numbers / TEJBORUN_ENTRY_NUMBERS;
     if (how < 96) return 0;
-    if (how < 200) return take16(in) % (numbers / 2 + 1);
-    if (how < 248) return numbers / 2 - (numbers / 2 > how % 4 ? how % 4 : 0);
-    if (how < 252) return numbers / 2 + 1;
+    if (how < 200) return take16(in) % (entries + 1);
+    if (how < 248) return entries - (entries > how % 4 ? how % 4 : 0);
+    if (how < 252) return entries + 1;
     return take64(in);
 }
 
@@ -290,7 +291,7 @@ static void give_result(size_t numbers) {
 
 /* ---- Sheets ---- */
 
-enum { SHEET_ROOM = 131072 + 4096 + 64 };
+enum { RECORD_ROOM = 4160, SHEET_ROOM = TEJBORUN_SHEET_BYTES + RECORD_ROOM };
 
 struct sheet {
     size_t bytes;
@@ -311,7 +312,7 @@ struct record {
 };
 
 static struct record legal_record(struct bytes *in, uint32_t kind) {
-    static const uint32_t addresses[5] = {1, 1024, 2048, 1, 2048};
+    static const uint32_t addresses[5] = {1, TEJBORUN_VIF1_QUADWORDS, TEJBORUN_VIF1_INSTRUCTIONS, 1, TEJBORUN_VIF1_INSTRUCTIONS};
     uint32_t count = take8(in), address = take_place(in, addresses[kind]);
     struct record r = {{0x9E, 0x51}, (uint8_t)kind, (uint8_t)count, address};
     if (count < 224) r.count = (uint8_t)(1 + count % 6);
@@ -393,33 +394,35 @@ static size_t chain_bytes(void) {
 
 /* ---- State blocks ---- */
 
-static void put_path(struct bytes *in, uint32_t *path) {
-    path[0] = take32(in);
-    path[1] = take8(in) & 1;
-    if (path[1] == 0) return;
+static void put_path(struct bytes *in, struct tejborun_path *path) {
+    path->q = take32(in);
+    path->place = take8(in) & 1;
+    if (path->place == 0) return;
     uint32_t how = take8(in);
-    path[2] = how % 3;
-    path[3] = 1 + (how < 200 ? take8(in) % 16 : take16(in) % 32767);
-    path[4] = how >> 7;
-    path[5] = 1 + take8(in) % 16;
-    path[6] = take32(in);
-    path[7] = take32(in);
-    uint32_t units = path[3] * path[5];
-    uint32_t all = path[2] == 0 ? units : path[2] == 1 ? (units + 1) / 2 : path[3];
-    path[8] = 1 + take32(in) % all;
+    path->format = how % 3;
+    path->nloop = 1 + (how < 200 ? take8(in) % 16 : take16(in) % 32767);
+    path->eop = how >> 7;
+    path->nreg = 1 + take8(in) % 16;
+    path->descriptors[0] = take32(in);
+    path->descriptors[1] = take32(in);
+    uint32_t units = path->nloop * path->nreg;
+    uint32_t all = path->format == 0 ? units : path->format == 1 ? (units + 1) / 2 : path->nloop;
+    path->due = 1 + take32(in) % all;
 }
 
-static void put_registers(struct bytes *in, uint32_t *unit) {
-    unit[0] = take8(in);
-    unit[1] = take8(in);
-    if (unit[1] > unit[0] && take8(in) < 224) unit[1] = 1 + unit[1] % (unit[0] + 1);
-    for (int i = 2; i < 8; i++) unit[i] = take16(in) % 1024;
-    unit[8] = take8(in) & 1;
-    unit[9] = take8(in) % 3;
-    unit[10] = take8(in) & 1;
-    unit[11] = take16(in);
-    unit[12] = take32(in);
-    for (int i = 13; i < 21; i++) unit[i] = take32(in);
+static void put_registers(struct bytes *in, struct tejborun_unit *unit) {
+    unit->cl = take8(in);
+    unit->wl = take8(in);
+    if (unit->wl > unit->cl && take8(in) < 224) unit->wl = 1 + unit->wl % (unit->cl + 1);
+    uint32_t *const of_ten_bits[] = {&unit->ofst, &unit->base, &unit->tops, &unit->top, &unit->itops, &unit->itop};
+    for (size_t i = 0; i < sizeof of_ten_bits / sizeof of_ten_bits[0]; i++) *of_ten_bits[i] = take16(in) & 0x3FF;
+    unit->dbf = take8(in) & 1;
+    unit->mode = take8(in) % 3;
+    unit->mskpath3 = take8(in) & 1;
+    unit->mark = take16(in);
+    unit->mask = take32(in);
+    for (int i = 0; i < 4; i++) unit->row[i] = take32(in);
+    for (int i = 0; i < 4; i++) unit->col[i] = take32(in);
 }
 
 /* All words of the payload of an UNPACK. */
@@ -428,45 +431,57 @@ static uint32_t unpack_words(uint32_t format, uint32_t count) {
     return (bits * count + 31) / 32;
 }
 
-static void put_waiting(struct bytes *in, uint32_t *unit) {
-    uint32_t code = take8(in) % 8, all = 1;
-    unit[21] = code;
-    if (code == 0) return;
-    unit[22] = take8(in) & 1;
-    if (code == 4 || code == 7) unit[25] = 1 + take8(in);
-    if (code == 2 || code == 3) all = 4;
-    if (code == 4) unit[24] = take_place(in, 2048), all = 2 * unit[25];
-    if (code == 5 || code == 6) all = take8(in) < 192 ? 16 : 65536;
-    if (code == 7) {
-        uint32_t format = take8(in) % 16;
-        unit[26] = format % 4 == 3 ? 15 : format;
-        unit[24] = take_place(in, 1024);
-        unit[27] = take8(in) & 1;
-        unit[28] = take8(in) & 1;
-        for (int i = 29; i < 32; i++) unit[i] = take32(in);
-        all = unpack_words(unit[26], unit[25]);
+/* The numbers of a waiting UNPACK but for its count; all words of its payload. */
+static uint32_t put_unpack(struct bytes *in, struct tejborun_unit *unit) {
+    uint32_t format = take8(in) % 16;
+    unit->format = format % 4 == 3 ? 15 : format;
+    unit->address = take_place(in, TEJBORUN_VIF1_QUADWORDS);
+    unit->usn = take8(in) & 1;
+    unit->m = take8(in) & 1;
+    for (int i = 0; i < 3; i++) unit->held[i] = take32(in);
+    return unpack_words(unit->format, unit->count);
+}
+
+/* What is due of a waiting code at most, and the numbers that it has beside. */
+static uint32_t put_code(struct bytes *in, struct tejborun_unit *unit) {
+    if (unit->waiting == TEJBORUN_WAITS_MPG || unit->waiting == TEJBORUN_WAITS_UNPACK) unit->count = 1 + take8(in);
+    switch (unit->waiting) {
+    case TEJBORUN_WAITS_STROW:
+    case TEJBORUN_WAITS_STCOL: return 4;
+    case TEJBORUN_WAITS_MPG: unit->address = take_place(in, TEJBORUN_VIF1_INSTRUCTIONS); return 2 * unit->count;
+    case TEJBORUN_WAITS_DIRECT:
+    case TEJBORUN_WAITS_DIRECTHL: return take8(in) < 192 ? 16 : 65536;
+    case TEJBORUN_WAITS_UNPACK: return put_unpack(in, unit);
+    default: return 1;
     }
-    unit[23] = 1 + take16(in) % all;
+}
+
+static void put_waiting(struct bytes *in, struct tejborun_unit *unit) {
+    unit->waiting = take8(in) % TEJBORUN_WAITING;
+    if (unit->waiting == TEJBORUN_WAITS_NONE) return;
+    unit->irq = take8(in) & 1;
+    uint32_t all = put_code(in, unit);
+    unit->due = 1 + take16(in) % all;
 }
 
 /* Where the chain stands. */
-static void put_place(struct bytes *in, uint32_t *block, size_t quadwords) {
+static void put_place(struct bytes *in, struct tejborun_chain *chain, size_t quadwords) {
     uint32_t limit = (uint32_t)quadwords + 2;
-    block[0] = 1 + take8(in) % 2;
-    block[1] = 16 * (take16(in) % limit);
-    block[2] = block[0] == 1 ? take8(in) & 1 : 0;
-    block[3] = take8(in) < 32;
-    block[4] = take8(in) % 3;
-    for (uint32_t i = 0; i < block[4]; i++) block[5 + i] = 16 * (take16(in) % limit % 65537);
-    if (block[2] == 1 && take8(in) % 2 == 1) {
-        block[7] = 1;
-        block[8] = 16 * (take16(in) % limit) + (take8(in) % 2 == 1 ? 12 : 8);
+    chain->channel = 1 + take8(in) % 2;
+    chain->tadr = 16 * (take16(in) % limit);
+    chain->tte = chain->channel == 1 ? take8(in) & 1 : 0;
+    chain->ended = take8(in) < 32;
+    chain->depth = take8(in) % 3;
+    for (uint32_t i = 0; i < chain->depth; i++) chain->stack[i] = 16 * (take16(in) % limit % 65537);
+    if (chain->tte == 1 && take8(in) % 2 == 1) {
+        chain->tag_words = 1;
+        chain->tag_word_at = 16 * (take16(in) % limit) + (take8(in) % 2 == 1 ? 12 : 8);
     }
     uint32_t pending = take8(in) % 64;
     if (pending == 0) return;
-    uint32_t words = block[0] == 2 ? 4 * pending : pending;
-    block[9] = words;
-    block[10] = 16 * (take16(in) % limit) + 4 * (-words & 3);
+    uint32_t words = chain->channel == 2 ? 4 * pending : pending;
+    chain->payload_words = words;
+    chain->payload_at = 16 * (take16(in) % limit) + 4 * (-words & 3);
 }
 
 /* A few words raw. */
@@ -479,21 +494,21 @@ static void put_raw(struct bytes *in, uint32_t *block) {
 
 /* A state block, in range but for the raw words. */
 static void give_block(struct bytes *in, const struct lengths *n) {
-    uint32_t block[TEJBORUN_BLOCK_WORDS] = {0};
+    struct tejborun_state state = {.chain.channel = 1};
     uint32_t shape = take8(in);
-    block[0] = 1;
-    if (shape & 1) put_place(in, block, n->main / 16);
+    if (shape & 1) put_place(in, &state.chain, n->main / 16);
     uint64_t used = used_entries(in, n->log);
-    block[11] = (uint32_t)used;
-    block[12] = (uint32_t)(used >> 32);
-    if (shape & 2) put_registers(in, block + 13);
-    if (shape & 4) put_waiting(in, block + 13);
-    if (shape & 8) put_path(in, block + 45);
-    if (shape & 16) put_path(in, block + 54);
-    if (shape >= 192) put_raw(in, block);
-    uint32_t *to = give(BLOCK, 4 * n->block);
-    fill(to, 4 * n->block, shape);
-    if (n->block > 0) memcpy(to, block, 4 * (n->block < TEJBORUN_BLOCK_WORDS ? n->block : TEJBORUN_BLOCK_WORDS));
+    state.chain.used[0] = (uint32_t)used;
+    state.chain.used[1] = (uint32_t)(used >> 32);
+    if (shape & 2) put_registers(in, &state.vif1);
+    if (shape & 4) put_waiting(in, &state.vif1);
+    if (shape & 8) put_path(in, &state.path2);
+    if (shape & 16) put_path(in, &state.path3);
+    if (shape >= 192) put_raw(in, (uint32_t *)&state);
+    size_t bytes = 4 * n->block;
+    uint32_t *to = give(BLOCK, bytes);
+    fill(to, bytes, shape);
+    if (bytes > 0) memcpy(to, &state, bytes < sizeof state ? bytes : sizeof state);
 }
 
 /* ---- Main memory with a chain ---- */
@@ -610,14 +625,17 @@ static void count_run(uint32_t answer) {
     if (NUMBERS(RESULT) == 0 || WORDS(BLOCK) != TEJBORUN_BLOCK_WORDS || answer == TEJBORUN_SHORT) return;
     uint64_t steps;
     memcpy(&steps, PROVED(RESULT), 8);
-    const uint32_t *block = PROVED(BLOCK);
+    const struct tejborun_state *state = PROVED(BLOCK);
+    const struct tejborun_chain *chain = &state->chain;
+    const struct tejborun_unit *unit = &state->vif1;
+    const struct tejborun_path *path2 = &state->path2, *path3 = &state->path3;
     most(&longest_run, steps);
     completed += steps;
-    show_kind(2, answer, magnitude(steps), block[13 + 21]);
-    show_kind(3, answer, block[0] * 8 + block[2] * 4 + block[4], block[46] + 2 * block[55]);
-    show_kind(4, block[13 + 21], block[13 + 26], block[13 + 9]);
-    if (block[46] == 1) show_kind(5, answer, block[47], block[50]);
-    if (block[55] == 1) show_kind(6, answer, block[56], block[59]);
+    show_kind(2, answer, magnitude(steps), unit->waiting);
+    show_kind(3, answer, chain->channel * 8 + chain->tte * 4 + chain->depth, path2->place + 2 * path3->place);
+    show_kind(4, unit->waiting, unit->format, unit->mode);
+    if (path2->place == 1) show_kind(5, answer, path2->format, path2->nreg);
+    if (path3->place == 1) show_kind(6, answer, path3->format, path3->nreg);
 }
 
 static void fuzz_build(struct bytes *in) {
@@ -632,7 +650,7 @@ static void fuzz_build(struct bytes *in) {
     if (proved != judged) fprintf(stderr, "answer %zu, the judge's %zu\n", proved, judged), stop("the answer");
     only_read(SHEET);
     bool whole = proved % 16 == 0;
-    agreed(whole ? 0 : (uint32_t)proved, whole ? 0 : (uint32_t)judged);
+    agreed(whole ? TEJBORUN_DONE : (uint32_t)proved, whole ? TEJBORUN_DONE : (uint32_t)judged);
     if (!whole) return;
     built++;
     most(&longest_chain, proved);
@@ -666,8 +684,8 @@ static void fuzz_meaning(struct bytes *in) {
     agreed(proved, judge_meaning(JUDGED(SHEET), BYTES(SHEET), JUDGED(DATA), WORDS(DATA), JUDGED(CODE), BYTES(CODE), JUDGED(LOG), NUMBERS(LOG), used,
                                  JUDGED(RESULT), NUMBERS(RESULT)));
     only_read(SHEET);
-    if (proved == 0) most(&longest_run, *(const uint64_t *)PROVED(RESULT) - used);
-    if (proved == 0) show_kind(9, magnitude(*(const uint64_t *)PROVED(RESULT)), magnitude(used), 0);
+    if (proved == TEJBORUN_DONE) most(&longest_run, *(const uint64_t *)PROVED(RESULT) - used);
+    if (proved == TEJBORUN_DONE) show_kind(9, magnitude(*(const uint64_t *)PROVED(RESULT)), magnitude(used), 0);
 }
 
 static uint32_t call_reset(void) {
@@ -688,13 +706,13 @@ static uint32_t call_start(struct bytes *in) {
 
 /* A start on the block that is given, then a reset and another start. */
 static void fuzz_start(struct bytes *in) {
-    struct lengths n = {1048576, TEJBORUN_DATA_WORDS, TEJBORUN_CODE_BYTES, 256, TEJBORUN_BLOCK_WORDS, 2};
+    struct lengths n = {TEJBORUN_MAIN_BYTES, TEJBORUN_DATA_WORDS, TEJBORUN_CODE_BYTES, 128 * TEJBORUN_ENTRY_NUMBERS, TEJBORUN_BLOCK_WORDS, 2};
     spoil(in, &n);
     give_block(in, &n);
     lend_all();
     uint32_t answer = call_start(in);
-    const uint32_t *block = PROVED(BLOCK);
-    if (WORDS(BLOCK) == TEJBORUN_BLOCK_WORDS) show_kind(10, answer, block[13 + 21], block[46] * 2 + block[55]);
+    const struct tejborun_state *state = PROVED(BLOCK);
+    if (WORDS(BLOCK) == TEJBORUN_BLOCK_WORDS) show_kind(10, answer, state->vif1.waiting, state->path2.place * 2 + state->path3.place);
     call_reset();
     call_start(in);
     call_start(in);
@@ -805,7 +823,7 @@ static void fuzz_compare(struct bytes *in) {
                                  JUDGED(CODE_B), BYTES(CODE_B), JUDGED(LOG_B), NUMBERS(LOG_B), used_b, JUDGED(RESULT), NUMBERS(RESULT)));
     for (int i = 0; i < BUFFERS; i++)
         if (i != RESULT) only_read(i);
-    if (proved > 1) return;
+    if (proved != TEJBORUN_SAME && proved != TEJBORUN_DIFFERENT) return;
     const uint64_t *result = PROVED(RESULT);
     for (uint32_t i = 0; i < 6; i++) show_kind(11, i, magnitude(result[i]), proved);
     most(&longest_run, result[1] + result[3] + result[5]);

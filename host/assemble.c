@@ -54,7 +54,7 @@ int command_assemble(const struct words_given *given)
 
 int assemble_state(struct text *text, struct output *output)
 {
-    uint32_t block[TEJBORUN_BLOCK_WORDS] = {0};
+    struct tejborun_state state = {0};
     struct given given = {0};
     struct line line;
     bool end, any = false;
@@ -66,14 +66,13 @@ int assemble_state(struct text *text, struct output *output)
             break;
         if (strcmp(line.item[0], "state") != 0)
             return complain_at(text, line.number, "'%s': a state's lines begin with state", line.item[0]);
-        status = read_fields(text, &line, &state_blocks[0], block, &given);
+        status = read_fields(text, &line, &state_blocks[0], (uint32_t *)&state, &given);
         if (status != STATUS_DONE)
             return status;
         any = true;
     }
     if (!any)
         return complain(text->name, "has no line that begins with state");
-    for (size_t i = 0; i < TEJBORUN_BLOCK_WORDS; i++)
-        write_word(output, block[i]);
+    write_words(output, (const uint32_t *)&state, TEJBORUN_BLOCK_WORDS);
     return STATUS_DONE;
 }

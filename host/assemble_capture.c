@@ -8,8 +8,9 @@
 
 /* What the lines have given so far. */
 struct parts {
-    uint32_t head[CAPTURE_HEAD_WORDS], block[TEJBORUN_BLOCK_WORDS];
-    struct given head_given, block_given;
+    struct capture_head head;
+    struct tejborun_state state;
+    struct given head_given, state_given;
     bool has_head;
     struct output calls, main;
 };
@@ -19,7 +20,7 @@ static int head_line(const struct text *text, const struct line *line, struct pa
     if (parts->has_head)
         return complain_at(text, line->number, "'capture' is given twice");
     parts->has_head = true;
-    return read_fields(text, line, &capture_heads[0], parts->head, &parts->head_given);
+    return read_fields(text, line, &capture_heads[0], (uint32_t *)&parts->head, &parts->head_given);
 }
 
 static int call_line(const struct text *text, const struct line *line, const struct shape *shape, struct parts *parts)
@@ -28,8 +29,7 @@ static int call_line(const struct text *text, const struct line *line, const str
     int status = read_block(text, line, shape, words);
     if (status != STATUS_DONE)
         return status;
-    for (size_t i = 0; i < CALL_WORDS; i++)
-        write_word(&parts->calls, words[i]);
+    write_words(&parts->calls, words, CALL_WORDS);
     return STATUS_DONE;
 }
 
@@ -38,7 +38,7 @@ static int capture_line(const struct text *text, const struct line *line, struct
     if (strcmp(line->item[0], "capture") == 0)
         return head_line(text, line, parts);
     if (strcmp(line->item[0], "state") == 0)
-        return read_fields(text, line, &state_blocks[0], parts->block, &parts->block_given);
+        return read_fields(text, line, &state_blocks[0], (uint32_t *)&parts->state, &parts->state_given);
     const struct shape *call = shape_named(calls, line->item[0]);
     if (call != NULL)
         return call_line(text, line, call, parts);
@@ -66,36 +66,36 @@ static int join_parts(const struct text *text, struct parts *parts, struct outpu
         return complain(text->name, "has no line 'capture'");
     if (parts->main.count % 4 != 0)
         return complain(text->name, "makes %zu bytes of main memory; give whole words of 4", parts->main.count);
-    if (parts->calls.count / 16 > 65535)
-        return complain(text->name, "has %zu calls; the most is 65535", parts->calls.count / 16);
-    parts->head[2] = (uint32_t)(parts->main.count / 4);
-    parts->head[9] = (uint32_t)(parts->calls.count / 16);
-    int status = check_head(text->name, parts->head);
+    if (parts->calls.count / CALL_BYTES > CAPTURE_CALLS)
+        return complain(text->name, "has %zu calls; the most is %d", parts->calls.count / CALL_BYTES, CAPTURE_CALLS);
+    parts->head.given = (uint32_t)(parts->main.count / 4);
+    parts->head.calls = (uint32_t)(parts->calls.count / CALL_BYTES);
+    int status = check_head(text->name, &parts->head);
     if (status != STATUS_DONE)
         return status;
-    for (size_t i = 0; i < CAPTURE_HEAD_WORDS; i++)
-        write_word(output, parts->head[i]);
-    for (size_t i = 0; i < TEJBORUN_BLOCK_WORDS; i++)
-        write_word(output, parts->block[i]);
+    write_words(output, (const uint32_t *)&parts->head, CAPTURE_HEAD_WORDS);
+    write_words(output, (const uint32_t *)&parts->state, TEJBORUN_BLOCK_WORDS);
     write_bytes(output, parts->calls.at, parts->calls.count);
     write_bytes(output, parts->main.at, parts->main.count);
     return STATUS_DONE;
 }
 
-/* The head where the text gives no field: memories of the right lengths, all zero, and main memory as large as it can be. */
-static void set_defaults(struct parts *parts)
+/* The head where the text gives no field: VIF1's memories, all zero, and main memory and log as large as they can be. */
+static struct capture_head default_head(void)
 {
-    parts->head[0] = capture_heads[0].fixed;
-    parts->head[1] = TEJBORUN_MAIN_BYTES;
-    parts->head[3] = TEJBORUN_DATA_WORDS;
-    parts->head[4] = TEJBORUN_CODE_BYTES;
-    parts->head[5] = TEJBORUN_LOG_NUMBERS;
+    struct memories memories = memories_of(VIF1);
+    return (struct capture_head){
+        .mark = capture_heads[0].fixed,
+        .main_bytes = TEJBORUN_MAIN_BYTES,
+        .data_words = (uint32_t)memories.data_words,
+        .code_bytes = (uint32_t)memories.code_bytes,
+        .log_numbers = TEJBORUN_LOG_NUMBERS,
+    };
 }
 
 int assemble_capture(struct text *text, struct output *output)
 {
-    struct parts parts = {0};
-    set_defaults(&parts);
+    struct parts parts = {.head = default_head()};
     int status = read_parts(text, &parts);
     if (status == STATUS_DONE)
         status = join_parts(text, &parts, output);

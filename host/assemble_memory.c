@@ -3,11 +3,9 @@
 #include <string.h>
 
 #include "assemble.h"
+#include "capture.h"
 #include "shapes.h"
 #include "tejborun.h"
-
-/* Main memory's most in a capture. */
-enum { MOST_BYTES = 1048608 };
 
 int words_line(const struct text *text, const struct line *line, struct output *output)
 {
@@ -45,8 +43,8 @@ static int at_line(const struct text *text, const struct line *line, struct outp
         return status;
     if (address < output->count)
         return complain_at(text, line->number, "at 0x%" PRIX64 ": the lines before reach 0x%zX already", address, output->count);
-    if (address > MOST_BYTES)
-        return complain_at(text, line->number, "at 0x%" PRIX64 ": main memory ends at 0x%X", address, (unsigned)MOST_BYTES);
+    if (address > CAPTURE_MAIN_BYTES)
+        return complain_at(text, line->number, "at 0x%" PRIX64 ": main memory ends at 0x%X", address, (unsigned)CAPTURE_MAIN_BYTES);
     static const uint8_t zeros[16];
     while (output->count < address)
         write_bytes(output, zeros, address - output->count < 16 ? (size_t)address - output->count : 16);
@@ -62,16 +60,15 @@ static int shape_line(const struct text *text, const struct line *line, const st
     int status = read_block(text, line, shape, words);
     if (status != STATUS_DONE)
         return status;
-    for (unsigned i = 0; i < shape->words; i++)
-        write_word(output, words[i]);
+    write_words(output, words, shape->words);
     return STATUS_DONE;
 }
 
 int memory_line(const struct text *text, const struct line *line, struct output *output)
 {
     static const struct shape *const lists[3] = {dma_tags, vif_codes, gif_tags};
-    if (output->count > MOST_BYTES)
-        return complain_at(text, line->number, "main memory has at most %d bytes", MOST_BYTES);
+    if (output->count > CAPTURE_MAIN_BYTES)
+        return complain_at(text, line->number, "main memory has at most %d bytes", CAPTURE_MAIN_BYTES);
     if (strcmp(line->item[0], "word") == 0)
         return words_line(text, line, output);
     if (strcmp(line->item[0], "byte") == 0)

@@ -10,10 +10,10 @@
 
 /* What the lines have given so far. */
 struct parts {
-    uint32_t head[RESULT_HEAD_WORDS];
-    struct given head_given, block_given;
+    struct result_head head;
+    struct given head_given, state_given;
     bool has_head;
-    struct board board;
+    struct board board; /* with the longest log */
 };
 
 static int head_line(const struct text *text, const struct line *line, struct parts *parts)
@@ -21,7 +21,7 @@ static int head_line(const struct text *text, const struct line *line, struct pa
     if (parts->has_head)
         return complain_at(text, line->number, "'result' is given twice");
     parts->has_head = true;
-    return read_fields(text, line, &result_heads[0], parts->head, &parts->head_given);
+    return read_fields(text, line, &result_heads[0], (uint32_t *)&parts->head, &parts->head_given);
 }
 
 /* The number of a quadword, an instruction or an entry, below a limit. */
@@ -42,7 +42,7 @@ static int quadword_line(const struct text *text, const struct line *line, struc
     size_t place;
     int status = expect_items(text, line, 5, "its number and four words, X Y Z W");
     if (status == STATUS_DONE)
-        status = place_item(text, line, TEJBORUN_DATA_WORDS / 4, &place);
+        status = place_item(text, line, board_quadwords(&parts->board), &place);
     for (size_t i = 0; i < 4 && status == STATUS_DONE; i++)
         status = word_item(text, line, 2 + i, &parts->board.data[4 * place + i]);
     return status;
@@ -54,7 +54,7 @@ static int instruction_line(const struct text *text, const struct line *line, st
     uint64_t instruction;
     int status = expect_items(text, line, 2, "its number and one number of 64 bits");
     if (status == STATUS_DONE)
-        status = place_item(text, line, TEJBORUN_CODE_BYTES / 8, &place);
+        status = place_item(text, line, board_instructions(&parts->board), &place);
     if (status == STATUS_DONE)
         status = number_item(text, line, 2, 64, &instruction);
     if (status == STATUS_DONE)
@@ -67,13 +67,14 @@ static int entry_line(const struct text *text, const struct line *line, struct p
     size_t place;
     int status = expect_items(text, line, 3, "its number, a register and a value");
     if (status == STATUS_DONE)
-        status = place_item(text, line, TEJBORUN_LOG_NUMBERS / 2, &place);
+        status = place_item(text, line, board_entries(&parts->board), &place);
     if (status == STATUS_DONE)
-        status = register_item(text, line, 2, &parts->board.log[2 * place]);
+        status = register_item(text, line, 2, &board_entry(&parts->board, place)[TEJBORUN_ENTRY_REGISTER]);
     if (status == STATUS_DONE)
-        status = number_item(text, line, 3, 64, &parts->board.log[2 * place + 1]);
-    if (status == STATUS_DONE && 2 * place >= parts->head[67])
-        return complain_at(text, line->number, "entry %zu: the log has %" PRIu32 " numbers, two for each", place, parts->head[67]);
+        status = number_item(text, line, 3, 64, &board_entry(&parts->board, place)[TEJBORUN_ENTRY_VALUE]);
+    if (status == STATUS_DONE && TEJBORUN_ENTRY_NUMBERS * place >= parts->head.log_numbers)
+        return complain_at(text, line->number, "entry %zu: the log has %" PRIu32 " numbers, %u for each", place, parts->head.log_numbers,
+                           TEJBORUN_ENTRY_NUMBERS);
     return status;
 }
 
@@ -83,7 +84,7 @@ static int result_line(const struct text *text, const struct line *line, struct 
     if (strcmp(what, "result") == 0)
         return head_line(text, line, parts);
     if (strcmp(what, "state") == 0)
-        return read_fields(text, line, &state_blocks[0], parts->board.block, &parts->block_given);
+        return read_fields(text, line, &state_blocks[0], board_block(&parts->board), &parts->state_given);
     if (strcmp(what, "quadword") == 0)
         return quadword_line(text, line, parts);
     if (strcmp(what, "instruction") == 0)
@@ -111,13 +112,12 @@ static int read_parts(struct text *text, struct parts *parts)
 
 int assemble_result(struct text *text, struct output *output)
 {
-    struct parts parts = {.board = new_board(TEJBORUN_DATA_WORDS, TEJBORUN_CODE_BYTES, TEJBORUN_LOG_NUMBERS)};
-    parts.head[67] = TEJBORUN_LOG_NUMBERS;
+    struct parts parts = {.head.log_numbers = TEJBORUN_LOG_NUMBERS, .board = new_board(memories_of(VIF1), TEJBORUN_LOG_NUMBERS)};
     int status = read_parts(text, &parts);
     if (status == STATUS_DONE && !parts.has_head)
         status = complain(text->name, "has no line 'result'");
-    struct result result = {.answer = parts.head[1], .steps = parts.head[2] | (uint64_t)parts.head[3] << 32, .board = parts.board};
-    result.board.log_numbers = parts.head[67];
+    struct result result = {.answer = parts.head.answer, .steps = join_words(parts.head.steps), .board = parts.board};
+    result.board.log_numbers = parts.head.log_numbers;
     if (status == STATUS_DONE)
         status = board_fits(text->name, &result.board);
     if (status == STATUS_DONE) {

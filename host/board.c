@@ -5,23 +5,30 @@
 #include <string.h>
 
 #include "files.h"
+#include "numbers.h"
 
-struct board new_board(size_t data_words, size_t code_bytes, size_t log_numbers)
+struct memories memories_of(enum vif unit)
+{
+    static const struct memories all[] = {[VIF1] = {TEJBORUN_DATA_WORDS, TEJBORUN_CODE_BYTES}};
+    return all[unit];
+}
+
+struct board new_board(struct memories lengths, size_t log_numbers)
 {
     return (struct board){
-        .data_words = data_words,
-        .code_bytes = code_bytes,
+        .data_words = lengths.data_words,
+        .code_bytes = lengths.code_bytes,
         .log_numbers = log_numbers,
-        .data = allocate(data_words, sizeof(uint32_t)),
-        .code = allocate(code_bytes, 1),
+        .data = allocate(lengths.data_words, sizeof(uint32_t)),
+        .code = allocate(lengths.code_bytes, 1),
         .log = allocate(log_numbers, sizeof(uint64_t)),
     };
 }
 
 struct board copy_board(const struct board *board)
 {
-    struct board copy = new_board(board->data_words, board->code_bytes, board->log_numbers);
-    memcpy(copy.block, board->block, sizeof copy.block);
+    struct board copy = new_board((struct memories){board->data_words, board->code_bytes}, board->log_numbers);
+    copy.state = board->state;
     memcpy(copy.data, board->data, board->data_words * sizeof *copy.data);
     memcpy(copy.code, board->code, board->code_bytes);
     memcpy(copy.log, board->log, board->log_numbers * sizeof *copy.log);
@@ -36,15 +43,39 @@ void free_board(struct board *board)
     *board = (struct board){0};
 }
 
+uint32_t *board_block(struct board *board)
+{
+    return (uint32_t *)&board->state;
+}
+
 uint64_t board_used(const struct board *board)
 {
-    return board->block[11] | (uint64_t)board->block[12] << 32;
+    return join_words(board->state.chain.used);
 }
 
 void set_board_used(struct board *board, uint64_t used)
 {
-    board->block[11] = (uint32_t)used;
-    board->block[12] = (uint32_t)(used >> 32);
+    split_number(used, board->state.chain.used);
+}
+
+size_t board_quadwords(const struct board *board)
+{
+    return board->data_words / 4;
+}
+
+size_t board_instructions(const struct board *board)
+{
+    return board->code_bytes / 8;
+}
+
+size_t board_entries(const struct board *board)
+{
+    return board->log_numbers / TEJBORUN_ENTRY_NUMBERS;
+}
+
+uint64_t *board_entry(const struct board *board, size_t number)
+{
+    return board->log + number * TEJBORUN_ENTRY_NUMBERS;
 }
 
 uint32_t compare_boards(const struct board *a, const struct board *b, uint64_t numbers[6])

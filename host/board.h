@@ -9,8 +9,17 @@
 #include "files.h"
 #include "tejborun.h"
 
+/* A VIF unit, and the lengths of its memories. */
+enum vif { VIF1 };
+
+struct memories {
+    size_t data_words, code_bytes;
+};
+
+struct memories memories_of(enum vif unit);
+
 struct board {
-    uint32_t block[TEJBORUN_BLOCK_WORDS];
+    struct tejborun_state state;
     size_t data_words, code_bytes, log_numbers;
     uint32_t *data;
     uint8_t *code;
@@ -23,16 +32,34 @@ struct result {
     struct board board;
 };
 
-enum { RESULT_HEAD_WORDS = 68 };
+/* The head of a result file; memories and log follow. */
+struct result_head {
+    uint32_t mark, answer, steps[2];
+    struct tejborun_state state;
+    uint32_t log_numbers;
+};
+
+enum { RESULT_HEAD_WORDS = TEJBORUN_WORDS_OF(struct result_head) };
 
 /* A board of these lengths, all zero. The caller frees it. */
-struct board new_board(size_t data_words, size_t code_bytes, size_t log_numbers);
+struct board new_board(struct memories lengths, size_t log_numbers);
 struct board copy_board(const struct board *board);
 void free_board(struct board *board);
+
+/* The state as the library has it. */
+uint32_t *board_block(struct board *board);
 
 /* Log entries used. */
 uint64_t board_used(const struct board *board);
 void set_board_used(struct board *board, uint64_t used);
+
+/* How many of each the board has room for. */
+size_t board_quadwords(const struct board *board);
+size_t board_instructions(const struct board *board);
+size_t board_entries(const struct board *board);
+
+/* The numbers of an entry of the log. */
+uint64_t *board_entry(const struct board *board, size_t number);
 
 /* Compares by the library: its answer, and its six numbers. */
 uint32_t compare_boards(const struct board *a, const struct board *b, uint64_t numbers[6]);
@@ -40,11 +67,14 @@ uint32_t compare_boards(const struct board *a, const struct board *b, uint64_t n
 /* Whether a result file can keep a board of these lengths; complains if not. */
 int board_fits(const char *name, const struct board *board);
 
+/* The head of the file that keeps a result. */
+struct result_head result_head_of(const struct result *result);
+
 /* The bytes of a result file; the caller frees them. */
 struct bytes result_bytes(const struct result *result);
 
 /* Reads a result from its file's bytes. A status; the caller frees the board. */
-int parse_result(const char *name, const uint8_t *bytes, size_t count, struct result *result);
+int parse_result(const char *name, const struct bytes *file, struct result *result);
 int read_result(const char *name, struct result *result);
 int write_result(const char *name, const struct result *result);
 

@@ -5,87 +5,98 @@
 #include <stdlib.h>
 
 #include "files.h"
+#include "kinds.h"
 #include "numbers.h"
 #include "shapes.h"
 
-size_t capture_main_bytes(const struct capture *capture)
-{
-    return capture->head[1];
-}
-
-uint64_t capture_fill(const struct capture *capture)
-{
-    return capture->head[6] | (uint64_t)capture->head[7] << 32;
-}
-
 struct limit {
-    unsigned word;
-    uint32_t most;
+    uint32_t value, most;
     const char *what;
 };
 
-int check_head(const char *name, const uint32_t *head)
+int check_head(const char *name, const struct capture_head *head)
 {
     const struct limit limits[] = {
-        {1, 1048608, "bytes of main memory"},
-        {2, head[1] / 4, "words given of main memory"},
-        {3, 4100, "words of data memory"},
-        {4, 16392, "bytes of code memory"},
-        {5, 131080, "numbers of the log"},
-        {8, 1, "for whole memories"},
-        {9, 65535, "calls"},
+        {head->main_bytes, CAPTURE_MAIN_BYTES, "bytes of main memory"},
+        {head->given, head->main_bytes / 4, "words given of main memory"},
+        {head->data_words, CAPTURE_DATA_WORDS, "words of data memory"},
+        {head->code_bytes, CAPTURE_CODE_BYTES, "bytes of code memory"},
+        {head->log_numbers, CAPTURE_LOG_NUMBERS, "numbers of the log"},
+        {head->whole, 1, "for whole memories"},
+        {head->calls, CAPTURE_CALLS, "calls"},
     };
-    if (head[0] != capture_heads[0].fixed)
-        return complain(name, "no capture: it does not begin with the mark TCAP");
     for (size_t i = 0; i < sizeof limits / sizeof limits[0]; i++)
-        if (head[limits[i].word] > limits[i].most)
-            return complain(name, "damaged capture: %" PRIu32 " %s; the most is %" PRIu32, head[limits[i].word], limits[i].what, limits[i].most);
+        if (limits[i].value > limits[i].most)
+            return complain(name, "damaged capture: %" PRIu32 " %s; the most is %" PRIu32, limits[i].value, limits[i].what, limits[i].most);
     return STATUS_DONE;
+}
+
+/* Bytes of a capture file with a state block of so many words. */
+static size_t capture_length(const struct capture_head *head, size_t state_words)
+{
+    return 4 * (CAPTURE_HEAD_WORDS + state_words) + (size_t)head->calls * CALL_BYTES + (size_t)head->given * 4;
+}
+
+/* The first call that is of no kind in a file with a state block of so many words; the number of calls where each is of one. */
+static size_t first_unknown(const struct bytes *file, const struct capture_head *head, size_t state_words)
+{
+    const uint8_t *calls_at = file->at + 4 * (CAPTURE_HEAD_WORDS + state_words);
+    for (size_t i = 0; i < head->calls; i++)
+        if (shape_of(calls, get_word(calls_at + CALL_BYTES * i)) == NULL)
+            return i;
+    return head->calls;
+}
+
+static bool is_whole(const struct bytes *file, size_t state_words)
+{
+    struct capture_head head;
+    get_words(file->at, CAPTURE_HEAD_WORDS, (uint32_t *)&head);
+    return file->count == capture_length(&head, state_words) && first_unknown(file, &head, state_words) == head.calls;
 }
 
 /* Tests the file's length and the kinds of its calls. */
-static int check_rest(const char *name, const uint8_t *bytes, size_t count, const uint32_t *head)
+static int check_rest(const char *name, const struct bytes *file, const struct capture_head *head)
 {
-    size_t length = CAPTURE_CALLS_AT + (size_t)head[9] * 16 + (size_t)head[2] * 4;
-    if (count < length)
-        return complain(name, "damaged capture: %zu bytes; its head says %zu", count, length);
-    if (count > length)
-        return complain(name, "%zu bytes, but its case ends after %zu: give a capture of one case", count, length);
-    for (size_t i = 0; i < head[9]; i++) {
-        uint32_t kind = get_word(bytes + CAPTURE_CALLS_AT + 16 * i);
-        if (shape_of(calls, kind) == NULL)
-            return complain(name, "damaged capture: call %zu is of kind %" PRIu32 "; 1 is a start, 2 a run", i, kind);
-    }
+    size_t length = capture_length(head, TEJBORUN_BLOCK_WORDS);
+    if (file->count < length)
+        return complain(name, "damaged capture: %zu bytes; its head says %zu", file->count, length);
+    if (file->count > length)
+        return complain(name, "%zu bytes, but its case ends after %zu: give a capture of one case", file->count, length);
+    size_t unknown = first_unknown(file, head, TEJBORUN_BLOCK_WORDS);
+    if (unknown < head->calls)
+        return complain(name, "damaged capture: call %zu is of kind %" PRIu32 "; 1 is a start, 2 a run", unknown,
+                        get_word(file->at + CAPTURE_CALLS_AT + CALL_BYTES * unknown));
     return STATUS_DONE;
 }
 
-static void get_words(const uint8_t *bytes, size_t count, uint32_t *words)
+/* Tests mark, layout, limits and lengths; reads the head. */
+static int check_capture(const char *name, const struct bytes *file, struct capture_head *head)
 {
-    for (size_t i = 0; i < count; i++)
-        words[i] = get_word(bytes + 4 * i);
+    if (!has_mark(file, &capture_heads[0]))
+        return complain_of_mark(name, file, &capture_heads[0]);
+    if (file->count >= 4 * CAPTURE_HEAD_WORDS && check_layout(name, "capture", file, is_whole) != STATUS_DONE)
+        return STATUS_BAD;
+    if (file->count < CAPTURE_CALLS_AT)
+        return complain(name, "damaged capture: %zu bytes, cut within its head of %d", file->count, CAPTURE_CALLS_AT);
+    get_words(file->at, CAPTURE_HEAD_WORDS, (uint32_t *)head);
+    int status = check_head(name, head);
+    return status == STATUS_DONE ? check_rest(name, file, head) : status;
 }
 
-int parse_capture(const char *name, const uint8_t *bytes, size_t count, struct capture *capture)
+int parse_capture(const char *name, const struct bytes *file, struct capture *capture)
 {
     *capture = (struct capture){0};
-    if (count < 4 || get_word(bytes) != capture_heads[0].fixed)
-        return complain(name, "no capture: it does not begin with the mark TCAP");
-    if (count < CAPTURE_CALLS_AT)
-        return complain(name, "damaged capture: %zu bytes, cut within its head of %d", count, CAPTURE_CALLS_AT);
-    get_words(bytes, CAPTURE_HEAD_WORDS, capture->head);
-    int status = check_head(name, capture->head);
-    if (status == STATUS_DONE)
-        status = check_rest(name, bytes, count, capture->head);
+    int status = check_capture(name, file, &capture->head);
     if (status != STATUS_DONE)
         return status;
-    get_words(bytes + 4 * CAPTURE_HEAD_WORDS, TEJBORUN_BLOCK_WORDS, capture->block);
-    capture->calls = capture->head[9];
-    capture->call = allocate(capture->calls, sizeof *capture->call);
-    for (size_t i = 0; i < capture->calls; i++)
-        get_words(bytes + CAPTURE_CALLS_AT + 16 * i, CALL_WORDS, capture->call[i].words);
-    capture->given = capture->head[2];
-    capture->word = allocate(capture->given, sizeof *capture->word);
-    get_words(bytes + CAPTURE_CALLS_AT + 16 * capture->calls, capture->given, capture->word);
+    const uint8_t *at = file->at + 4 * CAPTURE_HEAD_WORDS;
+    get_words(at, TEJBORUN_BLOCK_WORDS, (uint32_t *)&capture->state);
+    at += 4 * TEJBORUN_BLOCK_WORDS;
+    capture->call = allocate(capture->head.calls, sizeof *capture->call);
+    for (size_t i = 0; i < capture->head.calls; i++, at += CALL_BYTES)
+        get_words(at, CALL_WORDS, capture->call[i].words);
+    capture->word = allocate(capture->head.given, sizeof *capture->word);
+    get_words(at, capture->head.given, capture->word);
     return STATUS_DONE;
 }
 
@@ -95,7 +106,7 @@ int read_capture(const char *name, struct capture *capture)
     int status = read_file(name, 64 * (size_t)CAPTURE_BYTES, &file);
     if (status != STATUS_DONE)
         return status;
-    status = parse_capture(name, file.at, file.count, capture);
+    status = parse_capture(name, &file, capture);
     free(file.at);
     return status;
 }
@@ -109,19 +120,18 @@ void free_capture(struct capture *capture)
 
 uint8_t *capture_main(const struct capture *capture)
 {
-    uint8_t *main = allocate(capture_main_bytes(capture), 1);
-    for (size_t i = 0; i < capture->given; i++)
-        put_word(main + 4 * i, capture->word[i]);
+    uint8_t *main = allocate(capture->head.main_bytes, 1);
+    put_words(main, capture->head.given, capture->word);
     return main;
 }
 
 struct board capture_board(const struct capture *capture)
 {
     const uint64_t k = UINT64_C(0x9E3779B97F4A7C15);
-    uint64_t fill = capture_fill(capture);
-    struct board board = new_board(capture->head[3], capture->head[4], capture->head[5]);
-    for (size_t i = 0; i < TEJBORUN_BLOCK_WORDS; i++)
-        board.block[i] = capture->block[i];
+    const struct capture_head *head = &capture->head;
+    uint64_t fill = join_words(head->fill);
+    struct board board = new_board((struct memories){head->data_words, head->code_bytes}, head->log_numbers);
+    board.state = capture->state;
     for (size_t i = 0; i < board.data_words; i++)
         board.data[i] = (uint32_t)(fill + i * k);
     for (size_t i = 0; i < board.code_bytes; i++)

@@ -7,32 +7,44 @@
 
 #include "board.h"
 
-enum { CAPTURE_HEAD_WORDS = 10, CAPTURE_CALLS_AT = 73 * 4, CALL_WORDS = 4 };
+/* What a capture file begins with; the state block, the calls and main memory follow. */
+struct capture_head {
+    uint32_t mark, main_bytes;
+    uint32_t given; /* words of main memory */
+    uint32_t data_words, code_bytes, log_numbers;
+    uint32_t fill[2], whole;
+    uint32_t calls;
+};
 
-/* Most bytes of a capture file. */
-enum { CAPTURE_BYTES = (73 + 4 * 65535 + 1048608 / 4) * 4 };
+enum { CAPTURE_HEAD_WORDS = TEJBORUN_WORDS_OF(struct capture_head), CALL_WORDS = 4, CALL_BYTES = 4 * CALL_WORDS };
+enum { CAPTURE_CALLS_AT = 4 * (CAPTURE_HEAD_WORDS + TEJBORUN_BLOCK_WORDS) };
+
+/* The most that a capture gives: a little more than a run takes, so that its refusals can be seen. */
+enum {
+    CAPTURE_MAIN_BYTES = TEJBORUN_MAIN_BYTES + 32,
+    CAPTURE_DATA_WORDS = TEJBORUN_DATA_WORDS + 4,
+    CAPTURE_CODE_BYTES = TEJBORUN_CODE_BYTES + 8,
+    CAPTURE_LOG_NUMBERS = TEJBORUN_LOG_NUMBERS + 8,
+    CAPTURE_CALLS = 65535,
+    CAPTURE_BYTES = CAPTURE_CALLS_AT + CAPTURE_CALLS * CALL_BYTES + CAPTURE_MAIN_BYTES,
+};
 
 struct call {
     uint32_t words[CALL_WORDS]; /* a start: 1, channel, TADR, TTE; a run: 2, the allowance, 0 */
 };
 
 struct capture {
-    uint32_t head[CAPTURE_HEAD_WORDS];
-    uint32_t block[TEJBORUN_BLOCK_WORDS];
-    size_t calls, given; /* calls, and words of main memory that are given */
-    struct call *call;
-    uint32_t *word;
+    struct capture_head head;
+    struct tejborun_state state;
+    struct call *call; /* head.calls of them */
+    uint32_t *word;    /* head.given of them */
 };
 
-/* The lengths of the head. */
-size_t capture_main_bytes(const struct capture *capture);
-uint64_t capture_fill(const struct capture *capture);
-
 /* Tests the head's limits; complains of the first that is broken. */
-int check_head(const char *name, const uint32_t *head);
+int check_head(const char *name, const struct capture_head *head);
 
 /* Reads a capture from its file's bytes. A status; the caller frees it. */
-int parse_capture(const char *name, const uint8_t *bytes, size_t count, struct capture *capture);
+int parse_capture(const char *name, const struct bytes *file, struct capture *capture);
 int read_capture(const char *name, struct capture *capture);
 void free_capture(struct capture *capture);
 

@@ -42,8 +42,8 @@ void print_changes(const struct board *before, const struct board *after)
         printf("  memories and log: untouched, with these lengths every run is refused\n");
         return;
     }
-    size_t quadword = numbers[1] > 0 ? last_change(before->data, after->data, TEJBORUN_DATA_WORDS / 4, 16) : 0;
-    size_t instruction = numbers[3] > 0 ? last_change(before->code, after->code, TEJBORUN_CODE_BYTES / 8, 8) : 0;
+    size_t quadword = numbers[1] > 0 ? last_change(before->data, after->data, board_quadwords(before), 16) : 0;
+    size_t instruction = numbers[3] > 0 ? last_change(before->code, after->code, board_instructions(before), 8) : 0;
     print_memory("data memory", "quadword", "quadwords", numbers[0], numbers[1], quadword);
     print_memory("code memory", "instruction", "instructions", numbers[2], numbers[3], instruction);
     print_log(board_used(before), board_used(after));

@@ -31,7 +31,8 @@ static void show_instruction(const struct board *a, const struct board *b, size_
 
 static void print_entry(const char *who, const struct board *board, size_t number)
 {
-    uint64_t log_register = board->log[2 * number], value = board->log[2 * number + 1];
+    const uint64_t *entry = board_entry(board, number);
+    uint64_t log_register = entry[TEJBORUN_ENTRY_REGISTER], value = entry[TEJBORUN_ENTRY_VALUE];
     const char *name = register_name(log_register);
     printf("    %s register 0x%02" PRIX64 " %s, value 0x%016" PRIX64 " (%" PRIu64 ")\n", who, log_register, name != NULL ? name : "(no name)", value,
            value);
@@ -64,7 +65,7 @@ static void make_same(const struct board *a, struct board *b, size_t kind, size_
     else if (kind == 1)
         memcpy(b->code + 8 * number, a->code + 8 * number, 8);
     else
-        memcpy(b->log + 2 * number, a->log + 2 * number, 16);
+        memcpy(board_entry(b, number), board_entry(a, number), TEJBORUN_ENTRY_NUMBERS * sizeof *b->log);
 }
 
 /* Shows every difference of a kind; spends a copy of board b. */
@@ -72,7 +73,7 @@ static void show_all(const struct board *a, const struct board *b, size_t kind)
 {
     struct board spent = copy_board(b);
     uint64_t numbers[6] = {0};
-    while (compare_boards(a, &spent, numbers) == 1 && numbers[2 * kind + 1] > 0) {
+    while (compare_boards(a, &spent, numbers) == TEJBORUN_DIFFERENT && numbers[2 * kind + 1] > 0) {
         units[kind].show(a, &spent, numbers[2 * kind]);
         make_same(a, &spent, kind, numbers[2 * kind]);
     }
@@ -117,7 +118,7 @@ static int compare_results(const struct words_given *given, const struct result 
 {
     uint64_t numbers[6] = {0};
     uint32_t answer = compare_boards(&result->board, &board->board, numbers);
-    if (answer > 1) {
+    if (answer != TEJBORUN_SAME && answer != TEJBORUN_DIFFERENT) {
         uint32_t refusal = answer >= TEJBORUN_REFUSED ? answer - TEJBORUN_REFUSED : answer;
         complain("compare", "%s and %s: refused %" PRIu32 ": %s", given->word[0], given->word[1], refusal, meaning_of(refusal));
         return STATUS_REFUSED;
@@ -127,8 +128,8 @@ static int compare_results(const struct words_given *given, const struct result 
     for (size_t kind = 0; kind < 3; kind++)
         show_kind(&result->board, &board->board, kind, numbers, given->all);
     show_lengths(&result->board, &board->board);
-    puts(answer == 0 ? "equal" : "different");
-    return answer == 0 ? STATUS_DONE : STATUS_REFUSED;
+    puts(answer == TEJBORUN_SAME ? "equal" : "different");
+    return answer == TEJBORUN_SAME ? STATUS_DONE : STATUS_REFUSED;
 }
 
 int command_compare(const struct words_given *given)

@@ -5,8 +5,8 @@
 #include <stdlib.h>
 #include <string.h>
 
-#include "board.h"
 #include "command.h"
+#include "kinds.h"
 #include "numbers.h"
 #include "shapes.h"
 #include "tejborun.h"
@@ -24,18 +24,6 @@ static const struct kind kinds[] = {
 };
 
 enum { KINDS = sizeof kinds / sizeof kinds[0] };
-
-/* The kind of a file by its mark; null where it has none. */
-static const char *kind_by_mark(const struct bytes *file)
-{
-    if (file->count >= 4 && get_word(file->at) == capture_heads[0].fixed)
-        return "capture";
-    if (file->count >= 4 && get_word(file->at) == result_heads[0].fixed)
-        return "result";
-    if (file->count >= 2 && file->at[0] == 0x9E && file->at[1] == 0x51)
-        return "sheet";
-    return NULL;
-}
 
 static int dump_as(const char *kind, const char *name, const struct bytes *file)
 {
@@ -61,9 +49,9 @@ int command_dump(const struct words_given *given)
     return status;
 }
 
-void print_state(const uint32_t *block)
+void print_state(const struct tejborun_state *state)
 {
-    print_block(stdout, &state_blocks[0], block);
+    print_block(stdout, &state_blocks[0], (const uint32_t *)state);
     putchar('\n');
 }
 
@@ -76,13 +64,23 @@ void print_register(uint64_t number)
         printf("0x%02" PRIX64, number);
 }
 
+static bool is_whole(const struct bytes *file, size_t state_words)
+{
+    return file->count == 4 * state_words;
+}
+
 int dump_state(const char *name, const struct bytes *file)
 {
-    uint32_t block[TEJBORUN_BLOCK_WORDS];
-    if (file->count != sizeof block)
-        return complain(name, "no state: %zu bytes; a state has %zu", file->count, sizeof block);
-    for (size_t i = 0; i < TEJBORUN_BLOCK_WORDS; i++)
-        block[i] = get_word(file->at + 4 * i);
-    print_state(block);
-    return STATUS_DONE;
+    struct tejborun_state state;
+    const char *kind = kind_by_mark(file);
+    if (is_whole(file, TEJBORUN_BLOCK_WORDS)) {
+        get_words(file->at, TEJBORUN_BLOCK_WORDS, (uint32_t *)&state);
+        print_state(&state);
+        return STATUS_DONE;
+    }
+    if (kind != NULL)
+        return complain(name, "no state: it begins with the mark of a %s", kind);
+    if (check_layout(name, "state", file, is_whole) != STATUS_DONE)
+        return STATUS_BAD;
+    return complain(name, "no state: %zu bytes; a state has %zu", file->count, sizeof state);
 }

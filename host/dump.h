@@ -7,6 +7,7 @@
 #include <stdio.h>
 
 #include "files.h"
+#include "state_shape.h"
 
 /* Each prints the file of these bytes and hands back the exit status. */
 int dump_sheet(const char *name, const struct bytes *file);
@@ -19,7 +20,7 @@ int dump_result(const char *name, const struct bytes *file);
 void print_words(const uint32_t *words, const uint8_t *roles, size_t count);
 
 /* Prints a state block, one or more lines. */
-void print_state(const uint32_t *block);
+void print_state(const struct tejborun_state *state);
 
 /* Prints a register's name, or its number where it has none. */
 void print_register(uint64_t number);

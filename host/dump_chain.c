@@ -15,8 +15,7 @@ static void print_chain(const struct bytes *file)
     size_t count = file->count / 4;
     uint32_t *words = allocate(count, sizeof *words);
     uint8_t *roles = allocate(count, 1);
-    for (size_t i = 0; i < count; i++)
-        words[i] = get_word(file->at + 4 * i);
+    get_words(file->at, count, words);
     struct trail trail = new_trail(words, count, count, roles);
     follow(&trail);
     printf("# chain, %zu bytes\n", file->count);
@@ -38,9 +37,9 @@ int dump_chain(const char *name, const struct bytes *file)
 /* Follows the chains that the calls begin. */
 static void follow_calls(const struct capture *capture, uint8_t *roles)
 {
-    struct trail trail = new_trail(capture->word, capture->given, capture_main_bytes(capture) / 4, roles);
-    trail_from_block(&trail, capture->block);
-    for (size_t i = 0; i < capture->calls; i++) {
+    struct trail trail = new_trail(capture->word, capture->head.given, capture->head.main_bytes / 4, roles);
+    trail_from_state(&trail, &capture->state);
+    for (size_t i = 0; i < capture->head.calls; i++) {
         const uint32_t *words = capture->call[i].words;
         if (words[0] == 1)
             trail_start(&trail, words[1], words[2], words[3]);
@@ -51,24 +50,24 @@ static void follow_calls(const struct capture *capture, uint8_t *roles)
 
 static void print_capture(const struct capture *capture)
 {
-    uint8_t *roles = allocate(capture->given, 1);
+    uint8_t *roles = allocate(capture->head.given, 1);
     follow_calls(capture, roles);
-    print_block(stdout, &capture_heads[0], capture->head);
+    print_block(stdout, &capture_heads[0], (const uint32_t *)&capture->head);
     putchar('\n');
-    print_state(capture->block);
-    for (size_t i = 0; i < capture->calls; i++) {
+    print_state(&capture->state);
+    for (size_t i = 0; i < capture->head.calls; i++) {
         print_block(stdout, shape_of(calls, capture->call[i].words[0]), capture->call[i].words);
         putchar('\n');
     }
-    printf("# main memory, %zu words given\n", capture->given);
-    print_words(capture->word, roles, capture->given);
+    printf("# main memory, %" PRIu32 " words given\n", capture->head.given);
+    print_words(capture->word, roles, capture->head.given);
     free(roles);
 }
 
 int dump_capture(const char *name, const struct bytes *file)
 {
     struct capture capture;
-    int status = parse_capture(name, file->at, file->count, &capture);
+    int status = parse_capture(name, file, &capture);
     if (status != STATUS_DONE)
         return status;
     print_capture(&capture);

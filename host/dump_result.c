@@ -10,15 +10,14 @@
 
 static void print_head(const struct result *result)
 {
-    uint32_t head[RESULT_HEAD_WORDS] = {result_heads[0].fixed, result->answer, (uint32_t)result->steps, (uint32_t)(result->steps >> 32)};
-    head[67] = (uint32_t)result->board.log_numbers;
-    print_block(stdout, &result_heads[0], head);
+    const struct result_head head = result_head_of(result);
+    print_block(stdout, &result_heads[0], (const uint32_t *)&head);
     printf("  # %s\n", meaning_of(result->answer));
 }
 
 static void print_data(const struct board *board)
 {
-    for (size_t i = 0; i < board->data_words / 4; i++) {
+    for (size_t i = 0; i < board_quadwords(board); i++) {
         const uint32_t *at = board->data + 4 * i;
         if ((at[0] | at[1] | at[2] | at[3]) != 0)
             printf("quadword %zu 0x%08" PRIX32 " 0x%08" PRIX32 " 0x%08" PRIX32 " 0x%08" PRIX32 "\n", i, at[0], at[1], at[2], at[3]);
@@ -27,9 +26,17 @@ static void print_data(const struct board *board)
 
 static void print_code_memory(const struct board *board)
 {
-    for (size_t i = 0; i < board->code_bytes / 8; i++)
+    for (size_t i = 0; i < board_instructions(board); i++)
         if (get_number(board->code + 8 * i) != 0)
             printf("instruction %zu 0x%016" PRIX64 "\n", i, get_number(board->code + 8 * i));
+}
+
+static bool is_zero(const uint64_t *entry)
+{
+    uint64_t any = 0;
+    for (size_t i = 0; i < TEJBORUN_ENTRY_NUMBERS; i++)
+        any |= entry[i];
+    return any == 0;
 }
 
 /* Prints the entries used, and beyond them those that are not zero. */
@@ -37,27 +44,27 @@ static void print_log(const struct board *board)
 {
     uint64_t used = board_used(board);
     bool beyond = false;
-    for (size_t i = 0; i < board->log_numbers / 2; i++) {
-        const uint64_t *at = board->log + 2 * i;
-        if (i >= used && (at[0] | at[1]) == 0)
+    for (size_t i = 0; i < board_entries(board); i++) {
+        const uint64_t *entry = board_entry(board, i);
+        if (i >= used && is_zero(entry))
             continue;
         if (i >= used && !beyond)
             printf("# beyond the entries used\n");
         beyond = i >= used;
         printf("entry %zu ", i);
-        print_register(at[0]);
-        printf(" 0x%016" PRIX64 "\n", at[1]);
+        print_register(entry[TEJBORUN_ENTRY_REGISTER]);
+        printf(" 0x%016" PRIX64 "\n", entry[TEJBORUN_ENTRY_VALUE]);
     }
 }
 
 int dump_result(const char *name, const struct bytes *file)
 {
     struct result result;
-    int status = parse_result(name, file->at, file->count, &result);
+    int status = parse_result(name, file, &result);
     if (status != STATUS_DONE)
         return status;
     print_head(&result);
-    print_state(result.board.block);
+    print_state(&result.board.state);
     print_data(&result.board);
     print_code_memory(&result.board);
     print_log(&result.board);

@@ -74,17 +74,17 @@ int dump_sheet(const char *name, const struct bytes *file)
 {
     uint64_t numbers[2] = {0};
     uint32_t answer = tejborun_steps(file->at, file->count, numbers, 2);
-    if (answer == 46)
+    if (answer == TEJBORUN_LONG_SHEET)
         return sheet_refused(name, answer, 0);
-    size_t end = answer == 0 ? file->count : (size_t)numbers[1];
+    size_t end = answer == TEJBORUN_DONE ? file->count : (size_t)numbers[1];
     printf("# sheet, %zu bytes", file->count);
-    if (answer == 0)
+    if (answer == TEJBORUN_DONE)
         printf(", %" PRIu64 " %s\n", numbers[0], plural(numbers[0], "step", "steps"));
     else
         printf(", refused %" PRIu32 " at offset %zu: %s\n", answer, end, meaning_of(answer));
     for (size_t at = 0; at < end;)
         at += print_record(file->at, at);
-    if (answer == 0)
+    if (answer == TEJBORUN_DONE)
         return STATUS_DONE;
     print_bytes(file->at + end, file->count - end);
     return sheet_refused(name, answer, end);

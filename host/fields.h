@@ -8,10 +8,11 @@
 #include <stdint.h>
 #include <stdio.h>
 
+#include "state_shape.h"
 #include "text.h"
 
 enum { FIELD_SHOWN = 1, FIELD_HEX = 2, FIELD_LINE = 4 }; /* shown where it is 0; in hexadecimal; the first of a new line */
-enum { MOST_FIELDS = 64 };
+enum { MOST_FIELDS = TEJBORUN_BLOCK_WORDS };             /* a state block has the most, at least a word each */
 
 struct names {
     size_t count;
@@ -24,6 +25,9 @@ struct field {
     unsigned flags;
     const struct names *names;
 };
+
+/* The field that is a member of a struct of words. */
+#define MEMBER(type, name, member, flags, names) {name, 8 * offsetof(type, member), 8 * sizeof(((type *)0)->member), flags, names}
 
 struct shape {
     const char *name;

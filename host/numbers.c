@@ -23,6 +23,29 @@ void put_number(uint8_t *bytes, uint64_t number)
     put_word(bytes + 4, (uint32_t)(number >> 32));
 }
 
+void get_words(const uint8_t *bytes, size_t count, uint32_t *words)
+{
+    for (size_t i = 0; i < count; i++)
+        words[i] = get_word(bytes + 4 * i);
+}
+
+void put_words(uint8_t *bytes, size_t count, const uint32_t *words)
+{
+    for (size_t i = 0; i < count; i++)
+        put_word(bytes + 4 * i, words[i]);
+}
+
+uint64_t join_words(const uint32_t words[2])
+{
+    return words[0] | (uint64_t)words[1] << 32;
+}
+
+void split_number(uint64_t number, uint32_t words[2])
+{
+    words[0] = (uint32_t)number;
+    words[1] = (uint32_t)(number >> 32);
+}
+
 /* The value of a digit; 16 for any other character. */
 static unsigned digit(char c)
 {

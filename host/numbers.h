@@ -11,6 +11,14 @@ uint64_t get_number(const uint8_t *bytes);
 void put_word(uint8_t *bytes, uint32_t word);
 void put_number(uint8_t *bytes, uint64_t number);
 
+/* So many words from bytes, and to bytes. */
+void get_words(const uint8_t *bytes, size_t count, uint32_t *words);
+void put_words(uint8_t *bytes, size_t count, const uint32_t *words);
+
+/* A number of 64 bits in two words, the low one first. */
+uint64_t join_words(const uint32_t words[2]);
+void split_number(uint64_t number, uint32_t words[2]);
+
 /* Reads a decimal or 0x number of at most 64 bits; false for any other text. */
 bool read_number(const char *text, uint64_t *number);
 

@@ -4,90 +4,123 @@
 
 #include "board.h"
 #include "files.h"
+#include "kinds.h"
 #include "numbers.h"
 #include "shapes.h"
 
-/* Bytes of a result file with a log of so many numbers. */
-static size_t result_length(size_t log_numbers)
+/* The memories that a result keeps. */
+static struct memories kept(void)
 {
-    return RESULT_HEAD_WORDS * 4 + TEJBORUN_DATA_WORDS * 4 + TEJBORUN_CODE_BYTES + log_numbers * 8;
+    return memories_of(VIF1);
+}
+
+/* Bytes of a result's head with a state block of so many words. */
+static size_t head_length(size_t state_words)
+{
+    return 4 * (RESULT_HEAD_WORDS - TEJBORUN_BLOCK_WORDS + state_words);
+}
+
+/* Bytes of a result file with such a state block and a log of so many numbers. */
+static size_t result_length(size_t state_words, size_t log_numbers)
+{
+    return head_length(state_words) + kept().data_words * 4 + kept().code_bytes + log_numbers * 8;
+}
+
+/* Whether a result has a log of so many numbers: whole entries, and not too many. */
+static bool log_fits(size_t log_numbers)
+{
+    return log_numbers <= TEJBORUN_LOG_NUMBERS && log_numbers % TEJBORUN_ENTRY_NUMBERS == 0;
 }
 
 int board_fits(const char *name, const struct board *board)
 {
-    if (board->data_words != TEJBORUN_DATA_WORDS)
-        return complain(name, "not written: a result keeps 4096 words of data memory, here are %zu", board->data_words);
-    if (board->code_bytes != TEJBORUN_CODE_BYTES)
-        return complain(name, "not written: a result keeps 16384 bytes of code memory, here are %zu", board->code_bytes);
-    if (board->log_numbers > TEJBORUN_LOG_NUMBERS || board->log_numbers % 2 != 0)
-        return complain(name, "not written: a result keeps a log of an even length up to 131072 numbers, here are %zu", board->log_numbers);
+    if (board->data_words != kept().data_words)
+        return complain(name, "not written: a result keeps %zu words of data memory, here are %zu", kept().data_words, board->data_words);
+    if (board->code_bytes != kept().code_bytes)
+        return complain(name, "not written: a result keeps %zu bytes of code memory, here are %zu", kept().code_bytes, board->code_bytes);
+    if (!log_fits(board->log_numbers))
+        return complain(name, "not written: a result keeps a log of whole entries, %u numbers each, up to %u numbers, here are %zu", TEJBORUN_ENTRY_NUMBERS,
+                        TEJBORUN_LOG_NUMBERS, board->log_numbers);
     return STATUS_DONE;
+}
+
+struct result_head result_head_of(const struct result *result)
+{
+    struct result_head head = {.mark = result_heads[0].fixed, .answer = result->answer, .state = result->board.state};
+    split_number(result->steps, head.steps);
+    head.log_numbers = (uint32_t)result->board.log_numbers;
+    return head;
 }
 
 struct bytes result_bytes(const struct result *result)
 {
     const struct board *board = &result->board;
-    struct bytes file = {.count = result_length(board->log_numbers)};
+    const struct result_head head = result_head_of(result);
+    struct bytes file = {.count = result_length(TEJBORUN_BLOCK_WORDS, board->log_numbers)};
     uint8_t *at = file.at = allocate(file.count, 1);
-    put_word(at, result_heads[0].fixed);
-    put_word(at + 4, result->answer);
-    put_number(at + 8, result->steps);
-    at += 16;
-    for (size_t i = 0; i < TEJBORUN_BLOCK_WORDS; i++, at += 4)
-        put_word(at, board->block[i]);
-    put_word(at, (uint32_t)board->log_numbers);
-    at += 4;
-    for (size_t i = 0; i < TEJBORUN_DATA_WORDS; i++, at += 4)
-        put_word(at, board->data[i]);
-    memcpy(at, board->code, TEJBORUN_CODE_BYTES);
-    at += TEJBORUN_CODE_BYTES;
+    put_words(at, RESULT_HEAD_WORDS, (const uint32_t *)&head);
+    at += 4 * RESULT_HEAD_WORDS;
+    put_words(at, board->data_words, board->data);
+    at += 4 * board->data_words;
+    memcpy(at, board->code, board->code_bytes);
+    at += board->code_bytes;
     for (size_t i = 0; i < board->log_numbers; i++, at += 8)
         put_number(at, board->log[i]);
     return file;
 }
 
-/* Tests mark and length. */
-static int check_result(const char *name, const uint8_t *bytes, size_t count)
+/* The log's length is the last word of the head. */
+static bool is_whole(const struct bytes *file, size_t state_words)
 {
-    if (count < 4 || get_word(bytes) != result_heads[0].fixed)
-        return complain(name, "no result: it does not begin with the mark TRES");
-    if (count < RESULT_HEAD_WORDS * 4)
-        return complain(name, "damaged result: %zu bytes, cut within its head of %d", count, RESULT_HEAD_WORDS * 4);
-    uint32_t log_numbers = get_word(bytes + 67 * 4);
-    if (log_numbers > TEJBORUN_LOG_NUMBERS || log_numbers % 2 != 0)
-        return complain(name, "damaged result: its log has %u numbers; the length is even and at most 131072", log_numbers);
-    if (count != result_length(log_numbers))
-        return complain(name, "damaged result: %zu bytes; its head says %zu", count, result_length(log_numbers));
+    size_t length = head_length(state_words);
+    return file->count >= length && file->count == result_length(state_words, get_word(file->at + length - 4));
+}
+
+/* Tests mark, layout and length; reads the head. */
+static int check_result(const char *name, const struct bytes *file, struct result_head *head)
+{
+    if (!has_mark(file, &result_heads[0]))
+        return complain_of_mark(name, file, &result_heads[0]);
+    bool whole = is_whole(file, TEJBORUN_BLOCK_WORDS);
+    if (!whole && check_layout(name, "result", file, is_whole) != STATUS_DONE)
+        return STATUS_BAD;
+    if (file->count < 4 * RESULT_HEAD_WORDS)
+        return complain(name, "damaged result: %zu bytes, cut within its head of %d", file->count, 4 * RESULT_HEAD_WORDS);
+    get_words(file->at, RESULT_HEAD_WORDS, (uint32_t *)head);
+    if (!log_fits(head->log_numbers))
+        return complain(name, "%s: its log has %u numbers; here it is whole entries, %u numbers each, and at most %u numbers",
+                        whole ? "a result of another layout" : "damaged result", head->log_numbers, TEJBORUN_ENTRY_NUMBERS, TEJBORUN_LOG_NUMBERS);
+    if (!whole)
+        return complain(name, "damaged result: %zu bytes; its head says %zu", file->count, result_length(TEJBORUN_BLOCK_WORDS, head->log_numbers));
     return STATUS_DONE;
 }
 
-int parse_result(const char *name, const uint8_t *bytes, size_t count, struct result *result)
+int parse_result(const char *name, const struct bytes *file, struct result *result)
 {
-    int status = check_result(name, bytes, count);
+    struct result_head head;
+    int status = check_result(name, file, &head);
     if (status != STATUS_DONE)
         return status;
-    struct board board = new_board(TEJBORUN_DATA_WORDS, TEJBORUN_CODE_BYTES, get_word(bytes + 67 * 4));
-    const uint8_t *at = bytes + 16;
-    for (size_t i = 0; i < TEJBORUN_BLOCK_WORDS; i++, at += 4)
-        board.block[i] = get_word(at);
-    at += 4;
-    for (size_t i = 0; i < board.data_words; i++, at += 4)
-        board.data[i] = get_word(at);
+    struct board board = new_board(kept(), head.log_numbers);
+    const uint8_t *at = file->at + 4 * RESULT_HEAD_WORDS;
+    board.state = head.state;
+    get_words(at, board.data_words, board.data);
+    at += 4 * board.data_words;
     memcpy(board.code, at, board.code_bytes);
     at += board.code_bytes;
     for (size_t i = 0; i < board.log_numbers; i++, at += 8)
         board.log[i] = get_number(at);
-    *result = (struct result){.answer = get_word(bytes + 4), .steps = get_number(bytes + 8), .board = board};
+    *result = (struct result){.answer = head.answer, .steps = join_words(head.steps), .board = board};
     return STATUS_DONE;
 }
 
 int read_result(const char *name, struct result *result)
 {
     struct bytes file;
-    int status = read_file(name, 2 * result_length(TEJBORUN_LOG_NUMBERS), &file);
+    int status = read_file(name, 2 * result_length(TEJBORUN_BLOCK_WORDS, TEJBORUN_LOG_NUMBERS), &file);
     if (status != STATUS_DONE)
         return status;
-    status = parse_result(name, file.at, file.count, result);
+    status = parse_result(name, &file, result);
     free(file.at);
     return status;
 }

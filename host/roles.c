@@ -2,6 +2,7 @@
 #include "roles.h"
 
 #include "fields.h"
+#include "numbers.h"
 #include "shapes.h"
 
 /* Following stops after so many words, for chains without an end. */
@@ -193,28 +194,30 @@ void trail_start(struct trail *trail, uint32_t channel, uint32_t tadr, uint32_t 
     trail->depth = 0;
 }
 
-static struct path_place path_in_block(const uint32_t *block)
+static struct path_place path_in_state(const struct tejborun_path *held)
 {
-    struct path_place path = {.format = block[2] & 3, .nreg = block[5] >= 1 && block[5] <= 16 ? block[5] : 16};
-    path.descriptors = block[6] | (uint64_t)block[7] << 32;
-    path.due = block[1] == 1 ? block[8] : 0;
-    uint64_t all = tag_data(&path, block[3]);
+    struct path_place path = {.format = held->format & 3, .nreg = held->nreg >= 1 && held->nreg <= 16 ? held->nreg : 16};
+    path.descriptors = join_words(held->descriptors);
+    path.due = held->place == 1 ? held->due : 0;
+    uint64_t all = tag_data(&path, held->nloop);
     path.taken = all > path.due ? all - path.due : 0;
     return path;
 }
 
-void trail_from_block(struct trail *trail, const uint32_t *block)
+void trail_from_state(struct trail *trail, const struct tejborun_state *state)
 {
-    trail_start(trail, block[0], block[1], block[2]);
-    trail->ended = block[3] != 0;
-    trail->depth = block[4] <= 2 ? block[4] : 0;
-    trail->stack[0] = block[5];
-    trail->stack[1] = block[6];
-    trail->direct = block[34] == 5 || block[34] == 6;
-    trail->due = block[34] != 0 ? block[36] : 0;
-    trail->path[0] = path_in_block(block + 45);
-    trail->path[1] = path_in_block(block + 54);
-    bool tag_words = block[7] == 0 || follow_words(trail, block[8] / 4, 4 - block[8] / 4 % 4);
-    if (tag_words && block[9] != 0)
-        follow_words(trail, block[10] / 4, block[9]);
+    const struct tejborun_chain *chain = &state->chain;
+    const struct tejborun_unit *unit = &state->vif1;
+    trail_start(trail, chain->channel, chain->tadr, chain->tte);
+    trail->ended = chain->ended != 0;
+    trail->depth = chain->depth <= 2 ? chain->depth : 0;
+    trail->stack[0] = chain->stack[0];
+    trail->stack[1] = chain->stack[1];
+    trail->direct = unit->waiting == TEJBORUN_WAITS_DIRECT || unit->waiting == TEJBORUN_WAITS_DIRECTHL;
+    trail->due = unit->waiting != TEJBORUN_WAITS_NONE ? unit->due : 0;
+    trail->path[0] = path_in_state(&state->path2);
+    trail->path[1] = path_in_state(&state->path3);
+    bool tag_words = chain->tag_words == 0 || follow_words(trail, chain->tag_word_at / 4, 4 - chain->tag_word_at / 4 % 4);
+    if (tag_words && chain->payload_words != 0)
+        follow_words(trail, chain->payload_at / 4, chain->payload_words);
 }

@@ -6,6 +6,8 @@
 #include <stddef.h>
 #include <stdint.h>
 
+#include "state_shape.h"
+
 enum role {
     ROLE_NONE,         /* not met */
     ROLE_PART,         /* goes with the word before it */
@@ -42,8 +44,8 @@ struct trail {
 /* A trail over words, from reset on channel 1. */
 struct trail new_trail(const uint32_t *word, size_t given, size_t total, uint8_t *role);
 
-/* Takes waiting code, held tags, stack and what is pending from a state block, and follows what is pending. */
-void trail_from_block(struct trail *trail, const uint32_t *block);
+/* Takes waiting code, held tags, stack and what is pending from a state, and follows what is pending. */
+void trail_from_state(struct trail *trail, const struct tejborun_state *state);
 
 void trail_start(struct trail *trail, uint32_t channel, uint32_t tadr, uint32_t tte);
 

@@ -7,6 +7,7 @@
 #include "capture.h"
 #include "changes.h"
 #include "command.h"
+#include "numbers.h"
 #include "sheet.h"
 #include "tejborun.h"
 #include "words.h"
@@ -25,9 +26,9 @@ static void print_run(uint32_t answer, uint64_t steps)
 
 static uint32_t make_start(size_t number, const uint32_t *words, struct board *board)
 {
-    uint32_t answer = tejborun_start(board->block, TEJBORUN_BLOCK_WORDS, words[1], words[2], words[3]);
+    uint32_t answer = tejborun_start(board_block(board), TEJBORUN_BLOCK_WORDS, words[1], words[2], words[3]);
     printf("call %zu, start on channel %" PRIu32 " at 0x%" PRIX32 ", TTE %" PRIu32 ": answer %" PRIu32 ", %s%s\n", number, words[1], words[2], words[3],
-           answer, answer == 0 ? "started" : "refused: ", answer == 0 ? "" : meaning_of(answer));
+           answer, answer == TEJBORUN_DONE ? "started" : "refused: ", answer == TEJBORUN_DONE ? "" : meaning_of(answer));
     return answer;
 }
 
@@ -42,7 +43,7 @@ static uint32_t make_run(size_t number, uint64_t allowance, const struct lent *l
     struct board *board = &result->board;
     uint64_t steps = 0;
     result->answer = tejborun_run(lent->main, lent->main_bytes, board->data, board->data_words, board->code, board->code_bytes, board->log,
-                                  board->log_numbers, board->block, TEJBORUN_BLOCK_WORDS, allowance, &steps, 1);
+                                  board->log_numbers, board_block(board), TEJBORUN_BLOCK_WORDS, allowance, &steps, 1);
     result->steps = steps;
     printf("call %zu, run with allowance %" PRIu64 ": ", number, allowance);
     print_run(result->answer, steps);
@@ -53,9 +54,9 @@ static uint32_t make_run(size_t number, uint64_t allowance, const struct lent *l
 static bool make_calls(const struct words_given *given, const struct capture *capture, const struct lent *lent, struct result *result)
 {
     bool refused = false;
-    for (size_t i = 0; i < capture->calls; i++) {
+    for (size_t i = 0; i < capture->head.calls; i++) {
         const uint32_t *words = capture->call[i].words;
-        uint64_t allowance = given->has_allowance ? given->allowance : (words[1] | (uint64_t)words[2] << 32);
+        uint64_t allowance = given->has_allowance ? given->allowance : join_words(words + 1);
         uint32_t answer = words[0] == 1 ? make_start(i, words, &result->board) : make_run(i, allowance, lent, result);
         refused |= is_refusal(answer);
     }
@@ -65,7 +66,7 @@ static bool make_calls(const struct words_given *given, const struct capture *ca
 static int run_capture(const struct words_given *given, const struct capture *capture)
 {
     uint8_t *main = capture_main(capture);
-    struct lent lent = {main, capture_main_bytes(capture)};
+    struct lent lent = {main, capture->head.main_bytes};
     struct result result = {.board = capture_board(capture)};
     struct board before = copy_board(&result.board);
     bool refused = make_calls(given, capture, &lent, &result);
@@ -96,11 +97,12 @@ static int play_sheet(const struct words_given *given, const struct bytes *sheet
     struct board *board = &result->board;
     uint64_t numbers[2] = {0};
     uint8_t *main = allocate(TEJBORUN_MAIN_BYTES, 1);
-    tejborun_reset(board->block, TEJBORUN_BLOCK_WORDS);
+    tejborun_reset(board_block(board), TEJBORUN_BLOCK_WORDS);
     result->answer = tejborun_build_and_run(sheet->at, sheet->count, main, TEJBORUN_MAIN_BYTES, 0, board->data, board->data_words, board->code,
-                                            board->code_bytes, board->log, board->log_numbers, board->block, TEJBORUN_BLOCK_WORDS, UINT64_MAX, numbers, 2);
+                                            board->code_bytes, board->log, board->log_numbers, board_block(board), TEJBORUN_BLOCK_WORDS, UINT64_MAX,
+                                            numbers, 2);
     free(main);
-    if (result->answer >= 40 && result->answer <= 47)
+    if (is_sheet_refusal(result->answer))
         return sheet_refused(given->word[0], result->answer, numbers[1]);
     result->steps = numbers[0];
     print_run(result->answer, result->steps);
@@ -115,7 +117,7 @@ int command_play(const struct words_given *given)
     int status = read_sheet(given->word[0], &sheet);
     if (status != STATUS_DONE)
         return status;
-    struct result result = {.board = new_board(TEJBORUN_DATA_WORDS, TEJBORUN_CODE_BYTES, TEJBORUN_LOG_NUMBERS)};
+    struct result result = {.board = new_board(memories_of(VIF1), TEJBORUN_LOG_NUMBERS)};
     struct board before = copy_board(&result.board);
     status = play_sheet(given, &sheet, &before, &result);
     free_board(&before);

@@ -1,6 +1,9 @@
 /* DMA tags, VIF codes, GIF tags, calls and records by their fields. */
 #include "shapes.h"
 
+#include "board.h"
+#include "capture.h"
+
 #define LIST(fields) sizeof(fields) / sizeof((fields)[0]), fields
 #define END {NULL, 0, 0, 0, 0, NULL}
 
@@ -31,7 +34,7 @@ const struct shape dma_tags[] = {
 static const char *const unpack_format_names[16] = {
     "S-32", "S-16", "S-8", NULL, "V2-32", "V2-16", "V2-8", NULL, "V3-32", "V3-16", "V3-8", NULL, "V4-32", "V4-16", "V4-8", "V4-5",
 };
-static const struct names unpack_formats = {16, unpack_format_names};
+const struct names unpack_formats = {16, unpack_format_names};
 
 /* What every code has beside its IMM. */
 #define NUM_IRQ {"num", 16, 8, 0, NULL}, {"irq", 31, 1, 0, NULL}
@@ -93,7 +96,7 @@ const struct shape *code_shape(uint32_t word)
 }
 
 static const char *const gif_format_names[3] = {"PACKED", "REGLIST", "IMAGE"};
-static const struct names gif_formats = {3, gif_format_names};
+const struct names gif_formats = {3, gif_format_names};
 
 static const struct field gif_tag[] = {
     {"nloop", 0, 15, FIELD_SHOWN, NULL},  {"eop", 15, 1, FIELD_SHOWN, NULL},         {"pre", 46, 1, 0, NULL},
@@ -125,19 +128,23 @@ const struct shape calls[] = {
     END,
 };
 
-/* Words 2 and 9, the lengths of what follows, are counted. */
+#define CAPTURE(name, member, flags) MEMBER(struct capture_head, name, member, flags, NULL)
+
+/* The lengths of what follows, given and calls, are counted. */
 static const struct field capture_head[] = {
-    {"main-bytes", 32, 32, FIELD_SHOWN, NULL},   {"data-words", 96, 32, FIELD_SHOWN, NULL},        {"code-bytes", 128, 32, FIELD_SHOWN, NULL},
-    {"log-numbers", 160, 32, FIELD_SHOWN, NULL}, {"fill", 192, 64, FIELD_SHOWN | FIELD_HEX, NULL}, {"whole", 256, 32, FIELD_SHOWN, NULL},
+    CAPTURE("main-bytes", main_bytes, FIELD_SHOWN),
+    CAPTURE("data-words", data_words, FIELD_SHOWN),
+    CAPTURE("code-bytes", code_bytes, FIELD_SHOWN),
+    CAPTURE("log-numbers", log_numbers, FIELD_SHOWN),
+    CAPTURE("fill", fill, FIELD_SHOWN | FIELD_HEX),
+    CAPTURE("whole", whole, FIELD_SHOWN),
 };
 
-const struct shape capture_heads[] = {{"capture", 10, UINT32_MAX, UINT32_C(0x50414354), LIST(capture_head)}, END};
+const struct shape capture_heads[] = {{"capture", CAPTURE_HEAD_WORDS, UINT32_MAX, UINT32_C(0x50414354), LIST(capture_head)}, END};
 
-/* The state block, words 4 to 66, has lines of its own. */
-static const struct field result_head[] = {
-    {"answer", 32, 32, FIELD_SHOWN, NULL},
-    {"steps", 64, 64, FIELD_SHOWN, NULL},
-    {"log-numbers", 67 * 32, 32, FIELD_SHOWN, NULL},
-};
+#define RESULT(name, member) MEMBER(struct result_head, name, member, FIELD_SHOWN, NULL)
 
-const struct shape result_heads[] = {{"result", 68, UINT32_MAX, UINT32_C(0x53455254), LIST(result_head)}, END};
+/* The state block has lines of its own. */
+static const struct field result_head[] = {RESULT("answer", answer), RESULT("steps", steps), RESULT("log-numbers", log_numbers)};
+
+const struct shape result_heads[] = {{"result", RESULT_HEAD_WORDS, UINT32_MAX, UINT32_C(0x53455254), LIST(result_head)}, END};

@@ -13,6 +13,9 @@ extern const struct shape capture_heads[];
 extern const struct shape result_heads[];
 extern const struct shape state_blocks[];
 
+/* The names of formats by their numbers. */
+extern const struct names unpack_formats, gif_formats;
+
 /* Whether the word is a code: UNPACK of a format that exists, or another that is listed. */
 const struct shape *code_shape(uint32_t word);
 

@@ -18,6 +18,11 @@ int read_sheet(const char *name, struct bytes *sheet)
     return read_file(name, SHEET_READ_BYTES, sheet);
 }
 
+bool is_sheet_refusal(uint32_t answer)
+{
+    return answer >= TEJBORUN_BAD_MARK && answer <= TEJBORUN_LONG_CHAIN;
+}
+
 int sheet_refused(const char *name, uint32_t refusal, uint64_t offset)
 {
     complain(name, "refused %" PRIu32 " at offset %" PRIu64 ": %s", refusal, offset, meaning_of(refusal));
@@ -30,7 +35,7 @@ static int count_steps(const char *name, const struct bytes *sheet, uint64_t *st
     uint64_t numbers[2] = {0};
     uint32_t answer = tejborun_steps(sheet->at, sheet->count, numbers, 2);
     *steps = numbers[0];
-    return answer == 0 ? STATUS_DONE : sheet_refused(name, answer, numbers[1]);
+    return answer == TEJBORUN_DONE ? STATUS_DONE : sheet_refused(name, answer, numbers[1]);
 }
 
 static int build_chain(const struct words_given *given, const struct bytes *sheet)
@@ -86,10 +91,10 @@ static int feed_sheet(const char *name, const struct bytes *sheet, struct result
     int status = count_steps(name, sheet, &result->steps);
     if (status != STATUS_DONE)
         return status;
-    tejborun_reset(board->block, TEJBORUN_BLOCK_WORDS);
+    tejborun_reset(board_block(board), TEJBORUN_BLOCK_WORDS);
     uint32_t answer = tejborun_meaning(sheet->at, sheet->count, board->data, board->data_words, board->code, board->code_bytes, board->log,
                                        board->log_numbers, board_used(board), numbers, 2);
-    if (answer != 0)
+    if (answer != TEJBORUN_DONE)
         return sheet_refused(name, answer, numbers[1]);
     set_board_used(board, numbers[0]);
     return STATUS_DONE;
@@ -101,7 +106,7 @@ int command_meaning(const struct words_given *given)
     int status = read_sheet(given->word[0], &sheet);
     if (status != STATUS_DONE)
         return status;
-    struct result result = {.board = new_board(TEJBORUN_DATA_WORDS, TEJBORUN_CODE_BYTES, TEJBORUN_LOG_NUMBERS)};
+    struct result result = {.board = new_board(memories_of(VIF1), TEJBORUN_LOG_NUMBERS)};
     status = feed_sheet(given->word[0], &sheet, &result);
     if (status == STATUS_DONE)
         status = write_result(given->output, &result);

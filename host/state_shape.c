@@ -1,78 +1,90 @@
-/* The state block by its fields (docs/FORMATS.md). */
+/* The state block's fields as text (docs/TEXT.md). */
+#include "state_shape.h"
+
 #include "shapes.h"
 
-static const char *const waiting_names[8] = {"none", "STMASK", "STROW", "STCOL", "MPG", "DIRECT", "DIRECTHL", "UNPACK"};
-static const char *const format_names[16] = {
-    "S-32", "S-16", "S-8", NULL, "V2-32", "V2-16", "V2-8", NULL, "V3-32", "V3-16", "V3-8", NULL, "V4-32", "V4-16", "V4-8", "V4-5",
+static const char *const waiting_names[TEJBORUN_WAITING] = {
+    [TEJBORUN_WAITS_NONE] = "none", [TEJBORUN_WAITS_STMASK] = "STMASK", [TEJBORUN_WAITS_STROW] = "STROW",       [TEJBORUN_WAITS_STCOL] = "STCOL",
+    [TEJBORUN_WAITS_MPG] = "MPG",   [TEJBORUN_WAITS_DIRECT] = "DIRECT", [TEJBORUN_WAITS_DIRECTHL] = "DIRECTHL", [TEJBORUN_WAITS_UNPACK] = "UNPACK",
 };
-static const char *const place_names[2] = {"idle", "data"};
-static const char *const gif_format_names[3] = {"PACKED", "REGLIST", "IMAGE"};
+static const char *const place_names[] = {"idle", "data"};
 
-static const struct names waiting = {8, waiting_names};
-static const struct names formats = {16, format_names};
-static const struct names places = {2, place_names};
-static const struct names gif_formats = {3, gif_format_names};
+static const struct names waiting = {TEJBORUN_WAITING, waiting_names};
+static const struct names places = {sizeof place_names / sizeof place_names[0], place_names};
 
-#define WORD(name, word, flags) {name, 32 * (word), 32, flags, NULL}
-#define LONG(name, word, flags) {name, 32 * (word), 64, flags, NULL}
-#define NAMED(name, word, flags, names) {name, 32 * (word), 32, flags, names}
+#define NAMED(name, member, flags, names) MEMBER(struct tejborun_state, name, member, flags, names)
+#define PLAIN(name, member, flags) NAMED(name, member, flags, NULL)
 
-/* A path block from a word on. */
-#define PATH(path, word)                                                                                                                           \
-    WORD(path ".q", word, FIELD_LINE | FIELD_SHOWN | FIELD_HEX), NAMED(path ".place", (word) + 1, FIELD_SHOWN, &places),                           \
-        NAMED(path ".format", (word) + 2, 0, &gif_formats), WORD(path ".nloop", (word) + 3, 0), WORD(path ".eop", (word) + 4, 0),                  \
-        WORD(path ".nreg", (word) + 5, 0), LONG(path ".descriptors", (word) + 6, FIELD_HEX), WORD(path ".due", (word) + 8, 0)
+/* The fields of the chain, a unit and a path; those of a unit or path have a prefix, as a state may have several. */
+#define CHAIN_FIELDS(chain)                                                                                                                       \
+    PLAIN("channel", chain.channel, FIELD_SHOWN),                                                                                                 \
+    PLAIN("tadr", chain.tadr, FIELD_SHOWN | FIELD_HEX),                                                                                           \
+    PLAIN("tte", chain.tte, FIELD_SHOWN),                                                                                                         \
+    PLAIN("ended", chain.ended, FIELD_SHOWN),                                                                                                     \
+    PLAIN("used", chain.used, FIELD_SHOWN),                                                                                                       \
+    PLAIN("depth", chain.depth, FIELD_LINE),                                                                                                      \
+    PLAIN("stack0", chain.stack[0], FIELD_HEX),                                                                                                   \
+    PLAIN("stack1", chain.stack[1], FIELD_HEX),                                                                                                   \
+    PLAIN("tag-words", chain.tag_words, FIELD_LINE),                                                                                              \
+    PLAIN("tag-word-at", chain.tag_word_at, FIELD_HEX),                                                                                           \
+    PLAIN("payload-words", chain.payload_words, 0),                                                                                               \
+    PLAIN("payload-at", chain.payload_at, FIELD_HEX)
+
+#define UNIT_FIELDS(prefix, unit)                                                                                                                 \
+    PLAIN(prefix "cl", unit.cl, FIELD_LINE | FIELD_SHOWN),                                                                                        \
+    PLAIN(prefix "wl", unit.wl, FIELD_SHOWN),                                                                                                     \
+    PLAIN(prefix "ofst", unit.ofst, FIELD_SHOWN),                                                                                                 \
+    PLAIN(prefix "base", unit.base, FIELD_SHOWN),                                                                                                 \
+    PLAIN(prefix "tops", unit.tops, FIELD_SHOWN),                                                                                                 \
+    PLAIN(prefix "top", unit.top, FIELD_SHOWN),                                                                                                   \
+    PLAIN(prefix "itops", unit.itops, FIELD_SHOWN),                                                                                               \
+    PLAIN(prefix "itop", unit.itop, FIELD_SHOWN),                                                                                                 \
+    PLAIN(prefix "dbf", unit.dbf, FIELD_SHOWN),                                                                                                   \
+    PLAIN(prefix "mode", unit.mode, FIELD_SHOWN),                                                                                                 \
+    PLAIN(prefix "mskpath3", unit.mskpath3, FIELD_SHOWN),                                                                                         \
+    PLAIN(prefix "mark", unit.mark, FIELD_SHOWN),                                                                                                 \
+    PLAIN(prefix "mask", unit.mask, FIELD_SHOWN | FIELD_HEX),                                                                                     \
+    PLAIN(prefix "row0", unit.row[0], FIELD_LINE | FIELD_SHOWN | FIELD_HEX),                                                                      \
+    PLAIN(prefix "row1", unit.row[1], FIELD_SHOWN | FIELD_HEX),                                                                                   \
+    PLAIN(prefix "row2", unit.row[2], FIELD_SHOWN | FIELD_HEX),                                                                                   \
+    PLAIN(prefix "row3", unit.row[3], FIELD_SHOWN | FIELD_HEX),                                                                                   \
+    PLAIN(prefix "col0", unit.col[0], FIELD_LINE | FIELD_SHOWN | FIELD_HEX),                                                                      \
+    PLAIN(prefix "col1", unit.col[1], FIELD_SHOWN | FIELD_HEX),                                                                                   \
+    PLAIN(prefix "col2", unit.col[2], FIELD_SHOWN | FIELD_HEX),                                                                                   \
+    PLAIN(prefix "col3", unit.col[3], FIELD_SHOWN | FIELD_HEX),                                                                                   \
+    NAMED(prefix "waiting", unit.waiting, FIELD_LINE | FIELD_SHOWN, &waiting),                                                                    \
+    PLAIN(prefix "irq", unit.irq, 0),                                                                                                             \
+    PLAIN(prefix "due", unit.due, 0),                                                                                                             \
+    PLAIN(prefix "address", unit.address, 0),                                                                                                     \
+    PLAIN(prefix "count", unit.count, 0),                                                                                                         \
+    NAMED(prefix "format", unit.format, 0, &unpack_formats),                                                                                      \
+    PLAIN(prefix "usn", unit.usn, 0),                                                                                                             \
+    PLAIN(prefix "m", unit.m, 0),                                                                                                                 \
+    PLAIN(prefix "held0", unit.held[0], FIELD_HEX),                                                                                               \
+    PLAIN(prefix "held1", unit.held[1], FIELD_HEX),                                                                                               \
+    PLAIN(prefix "held2", unit.held[2], FIELD_HEX)
+
+#define PATH_FIELDS(prefix, path)                                                                                                                 \
+    PLAIN(prefix "q", path.q, FIELD_LINE | FIELD_SHOWN | FIELD_HEX),                                                                              \
+    NAMED(prefix "place", path.place, FIELD_SHOWN, &places),                                                                                      \
+    NAMED(prefix "format", path.format, 0, &gif_formats),                                                                                         \
+    PLAIN(prefix "nloop", path.nloop, 0),                                                                                                         \
+    PLAIN(prefix "eop", path.eop, 0),                                                                                                             \
+    PLAIN(prefix "nreg", path.nreg, 0),                                                                                                           \
+    PLAIN(prefix "descriptors", path.descriptors, FIELD_HEX),                                                                                     \
+    PLAIN(prefix "due", path.due, 0)
 
 static const struct field state[] = {
-    WORD("channel", 0, FIELD_SHOWN),
-    WORD("tadr", 1, FIELD_SHOWN | FIELD_HEX),
-    WORD("tte", 2, FIELD_SHOWN),
-    WORD("ended", 3, FIELD_SHOWN),
-    LONG("used", 11, FIELD_SHOWN),
-    WORD("depth", 4, FIELD_LINE),
-    WORD("stack0", 5, FIELD_HEX),
-    WORD("stack1", 6, FIELD_HEX),
-    WORD("tag-words", 7, FIELD_LINE),
-    WORD("tag-word-at", 8, FIELD_HEX),
-    WORD("payload-words", 9, 0),
-    WORD("payload-at", 10, FIELD_HEX),
-    WORD("cl", 13, FIELD_LINE | FIELD_SHOWN),
-    WORD("wl", 14, FIELD_SHOWN),
-    WORD("ofst", 15, FIELD_SHOWN),
-    WORD("base", 16, FIELD_SHOWN),
-    WORD("tops", 17, FIELD_SHOWN),
-    WORD("top", 18, FIELD_SHOWN),
-    WORD("itops", 19, FIELD_SHOWN),
-    WORD("itop", 20, FIELD_SHOWN),
-    WORD("dbf", 21, FIELD_SHOWN),
-    WORD("mode", 22, FIELD_SHOWN),
-    WORD("mskpath3", 23, FIELD_SHOWN),
-    WORD("mark", 24, FIELD_SHOWN),
-    WORD("mask", 25, FIELD_SHOWN | FIELD_HEX),
-    WORD("row0", 26, FIELD_LINE | FIELD_SHOWN | FIELD_HEX),
-    WORD("row1", 27, FIELD_SHOWN | FIELD_HEX),
-    WORD("row2", 28, FIELD_SHOWN | FIELD_HEX),
-    WORD("row3", 29, FIELD_SHOWN | FIELD_HEX),
-    WORD("col0", 30, FIELD_LINE | FIELD_SHOWN | FIELD_HEX),
-    WORD("col1", 31, FIELD_SHOWN | FIELD_HEX),
-    WORD("col2", 32, FIELD_SHOWN | FIELD_HEX),
-    WORD("col3", 33, FIELD_SHOWN | FIELD_HEX),
-    NAMED("waiting", 34, FIELD_LINE | FIELD_SHOWN, &waiting),
-    WORD("irq", 35, 0),
-    WORD("due", 36, 0),
-    WORD("address", 37, 0),
-    WORD("count", 38, 0),
-    NAMED("format", 39, 0, &formats),
-    WORD("usn", 40, 0),
-    WORD("m", 41, 0),
-    WORD("held0", 42, FIELD_HEX),
-    WORD("held1", 43, FIELD_HEX),
-    WORD("held2", 44, FIELD_HEX),
-    PATH("path2", 45),
-    PATH("path3", 54),
+    CHAIN_FIELDS(chain),
+    UNIT_FIELDS("", vif1),
+    PATH_FIELDS("path2.", path2),
+    PATH_FIELDS("path3.", path3),
 };
 
+#define FIELDS (sizeof state / sizeof state[0])
+_Static_assert(FIELDS <= MOST_FIELDS, "a state has more fields than struct given");
+
 const struct shape state_blocks[] = {
-    {"state", 63, 0, 0, sizeof state / sizeof state[0], state},
+    {"state", TEJBORUN_BLOCK_WORDS, 0, 0, FIELDS, state},
     {NULL, 0, 0, 0, 0, NULL},
 };

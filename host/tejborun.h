@@ -8,9 +8,9 @@
  * that is refused at once changes no memory and no log, a run that is refused after some steps leaves what those steps left; the result is written in both
  * cases, but not with TEJBORUN_SHORT, which is tested before all else. Numbers of a result beyond those stated are never written.
  *
- * docs/FORMATS.md describes the state block. A start, a run or a build and run on a block that is a state's writes back the state that it leaves, also where
- * it is refused: the words that mean nothing are then zero. On a block that is no state's it is refused with 5, or with a number that is tested before 5, and
- * the block stays as it was. A reset writes any block.
+ * state_shape.h has the words of a state block by name, docs/FORMATS.md says what they hold; a struct tejborun_state is lent as (uint32_t *)&state. A start, a
+ * run or a build and run on a block that is a state's writes back the state that it leaves, also where it is refused: the words that mean nothing are then
+ * zero. On a block that is no state's it is refused with 5, or with a number that is tested before 5, and the block stays as it was. A reset writes any block.
  */
 #ifndef TEJBORUN_H
 #define TEJBORUN_H
@@ -18,25 +18,73 @@
 #include <stddef.h>
 #include <stdint.h>
 
+#include "state_shape.h"
+
 #ifdef __cplusplus
 extern "C" {
 #endif
 
-#define TEJBORUN_BLOCK_WORDS 63u     /* words of a state block */
-#define TEJBORUN_DATA_WORDS 4096u    /* words of data memory: 1,024 quadwords */
-#define TEJBORUN_CODE_BYTES 16384u   /* bytes of code memory: 2,048 instructions */
-#define TEJBORUN_LOG_NUMBERS 131072u /* most numbers of a log: 65,536 entries of register and value */
+/* The memories of VIF1, and the lengths in which they are lent. */
+#define TEJBORUN_VIF1_QUADWORDS 1024u    /* of data memory */
+#define TEJBORUN_VIF1_INSTRUCTIONS 2048u /* of code memory */
+#define TEJBORUN_DATA_WORDS (4u * TEJBORUN_VIF1_QUADWORDS)
+#define TEJBORUN_CODE_BYTES (8u * TEJBORUN_VIF1_INSTRUCTIONS)
+
+/* An entry of the log by its numbers, and the longest log. */
+#define TEJBORUN_ENTRY_REGISTER 0u
+#define TEJBORUN_ENTRY_VALUE 1u
+#define TEJBORUN_ENTRY_NUMBERS 2u
+#define TEJBORUN_LOG_ENTRIES 65536u
+#define TEJBORUN_LOG_NUMBERS (TEJBORUN_LOG_ENTRIES * TEJBORUN_ENTRY_NUMBERS)
+
 #define TEJBORUN_MAIN_BYTES 1048576u /* most bytes of main memory */
 #define TEJBORUN_SHEET_BYTES 131072u /* most bytes of a sheet */
 #define TEJBORUN_CHAIN_BYTES 699056u /* most bytes of a sheet's chain */
 
-/* answers of a run that is not refused */
-#define TEJBORUN_DONE 0u
-#define TEJBORUN_ALLOWANCE 90u
-#define TEJBORUN_INTERRUPT 91u
+/* The answers: the scope document's numbers, and TEJBORUN_SHORT. */
+enum tejborun_answer {
+    TEJBORUN_DONE = 0,
 
-/* a state block that is not 63 words, or a result with fewer numbers than stated: nothing is changed */
-#define TEJBORUN_SHORT 60u
+    /* entry */
+    TEJBORUN_BAD_MAIN = 1,  /* length of main memory: 0, no multiple of 16, or above TEJBORUN_MAIN_BYTES */
+    TEJBORUN_BAD_DATA = 2,  /* length of data memory: not TEJBORUN_DATA_WORDS */
+    TEJBORUN_BAD_CODE = 3,  /* length of code memory: not TEJBORUN_CODE_BYTES */
+    TEJBORUN_BAD_LOG = 4,   /* length of the log: no whole entries, above TEJBORUN_LOG_NUMBERS, or below the entries used */
+    TEJBORUN_BAD_VALUE = 5, /* a state or start value outside the range of its field */
+
+    /* tag step */
+    TEJBORUN_BAD_TADR = 10,    /* TADR outside main memory */
+    TEJBORUN_BAD_ADDR = 11,    /* a used ADDR that is no multiple of 16 */
+    TEJBORUN_BAD_SPR = 12,     /* SPR set with a used ADDR */
+    TEJBORUN_BAD_CALL = 13,    /* call with two on the stack */
+    TEJBORUN_BAD_PAYLOAD = 14, /* payload outside main memory; at entry, pending words */
+
+    /* VIF step */
+    TEJBORUN_BAD_CMD = 20,    /* CMD not listed */
+    TEJBORUN_BAD_FORMAT = 21, /* UNPACK with vl 3 and vn below 3 */
+    TEJBORUN_BAD_CYCLE = 22,  /* UNPACK with WL 0 or WL above CL */
+    TEJBORUN_BAD_MODE = 23,   /* STMOD 3 */
+    TEJBORUN_BAD_DIRECT = 24, /* DIRECT payload due and the next word is not word 0 */
+
+    /* GIF step; 31 also in a VIF step and for a sheet's meaning */
+    TEJBORUN_BAD_DESCRIPTOR = 30, /* descriptor B met at its data */
+    TEJBORUN_LOG_FULL = 31,       /* the log lacks room */
+
+    /* sheet */
+    TEJBORUN_BAD_MARK = 40,
+    TEJBORUN_BAD_KIND = 41,
+    TEJBORUN_BAD_COUNT = 42,
+    TEJBORUN_BAD_ADDRESS = 43,
+    TEJBORUN_CUT_RECORD = 44, /* header or body cut */
+    TEJBORUN_BAD_PAD = 45,    /* non-zero pad */
+    TEJBORUN_LONG_SHEET = 46, /* above TEJBORUN_SHEET_BYTES */
+    TEJBORUN_LONG_CHAIN = 47, /* longer than the output */
+
+    TEJBORUN_SHORT = 60, /* a state block that is not TEJBORUN_BLOCK_WORDS, or a result with fewer numbers than stated: nothing is changed */
+
+    TEJBORUN_ALLOWANCE = 90, /* the allowance is used */
+    TEJBORUN_INTERRUPT = 91  /* stopped at an interrupt mark */
+};
 
 /* Builds the chain of a sheet in the output. Answers the chain's length in bytes (a multiple of 16), or the refusal (40 to 47). A refusal leaves the
  * output as it is, success what lies beyond the chain. */
@@ -68,9 +116,11 @@ uint32_t tejborun_build_and_run(const uint8_t *sheet, size_t sheet_bytes, uint8_
                                 size_t data_words, uint8_t *code, size_t code_bytes, uint64_t *log, size_t log_numbers, uint32_t *block,
                                 size_t block_words, uint64_t allowance, uint64_t *result, size_t result_numbers);
 
-/* Compares two boards' memories and logs. Answers 0 where they are the same, 1 where they differ, or TEJBORUN_REFUSED + 2, 3 or 4 for a length that is wrong
- * on either side, the lowest where several are. result[0], [1]: the first quadword that differs and how many differ; [2], [3]: instructions; [4], [5]: log
+/* Compares two boards' memories and logs. Answers TEJBORUN_SAME, TEJBORUN_DIFFERENT, or TEJBORUN_REFUSED + 2, 3 or 4 for a length that is wrong on either
+ * side, the lowest where several are. result[0], [1]: the first quadword that differs and how many differ; [2], [3]: instructions; [4], [5]: log
  * entries that both have. Where none differs, the first is the number compared; where refused, all six are 0. */
+#define TEJBORUN_SAME 0u
+#define TEJBORUN_DIFFERENT 1u
 #define TEJBORUN_REFUSED 100u
 uint32_t tejborun_compare(const uint32_t *data_a, size_t data_a_words, const uint8_t *code_a, size_t code_a_bytes, const uint64_t *log_a, size_t log_a_numbers,
                           uint64_t used_a, const uint32_t *data_b, size_t data_b_words, const uint8_t *code_b, size_t code_b_bytes, const uint64_t *log_b,

@@ -81,12 +81,45 @@ static uint64_t *numbers(const struct lent *lent)
     return (uint64_t *)(void *)lent->at;
 }
 
+static struct tejborun_state *state(const struct lent *lent)
+{
+    return (struct tejborun_state *)(void *)lent->at;
+}
+
+/* An entry of a log. */
+static uint64_t *entry(const struct lent *log, size_t number)
+{
+    return numbers(log) + TEJBORUN_ENTRY_NUMBERS * number;
+}
+
+/* The word of a state block at which a member begins. */
+#define WORD(member) (offsetof(struct tejborun_state, member) / sizeof(uint32_t))
+
 /* Lengths in elements. */
 struct lengths {
     size_t main, data, code, log, block, result;
 };
 
-static const struct lengths good = {256, TEJBORUN_DATA_WORDS, TEJBORUN_CODE_BYTES, 64, TEJBORUN_BLOCK_WORDS, 2};
+enum { ENTRIES = 32 }; /* of a log */
+
+static const struct lengths good = {256, TEJBORUN_DATA_WORDS, TEJBORUN_CODE_BYTES, ENTRIES * TEJBORUN_ENTRY_NUMBERS, TEJBORUN_BLOCK_WORDS, 2};
+
+/* A length that is refused, and the answer. */
+struct wrong {
+    size_t length; /* its place in struct lengths */
+    size_t value;
+    uint32_t answer;
+};
+
+#define LENGTH(name) offsetof(struct lengths, name)
+
+/* The good lengths but for one. */
+static struct lengths with_wrong(const struct wrong *wrong)
+{
+    struct lengths lengths = good;
+    memcpy((uint8_t *)&lengths + wrong->length, &wrong->value, sizeof wrong->value);
+    return lengths;
+}
 
 /* All buffers of a call. */
 enum { SHEET, MAIN, DATA, CODE, LOG, BLOCK, RESULT, BUFFERS };
@@ -106,7 +139,7 @@ static void new_bench(struct bench *bench, struct lengths lengths, const uint8_t
         memcpy(bench->lent[SHEET].at, sheet, sheet_bytes);
     memset(bench->lent[MAIN].at, 0, lengths.main);
     for (size_t i = 0; i < lengths.block; i++)
-        words(&bench->lent[BLOCK])[i] = i == 0;
+        words(&bench->lent[BLOCK])[i] = i == WORD(chain.channel);
 }
 
 static void free_bench(struct bench *bench)
@@ -170,25 +203,35 @@ static uint32_t call_build_and_run(struct bench *bench, uint32_t address, uint64
     return answer;
 }
 
-/* Each kind of record: quadwords 1023 and 0, instruction 2047, registers 5 and 255, a start at 5. */
+/* The 16 bits of a record's address. */
+#define ADDRESS(number) (number) & 255, (number) >> 8
+
+enum { LAST_QUADWORD = TEJBORUN_VIF1_QUADWORDS - 1, LAST_INSTRUCTION = TEJBORUN_VIF1_INSTRUCTIONS - 1 };
+
+/* Each kind of record: the last quadword and quadword 0, the last instruction, registers 5 and 255, a start at 5. */
 static const uint8_t sheet[] = {
-    0x9E, 0x51, 1, 2, 0xFF, 3, 1, 0, 0, 0, 2, 0, 0, 0, 3, 0, 0, 0, 4, 0, 0, 0, 5, 0, 0, 0, 6, 0, 0, 0, 7, 0, 0, 0, 8, 0, 0, 0x80, /* data */
-    0x9E, 0x51, 2, 1, 0xFF, 7, 1, 2, 3, 4, 5, 6, 7, 8,                                                                              /* code */
-    0x9E, 0x51, 3, 2, 0,    0, 9, 0, 0, 0, 0, 0, 0, 0x80, 5, 0, 0, 0, 0, 0, 0, 0, 1, 0, 0, 0, 0, 0, 0, 0, 255, 0, 0, 0, 0, 0, 0, 0, /* GS */
-    0x9E, 0x51, 4, 0, 5,    0,                                                                                                      /* start */
+    /* data, code, GS and start */
+    0x9E, 0x51, 1, 2, ADDRESS(LAST_QUADWORD), 1, 0, 0, 0, 2, 0, 0, 0, 3, 0, 0, 0, 4, 0, 0, 0, 5, 0, 0, 0, 6, 0, 0, 0, 7, 0, 0, 0, 8, 0, 0, 0x80,
+    0x9E, 0x51, 2, 1, ADDRESS(LAST_INSTRUCTION), 1, 2, 3, 4, 5, 6, 7, 8,
+    0x9E, 0x51, 3, 2, ADDRESS(0), 9, 0, 0, 0, 0, 0, 0, 0x80, 5, 0, 0, 0, 0, 0, 0, 0, 1, 0, 0, 0, 0, 0, 0, 0, 255, 0, 0, 0, 0, 0, 0, 0,
+    0x9E, 0x51, 4, 0, ADDRESS(5),
 };
 /* One number for each record, and one for the end tag. */
-enum { SHEET_STEPS = 13 + 9 + 8 + 5 + 1, SHEET_CHAIN = 16 * (4 + 3 + 5 + 2 + 1) };
+enum { SHEET_STEPS = 13 + 9 + 8 + 5 + 1, SHEET_CHAIN = 16 * (4 + 3 + 5 + 2 + 1), SHEET_ENTRIES = 3 };
 
 /* Whether the bench holds what the sheet means, its log entries from one on. */
 static bool holds_meaning(const struct bench *bench, size_t from)
 {
-    const uint32_t *data = words(&bench->lent[DATA]);
-    const uint64_t *log = numbers(&bench->lent[LOG]) + 2 * from;
     static const uint8_t instruction[8] = {1, 2, 3, 4, 5, 6, 7, 8};
-    static const uint64_t entries[6] = {5, UINT64_C(0x8000000000000009), 255, 1, 256, 5};
-    return data[4092] == 1 && data[4095] == 4 && data[0] == 5 && data[3] == UINT32_C(0x80000008) && data[4] == UINT32_C(0xA5A5A5A5) &&
-           memcmp(bench->lent[CODE].at + 16376, instruction, 8) == 0 && bench->lent[CODE].at[0] == FILL && memcmp(log, entries, sizeof entries) == 0;
+    static const uint64_t entries[][TEJBORUN_ENTRY_NUMBERS] = {
+        {[TEJBORUN_ENTRY_REGISTER] = 5, [TEJBORUN_ENTRY_VALUE] = UINT64_C(0x8000000000000009)},
+        {[TEJBORUN_ENTRY_REGISTER] = 255, [TEJBORUN_ENTRY_VALUE] = 1},
+        {[TEJBORUN_ENTRY_REGISTER] = 256, [TEJBORUN_ENTRY_VALUE] = 5},
+    };
+    const uint32_t *data = words(&bench->lent[DATA]), *last = data + 4 * LAST_QUADWORD;
+    const uint8_t *code = bench->lent[CODE].at;
+    return last[0] == 1 && last[3] == 4 && data[0] == 5 && data[3] == UINT32_C(0x80000008) && data[4] == UINT32_C(0xA5A5A5A5) &&
+           memcmp(code + 8 * LAST_INSTRUCTION, instruction, 8) == 0 && code[0] == FILL && memcmp(entry(&bench->lent[LOG], from), entries, sizeof entries) == 0;
 }
 
 /* A sheet and its refusal. */
@@ -200,13 +243,13 @@ struct refused {
 };
 
 static const struct refused refused[] = {
-    {{0x9E, 0x51, 4, 0, 5}, 5, 44, 0},
-    {{0x9E, 0x51, 4, 0, 5, 0, 0x9E, 0x52, 4, 0, 5, 0}, 12, 40, 6},
-    {{0x9E, 0x51, 5, 0, 5, 0}, 6, 41, 0},
-    {{0x9E, 0x51, 4, 1, 5, 0}, 6, 42, 0},
-    {{0x9E, 0x51, 4, 0, 0, 8}, 6, 43, 0},
-    {{0x9E, 0x51, 2, 1, 0, 0, 1, 2, 3, 4, 5, 6, 7}, 13, 44, 0},
-    {{0x9E, 0x51, 3, 1, 0, 0, 0, 0, 0, 0, 0, 0, 0, 0, 5, 0, 0, 0, 0, 0, 0, 1}, 22, 45, 0},
+    {{0x9E, 0x51, 4, 0, 5}, 5, TEJBORUN_CUT_RECORD, 0},
+    {{0x9E, 0x51, 4, 0, 5, 0, 0x9E, 0x52, 4, 0, 5, 0}, 12, TEJBORUN_BAD_MARK, 6},
+    {{0x9E, 0x51, 5, 0, 5, 0}, 6, TEJBORUN_BAD_KIND, 0},
+    {{0x9E, 0x51, 4, 1, 5, 0}, 6, TEJBORUN_BAD_COUNT, 0},
+    {{0x9E, 0x51, 4, 0, ADDRESS(TEJBORUN_VIF1_INSTRUCTIONS)}, 6, TEJBORUN_BAD_ADDRESS, 0},
+    {{0x9E, 0x51, 2, 1, 0, 0, 1, 2, 3, 4, 5, 6, 7}, 13, TEJBORUN_CUT_RECORD, 0},
+    {{0x9E, 0x51, 3, 1, 0, 0, 0, 0, 0, 0, 0, 0, 0, 0, 5, 0, 0, 0, 0, 0, 0, 1}, 22, TEJBORUN_BAD_PAD, 0},
 };
 enum { REFUSED = sizeof refused / sizeof refused[0] };
 
@@ -241,10 +284,10 @@ static size_t try_build(const uint8_t *bytes, size_t count, size_t output_bytes,
 
 static void test_build(bool end)
 {
-    CHECK(tejborun_build(NULL, 0, NULL, 0) == 47);
-    CHECK(try_build(NULL, 0, 16, end) == 16 && try_build(NULL, 0, 15, end) == 47 && try_build(NULL, 0, 4097, end) == 16);
+    CHECK(tejborun_build(NULL, 0, NULL, 0) == TEJBORUN_LONG_CHAIN);
+    CHECK(try_build(NULL, 0, 16, end) == 16 && try_build(NULL, 0, 15, end) == TEJBORUN_LONG_CHAIN && try_build(NULL, 0, 4097, end) == 16);
     CHECK(try_build(sheet, sizeof sheet, SHEET_CHAIN, end) == SHEET_CHAIN && try_build(sheet, sizeof sheet, SHEET_CHAIN + 1, end) == SHEET_CHAIN);
-    CHECK(try_build(sheet, sizeof sheet, SHEET_CHAIN - 1, end) == 47 && try_build(sheet, sizeof sheet, 0, end) == 47);
+    CHECK(try_build(sheet, sizeof sheet, SHEET_CHAIN - 1, end) == TEJBORUN_LONG_CHAIN && try_build(sheet, sizeof sheet, 0, end) == TEJBORUN_LONG_CHAIN);
     for (size_t i = 0; i < REFUSED; i++)
         CHECK(try_build(refused[i].bytes, refused[i].count, 4096, end) == refused[i].refusal);
 }
@@ -257,13 +300,13 @@ static void test_long_sheets(bool end)
     for (size_t at = 0; at + 6 <= TEJBORUN_SHEET_BYTES; at += 6)
         memcpy(bytes + at, "\x9E\x51\x04\x00\xFF\x07", 6);
     CHECK(try_build(bytes, TEJBORUN_SHEET_BYTES - 2, TEJBORUN_CHAIN_BYTES, end) == TEJBORUN_CHAIN_BYTES);
-    CHECK(try_build(bytes, TEJBORUN_SHEET_BYTES - 2, TEJBORUN_CHAIN_BYTES - 1, end) == 47);
-    CHECK(try_build(bytes, TEJBORUN_SHEET_BYTES, TEJBORUN_CHAIN_BYTES, end) == 44);
-    CHECK(try_build(bytes, TEJBORUN_SHEET_BYTES + 1, TEJBORUN_CHAIN_BYTES, end) == 46);
+    CHECK(try_build(bytes, TEJBORUN_SHEET_BYTES - 2, TEJBORUN_CHAIN_BYTES - 1, end) == TEJBORUN_LONG_CHAIN);
+    CHECK(try_build(bytes, TEJBORUN_SHEET_BYTES, TEJBORUN_CHAIN_BYTES, end) == TEJBORUN_CUT_RECORD);
+    CHECK(try_build(bytes, TEJBORUN_SHEET_BYTES + 1, TEJBORUN_CHAIN_BYTES, end) == TEJBORUN_LONG_SHEET);
     uint64_t result[2] = {9, 9};
-    CHECK(tejborun_steps(bytes, TEJBORUN_SHEET_BYTES - 2, result, 2) == 0 && result[0] == 21845 * 5 + 1 && result[1] == 0);
-    CHECK(tejborun_steps(bytes, TEJBORUN_SHEET_BYTES, result, 2) == 44 && result[0] == 0 && result[1] == TEJBORUN_SHEET_BYTES - 2);
-    CHECK(tejborun_steps(bytes, TEJBORUN_SHEET_BYTES + 1, result, 2) == 46 && result[0] == 0 && result[1] == 0);
+    CHECK(tejborun_steps(bytes, TEJBORUN_SHEET_BYTES - 2, result, 2) == TEJBORUN_DONE && result[0] == 21845 * 5 + 1 && result[1] == 0);
+    CHECK(tejborun_steps(bytes, TEJBORUN_SHEET_BYTES, result, 2) == TEJBORUN_CUT_RECORD && result[0] == 0 && result[1] == TEJBORUN_SHEET_BYTES - 2);
+    CHECK(tejborun_steps(bytes, TEJBORUN_SHEET_BYTES + 1, result, 2) == TEJBORUN_LONG_SHEET && result[0] == 0 && result[1] == 0);
     free(bytes);
 }
 
@@ -287,8 +330,8 @@ static uint32_t try_steps(const uint8_t *bytes, size_t count, size_t result_numb
 static void test_steps(bool end)
 {
     uint64_t result[2];
-    CHECK(try_steps(NULL, 0, 2, end, result) == 0 && result[0] == 1 && result[1] == 0);
-    CHECK(try_steps(sheet, sizeof sheet, 2, end, result) == 0 && result[0] == SHEET_STEPS && result[1] == 0);
+    CHECK(try_steps(NULL, 0, 2, end, result) == TEJBORUN_DONE && result[0] == 1 && result[1] == 0);
+    CHECK(try_steps(sheet, sizeof sheet, 2, end, result) == TEJBORUN_DONE && result[0] == SHEET_STEPS && result[1] == 0);
     CHECK(try_steps(sheet, sizeof sheet, 1, end, result) == TEJBORUN_SHORT && try_steps(sheet, sizeof sheet, 0, end, result) == TEJBORUN_SHORT);
     CHECK(tejborun_steps(NULL, 0, NULL, 0) == TEJBORUN_SHORT);
     for (size_t i = 0; i < REFUSED; i++) {
@@ -297,61 +340,63 @@ static void test_steps(bool end)
     }
 }
 
-/* Lengths that a call with memories refuses. */
-struct wrong {
-    struct lengths lengths;
-    uint32_t answer;
-};
-
 static void try_meaning(const uint8_t *bytes, size_t count, struct lengths lengths, uint64_t used, uint32_t answer, uint64_t offset, bool end)
 {
     struct bench bench;
     new_bench(&bench, lengths, bytes, count, end);
     remember_all(&bench);
     CHECK(call_meaning(&bench, used) == answer);
-    if (answer != 0)
+    if (answer != TEJBORUN_DONE)
         CHECK(all_unchanged(&bench));
     else
         CHECK(all_kept_outside(&bench) && holds_meaning(&bench, used));
     if (answer == TEJBORUN_SHORT)
         CHECK(unchanged(&bench.lent[RESULT]));
     else
-        CHECK(numbers(&bench.lent[RESULT])[0] == (answer == 0 ? used + 3 : used) && numbers(&bench.lent[RESULT])[1] == offset);
+        CHECK(numbers(&bench.lent[RESULT])[0] == (answer == TEJBORUN_DONE ? used + SHEET_ENTRIES : used) && numbers(&bench.lent[RESULT])[1] == offset);
     free_bench(&bench);
 }
 
 static void test_meaning(bool end)
 {
     static const struct wrong wrong[] = {
-        {{256, 4095, 16384, 64, 63, 2}, 2}, {{256, 4097, 16384, 64, 63, 2}, 2}, {{256, 0, 16384, 64, 63, 2}, 2},
-        {{256, 4096, 16383, 64, 63, 2}, 3}, {{256, 4096, 16392, 64, 63, 2}, 3}, {{256, 4096, 0, 64, 63, 2}, 3},
-        {{256, 4096, 16384, 63, 63, 2}, 4}, {{256, 4096, 16384, 131074, 63, 2}, 4}, {{256, 4096, 16384, 2, 63, 2}, 4},
-        {{256, 4096, 16384, 4, 63, 2}, 31}, {{256, 4096, 16384, 8, 63, 2}, 31}, {{256, 4096, 16384, 64, 63, 1}, TEJBORUN_SHORT},
-        {{256, 4096, 16384, 64, 63, 0}, TEJBORUN_SHORT},
+        {LENGTH(data), TEJBORUN_DATA_WORDS - 1, TEJBORUN_BAD_DATA},
+        {LENGTH(data), TEJBORUN_DATA_WORDS + 1, TEJBORUN_BAD_DATA},
+        {LENGTH(data), 0, TEJBORUN_BAD_DATA},
+        {LENGTH(code), TEJBORUN_CODE_BYTES - 1, TEJBORUN_BAD_CODE},
+        {LENGTH(code), TEJBORUN_CODE_BYTES + 8, TEJBORUN_BAD_CODE},
+        {LENGTH(code), 0, TEJBORUN_BAD_CODE},
+        {LENGTH(log), ENTRIES * TEJBORUN_ENTRY_NUMBERS - 1, TEJBORUN_BAD_LOG},
+        {LENGTH(log), TEJBORUN_LOG_NUMBERS + TEJBORUN_ENTRY_NUMBERS, TEJBORUN_BAD_LOG},
+        {LENGTH(log), 1 * TEJBORUN_ENTRY_NUMBERS, TEJBORUN_BAD_LOG},
+        {LENGTH(log), 2 * TEJBORUN_ENTRY_NUMBERS, TEJBORUN_LOG_FULL},
+        {LENGTH(log), 4 * TEJBORUN_ENTRY_NUMBERS, TEJBORUN_LOG_FULL},
+        {LENGTH(result), 1, TEJBORUN_SHORT},
+        {LENGTH(result), 0, TEJBORUN_SHORT},
     };
     struct lengths full = good;
-    try_meaning(sheet, sizeof sheet, good, 0, 0, 0, end);
-    try_meaning(sheet, sizeof sheet, good, 29, 0, 0, end);
-    try_meaning(sheet, sizeof sheet, good, 30, 31, 0, end);
-    try_meaning(sheet, sizeof sheet, good, 33, 4, 0, end);
-    try_meaning(sheet, sizeof sheet, good, UINT64_MAX, 4, 0, end);
+    try_meaning(sheet, sizeof sheet, good, 0, TEJBORUN_DONE, 0, end);
+    try_meaning(sheet, sizeof sheet, good, ENTRIES - SHEET_ENTRIES, TEJBORUN_DONE, 0, end);
+    try_meaning(sheet, sizeof sheet, good, ENTRIES - SHEET_ENTRIES + 1, TEJBORUN_LOG_FULL, 0, end);
+    try_meaning(sheet, sizeof sheet, good, ENTRIES + 1, TEJBORUN_BAD_LOG, 0, end);
+    try_meaning(sheet, sizeof sheet, good, UINT64_MAX, TEJBORUN_BAD_LOG, 0, end);
     full.log = TEJBORUN_LOG_NUMBERS;
-    try_meaning(sheet, sizeof sheet, full, 65533, 0, 0, end);
-    try_meaning(sheet, sizeof sheet, full, 65534, 31, 0, end);
+    try_meaning(sheet, sizeof sheet, full, TEJBORUN_LOG_ENTRIES - SHEET_ENTRIES, TEJBORUN_DONE, 0, end);
+    try_meaning(sheet, sizeof sheet, full, TEJBORUN_LOG_ENTRIES - SHEET_ENTRIES + 1, TEJBORUN_LOG_FULL, 0, end);
     for (size_t i = 0; i < sizeof wrong / sizeof wrong[0]; i++)
-        try_meaning(sheet, sizeof sheet, wrong[i].lengths, 2, wrong[i].answer, 0, end);
+        try_meaning(sheet, sizeof sheet, with_wrong(&wrong[i]), 2, wrong[i].answer, 0, end);
     for (size_t i = 0; i < REFUSED; i++)
         try_meaning(refused[i].bytes, refused[i].count, good, 2, refused[i].refusal, refused[i].offset, end);
 }
 
 static void test_reset(bool end)
 {
-    static const size_t lengths[] = {0, 1, 62, 64, 126};
-    struct lent block = lend(4 * TEJBORUN_BLOCK_WORDS, end);
+    static const size_t lengths[] = {0, 1, TEJBORUN_BLOCK_WORDS - 1, TEJBORUN_BLOCK_WORDS + 1, 2 * TEJBORUN_BLOCK_WORDS};
+    static const struct tejborun_state reset = {.chain.channel = 1};
+    struct lent block = lend(sizeof reset, end);
     remember(&block);
-    CHECK(tejborun_reset(words(&block), TEJBORUN_BLOCK_WORDS) == 0 && kept_outside(&block));
-    for (size_t i = 0; i < TEJBORUN_BLOCK_WORDS; i++)
-        CHECK(words(&block)[i] == (i == 0));
+    CHECK(tejborun_reset(words(&block), TEJBORUN_BLOCK_WORDS) == TEJBORUN_DONE && kept_outside(&block));
+    CHECK(memcmp(state(&block), &reset, sizeof reset) == 0);
     give_back(&block);
     for (size_t i = 0; i < sizeof lengths / sizeof lengths[0]; i++) {
         block = lend(4 * lengths[i], end);
@@ -362,18 +407,24 @@ static void test_reset(bool end)
     CHECK(tejborun_reset(NULL, 0) == TEJBORUN_SHORT);
 }
 
+/* Whether the chain stands as a start leaves it. */
+static bool started_by(const struct tejborun_chain *chain, const uint32_t *start)
+{
+    return chain->channel == start[0] && chain->tadr == start[1] && chain->tte == start[2] && chain->ended == 0;
+}
+
 /* A start on a reset block in which a word is set. */
 static void try_start(size_t length, size_t word, uint32_t value, const uint32_t *start, uint32_t answer, bool end)
 {
     struct lent block = lend(4 * length, end);
     for (size_t i = 0; i < length; i++)
-        words(&block)[i] = i == word ? value : i == 0;
+        words(&block)[i] = i == word ? value : i == WORD(chain.channel);
     remember(&block);
     CHECK(tejborun_start(words(&block), length, start[0], start[1], start[2]) == answer && kept_outside(&block));
-    if (answer != 0)
+    if (answer != TEJBORUN_DONE)
         CHECK(unchanged(&block));
     else
-        CHECK(words(&block)[0] == start[0] && words(&block)[1] == start[1] && words(&block)[2] == start[2] && words(&block)[3] == 0);
+        CHECK(started_by(&state(&block)->chain, start));
     give_back(&block);
 }
 
@@ -381,19 +432,22 @@ static void test_start(bool end)
 {
     static const uint32_t accepted[3] = {1, 0x7FFFFFF0, 1}, on_2[3] = {2, 16, 0};
     static const uint32_t wrong[][3] = {{0, 0, 0}, {3, 0, 0}, {UINT32_MAX, 0, 0}, {1, 8, 0}, {1, 0x80000000, 0}, {1, UINT32_MAX, 0}, {1, 0, 2}, {2, 0, 1}};
-    static const size_t lengths[] = {0, 62, 64};
-    try_start(TEJBORUN_BLOCK_WORDS, 3, 1, accepted, 0, end);
-    try_start(TEJBORUN_BLOCK_WORDS, 11, 77, on_2, 0, end);
+    static const size_t lengths[] = {0, TEJBORUN_BLOCK_WORDS - 1, TEJBORUN_BLOCK_WORDS + 1};
+    static const struct {
+        size_t word;
+        uint32_t value;
+    } states[] = {
+        {WORD(chain.channel), 3}, {WORD(chain.tte), 2},     {WORD(chain.depth), 3},
+        {WORD(vif1.cl), 256},     {WORD(vif1.waiting), 8}, {WORD(path2.place), 2},
+    };
+    try_start(TEJBORUN_BLOCK_WORDS, WORD(chain.ended), 1, accepted, TEJBORUN_DONE, end);
+    try_start(TEJBORUN_BLOCK_WORDS, WORD(chain.used), 77, on_2, TEJBORUN_DONE, end);
     for (size_t i = 0; i < sizeof wrong / sizeof wrong[0]; i++)
-        try_start(TEJBORUN_BLOCK_WORDS, 3, 1, wrong[i], 5, end);
+        try_start(TEJBORUN_BLOCK_WORDS, WORD(chain.ended), 1, wrong[i], TEJBORUN_BAD_VALUE, end);
     for (size_t i = 0; i < sizeof lengths / sizeof lengths[0]; i++)
-        try_start(lengths[i], 3, 1, accepted, TEJBORUN_SHORT, end);
-    try_start(TEJBORUN_BLOCK_WORDS, 0, 3, accepted, 5, end);
-    try_start(TEJBORUN_BLOCK_WORDS, 2, 2, accepted, 5, end);
-    try_start(TEJBORUN_BLOCK_WORDS, 4, 3, accepted, 5, end);
-    try_start(TEJBORUN_BLOCK_WORDS, 13, 256, accepted, 5, end);
-    try_start(TEJBORUN_BLOCK_WORDS, 34, 8, accepted, 5, end);
-    try_start(TEJBORUN_BLOCK_WORDS, 46, 2, accepted, 5, end);
+        try_start(lengths[i], WORD(chain.ended), 1, accepted, TEJBORUN_SHORT, end);
+    for (size_t i = 0; i < sizeof states / sizeof states[0]; i++)
+        try_start(TEJBORUN_BLOCK_WORDS, states[i].word, states[i].value, accepted, TEJBORUN_BAD_VALUE, end);
     CHECK(tejborun_start(NULL, 0, 1, 0, 0) == TEJBORUN_SHORT);
 }
 
@@ -409,7 +463,8 @@ static void test_run(bool end)
     CHECK(call_run(&bench, SHEET_STEPS - 1) == TEJBORUN_ALLOWANCE && numbers(&bench.lent[RESULT])[0] == SHEET_STEPS - 1);
     CHECK(call_run(&bench, UINT64_MAX) == TEJBORUN_DONE && numbers(&bench.lent[RESULT])[0] == 1);
     CHECK(unchanged(&bench.lent[MAIN]) && all_kept_outside(&bench) && holds_meaning(&bench, 0));
-    CHECK(words(&bench.lent[BLOCK])[11] == 3 && words(&bench.lent[BLOCK])[12] == 0 && words(&bench.lent[BLOCK])[3] == 1);
+    const struct tejborun_chain *chain = &state(&bench.lent[BLOCK])->chain;
+    CHECK(chain->used[0] == SHEET_ENTRIES && chain->used[1] == 0 && chain->ended == 1);
     free_bench(&bench);
 }
 
@@ -424,16 +479,16 @@ static void test_stops(bool end)
 {
     static const struct stop stops[] = {
         {{0x70000001, 0, 0, 0, 0x80000000, 0, 0, 0}, TEJBORUN_INTERRUPT, 2},
-        {{0x50000000, 0, 0, 0, 0, 0, 0, 0}, 13, 2},
-        {{0x20000000, 0x20, 0, 0, 0, 0, 0, 0}, 10, 1},
-        {{0x30000000, 8, 0, 0, 0, 0, 0, 0}, 11, 0},
-        {{0x30000000, 0x80000000, 0, 0, 0, 0, 0, 0}, 12, 0},
-        {{0x10000002, 0, 0, 0, 0, 0, 0, 0}, 14, 0},
-        {{0x70000001, 0, 0, 0, 0, 0x7F000000, 0, 0}, 22, 2},
-        {{0x70000001, 0, 0, 0, 0, 0x08000000, 0, 0}, 20, 2},
-        {{0x70000001, 0, 0, 0, 0x63010000, 0, 0, 0}, 21, 1},
-        {{0x70000001, 0, 0, 0, 0x05000003, 0, 0, 0}, 23, 1},
-        {{0x70000001, 0, 0, 0, 0x50000001, 0, 0, 0}, 24, 2},
+        {{0x50000000, 0, 0, 0, 0, 0, 0, 0}, TEJBORUN_BAD_CALL, 2},
+        {{0x20000000, 0x20, 0, 0, 0, 0, 0, 0}, TEJBORUN_BAD_TADR, 1},
+        {{0x30000000, 8, 0, 0, 0, 0, 0, 0}, TEJBORUN_BAD_ADDR, 0},
+        {{0x30000000, 0x80000000, 0, 0, 0, 0, 0, 0}, TEJBORUN_BAD_SPR, 0},
+        {{0x10000002, 0, 0, 0, 0, 0, 0, 0}, TEJBORUN_BAD_PAYLOAD, 0},
+        {{0x70000001, 0, 0, 0, 0, 0x7F000000, 0, 0}, TEJBORUN_BAD_CYCLE, 2},
+        {{0x70000001, 0, 0, 0, 0, 0x08000000, 0, 0}, TEJBORUN_BAD_CMD, 2},
+        {{0x70000001, 0, 0, 0, 0x63010000, 0, 0, 0}, TEJBORUN_BAD_FORMAT, 1},
+        {{0x70000001, 0, 0, 0, 0x05000003, 0, 0, 0}, TEJBORUN_BAD_MODE, 1},
+        {{0x70000001, 0, 0, 0, 0x50000001, 0, 0, 0}, TEJBORUN_BAD_DIRECT, 2},
     };
     struct lengths small = good;
     small.main = 32;
@@ -448,23 +503,133 @@ static void test_stops(bool end)
     }
 }
 
+/* The GIF's refusals, on channel 2: a tag of the descriptor, and its data. */
+static void test_gif_stops(bool end)
+{
+    static const struct {
+        uint32_t descriptor;
+        size_t log;
+        uint32_t answer;
+    } stops[] = {
+        {0xB, TEJBORUN_ENTRY_NUMBERS, TEJBORUN_BAD_DESCRIPTOR},
+        {0xE, 0, TEJBORUN_LOG_FULL},
+        {0xE, TEJBORUN_ENTRY_NUMBERS, TEJBORUN_DONE},
+    };
+    for (size_t i = 0; i < sizeof stops / sizeof stops[0]; i++) {
+        const uint32_t chain[12] = {0x70000002, 0, 0, 0, 0x8001, 0x10000000, stops[i].descriptor};
+        struct lengths small = good;
+        struct bench bench;
+        small.main = sizeof chain;
+        small.log = stops[i].log;
+        new_bench(&bench, small, NULL, 0, end);
+        memcpy(bench.lent[MAIN].at, chain, sizeof chain);
+        remember_all(&bench);
+        CHECK(tejborun_start(words(&bench.lent[BLOCK]), TEJBORUN_BLOCK_WORDS, 2, 0, 0) == TEJBORUN_DONE);
+        CHECK(call_run(&bench, UINT64_MAX) == stops[i].answer && all_kept_outside(&bench));
+        CHECK(numbers(&bench.lent[RESULT])[0] == (stops[i].answer == TEJBORUN_DONE ? 3 : 2));
+        CHECK(stops[i].answer == TEJBORUN_DONE || unchanged(&bench.lent[LOG]));
+        free_bench(&bench);
+    }
+}
+
+/* Where a chain of so many words on a channel stands after so many steps, from a state on. */
+static void run_state(struct tejborun_state *state, const uint32_t *chain, size_t count, const uint32_t start[3], uint64_t steps)
+{
+    static uint32_t data[TEJBORUN_DATA_WORDS];
+    static uint8_t code[TEJBORUN_CODE_BYTES];
+    uint64_t log[ENTRIES * TEJBORUN_ENTRY_NUMBERS] = {0}, completed;
+    uint32_t *block = (uint32_t *)state;
+    CHECK(tejborun_start(block, TEJBORUN_BLOCK_WORDS, start[0], start[1], start[2]) == TEJBORUN_DONE);
+    CHECK(tejborun_run((const uint8_t *)chain, 4 * count, data, TEJBORUN_DATA_WORDS, code, TEJBORUN_CODE_BYTES, log, ENTRIES * TEJBORUN_ENTRY_NUMBERS, block,
+                       TEJBORUN_BLOCK_WORDS, steps, &completed, 1) == TEJBORUN_ALLOWANCE);
+    CHECK(completed == steps);
+}
+
+/* Two calls and codes that give every register of VIF1 a value of its own: each is in its word of the block. */
+static void test_unit_words(void)
+{
+    static const uint32_t chain[] = {
+        0x50000001, 0x20, 0, 0, 0, 0, 0, 0,                                     /* at 0h: call, a quadword of NOPs */
+        0x50000002, 0x60, 0, 0, 0, 0, 0, 0, 0, 0, 0, 0, 0, 0, 0, 0,             /* at 20h: call, two quadwords of NOPs; one that is not met */
+        0x10000009, 0, 0, 0,                                                    /* at 60h: cnt, nine quadwords */
+        0x01000305, 0x03000022, 0x02000011, 0x04000044,                         /* STCYCL, BASE, OFFSET, ITOP */
+        0x14000000, 0x03000055, 0x04000066, 0x05000001,                         /* MSCAL, BASE, ITOP, STMOD */
+        0x06008000, 0x07007777, 0x20000000, 0x88888888,                         /* MSKPATH3, MARK, STMASK */
+        0x30000000, 0xA0, 0xA1, 0xA2, 0xA3, 0x31000000, 0xB0, 0xB1, 0xB2, 0xB3, /* STROW, STCOL */
+        0xF9074123, 0xC0, 0xC1, 0xC2, 0xC3, 0, 0, 0, 0, 0, 0, 0, 0, 0,          /* UNPACK V3-16, seven vectors: eleven words, four of them taken */
+    };
+    static const struct tejborun_state expected = {
+        .chain = {.channel = 1, .tadr = 0x100, .depth = 2, .stack = {0x20, 0x50}, .payload_words = 9, .payload_at = 0xDC, .used = {1}},
+        .vif1 = {.cl = 5, .wl = 3, .ofst = 0x11, .base = 0x55, .tops = 0x33, .top = 0x22, .itops = 0x66, .itop = 0x44, .dbf = 1, .mode = 1, .mskpath3 = 1,
+                 .mark = 0x7777, .mask = 0x88888888, .row = {0xA0, 0xA1, 0xA2, 0xA3}, .col = {0xB0, 0xB1, 0xB2, 0xB3}, .waiting = TEJBORUN_WAITS_UNPACK,
+                 .irq = 1, .due = 7, .address = 0x123, .count = 7, .format = 9, .usn = 1, .m = 1, .held = {0xC1, 0xC2, 0xC3}},
+    };
+    static const uint32_t start[3] = {1, 0, 0};
+    struct tejborun_state state;
+    CHECK(tejborun_reset((uint32_t *)&state, TEJBORUN_BLOCK_WORDS) == TEJBORUN_DONE);
+    run_state(&state, chain, sizeof chain / 4, start, 3 + 4 + 8 + 27);
+    CHECK(memcmp(&state, &expected, sizeof state) == 0);
+}
+
+/* Tag words that are pending, and a held tag on each path: each number is in its word of the block. */
+static void test_path_words(void)
+{
+    static const uint32_t direct[] = {
+        0x70000003, 0, 0, 0x50000009,           /* end, three quadwords; DIRECT as a tag word */
+        0x8005, 0x34000000, 0x76543210, 0xFEDC, /* REGLIST, NLOOP 5, EOP, NREG 3 */
+        1, 2, 3, 4, 5, 6, 7, 8,
+    };
+    static const uint32_t image[] = {
+        0x70000002, 0, 0, 0,       /* end, two quadwords */
+        7, 0x18000000, 0x11, 0x22, /* IMAGE, NLOOP 7, NREG 1 */
+        1, 2, 3, 4,
+    };
+    static const uint32_t on_1[3] = {1, 0, 1}, on_2[3] = {2, 0, 0}, one = 0x3F800000;
+    struct tejborun_state expected = {.chain = {.channel = 1, .tte = 1, .ended = 1, .tag_words = 1, .tag_word_at = 8, .payload_words = 12, .payload_at = 16}};
+    struct tejborun_state state;
+    CHECK(tejborun_reset((uint32_t *)&state, TEJBORUN_BLOCK_WORDS) == TEJBORUN_DONE);
+    run_state(&state, direct, sizeof direct / 4, on_1, 1);
+    CHECK(memcmp(&state, &expected, sizeof state) == 0);
+    run_state(&state, direct, sizeof direct / 4, on_1, 5);
+    expected.chain = (struct tejborun_chain){.channel = 1, .tte = 1, .ended = 1, .payload_words = 4, .payload_at = 48, .used = {2}};
+    expected.vif1 = (struct tejborun_unit){.waiting = TEJBORUN_WAITS_DIRECT, .due = 7};
+    expected.path2 = (struct tejborun_path){.q = one, .place = 1, .format = 1, .nloop = 5, .eop = 1, .nreg = 3, .descriptors = {0x76543210, 0xFEDC}, .due = 7};
+    CHECK(memcmp(&state, &expected, sizeof state) == 0);
+    run_state(&state, image, sizeof image / 4, on_2, 2);
+    expected.chain = (struct tejborun_chain){.channel = 2, .ended = 1, .payload_words = 4, .payload_at = 32, .used = {2}};
+    expected.path3 = (struct tejborun_path){.q = one, .place = 1, .format = 2, .nloop = 7, .nreg = 1, .descriptors = {0x11, 0x22}, .due = 7};
+    CHECK(memcmp(&state, &expected, sizeof state) == 0);
+}
+
 /* What a run and build and run refuse at entry; the entries used are 2. */
 static const struct wrong wrong_entry[] = {
-    {{0, 4096, 16384, 64, 63, 2}, 1}, {{8, 4096, 16384, 64, 63, 2}, 1}, {{257, 4096, 16384, 64, 63, 2}, 1},
-    {{1048592, 4096, 16384, 64, 63, 2}, 1}, {{256, 4095, 16384, 64, 63, 2}, 2}, {{256, 4097, 16384, 64, 63, 2}, 2},
-    {{256, 0, 16384, 64, 63, 2}, 2}, {{256, 4096, 16383, 64, 63, 2}, 3}, {{256, 4096, 16385, 64, 63, 2}, 3},
-    {{256, 4096, 0, 64, 63, 2}, 3}, {{256, 4096, 16384, 63, 63, 2}, 4}, {{256, 4096, 16384, 131074, 63, 2}, 4},
-    {{256, 4096, 16384, 2, 63, 2}, 4}, {{256, 4096, 16384, 64, 62, 2}, TEJBORUN_SHORT}, {{256, 4096, 16384, 64, 64, 2}, TEJBORUN_SHORT},
-    {{256, 4096, 16384, 64, 0, 2}, TEJBORUN_SHORT}, {{256, 4096, 16384, 64, 63, 0}, TEJBORUN_SHORT},
+    {LENGTH(main), 0, TEJBORUN_BAD_MAIN},
+    {LENGTH(main), 8, TEJBORUN_BAD_MAIN},
+    {LENGTH(main), 257, TEJBORUN_BAD_MAIN},
+    {LENGTH(main), TEJBORUN_MAIN_BYTES + 16, TEJBORUN_BAD_MAIN},
+    {LENGTH(data), TEJBORUN_DATA_WORDS - 1, TEJBORUN_BAD_DATA},
+    {LENGTH(data), TEJBORUN_DATA_WORDS + 1, TEJBORUN_BAD_DATA},
+    {LENGTH(data), 0, TEJBORUN_BAD_DATA},
+    {LENGTH(code), TEJBORUN_CODE_BYTES - 1, TEJBORUN_BAD_CODE},
+    {LENGTH(code), TEJBORUN_CODE_BYTES + 1, TEJBORUN_BAD_CODE},
+    {LENGTH(code), 0, TEJBORUN_BAD_CODE},
+    {LENGTH(log), ENTRIES * TEJBORUN_ENTRY_NUMBERS - 1, TEJBORUN_BAD_LOG},
+    {LENGTH(log), TEJBORUN_LOG_NUMBERS + TEJBORUN_ENTRY_NUMBERS, TEJBORUN_BAD_LOG},
+    {LENGTH(log), 1 * TEJBORUN_ENTRY_NUMBERS, TEJBORUN_BAD_LOG},
+    {LENGTH(block), TEJBORUN_BLOCK_WORDS - 1, TEJBORUN_SHORT},
+    {LENGTH(block), TEJBORUN_BLOCK_WORDS + 1, TEJBORUN_SHORT},
+    {LENGTH(block), 0, TEJBORUN_SHORT},
+    {LENGTH(result), 0, TEJBORUN_SHORT},
 };
+enum { WRONG_ENTRY = sizeof wrong_entry / sizeof wrong_entry[0] };
 
 static void test_wrong_entry(bool end)
 {
-    for (size_t i = 0; i < sizeof wrong_entry / sizeof wrong_entry[0]; i++) {
+    for (size_t i = 0; i < WRONG_ENTRY; i++) {
         struct bench bench;
-        new_bench(&bench, wrong_entry[i].lengths, sheet, sizeof sheet, end);
-        if (bench.lengths.block > 11)
-            words(&bench.lent[BLOCK])[11] = 2;
+        new_bench(&bench, with_wrong(&wrong_entry[i]), sheet, sizeof sheet, end);
+        if (bench.lengths.block > WORD(chain.used))
+            words(&bench.lent[BLOCK])[WORD(chain.used)] = 2;
         remember_all(&bench);
         CHECK(call_run(&bench, UINT64_MAX) == wrong_entry[i].answer && all_unchanged(&bench));
         CHECK(call_build_and_run(&bench, 0, UINT64_MAX) == wrong_entry[i].answer && all_unchanged(&bench));
@@ -480,8 +645,19 @@ static void test_wrong_state(bool end)
         size_t word;
         uint32_t value, answer;
     } states[] = {
-        {0, 3, 5}, {1, 4, 5},  {2, 2, 5},    {3, 2, 5},  {4, 3, 5}, {7, 1, 5},  {9, 262144, 5},
-        {9, 4, 0}, {9, 260, 14}, {13, 256, 5}, {22, 3, 5}, {34, 9, 5}, {55, 1, 5},
+        {WORD(chain.channel), 3, TEJBORUN_BAD_VALUE},
+        {WORD(chain.tadr), 4, TEJBORUN_BAD_VALUE},
+        {WORD(chain.tte), 2, TEJBORUN_BAD_VALUE},
+        {WORD(chain.ended), 2, TEJBORUN_BAD_VALUE},
+        {WORD(chain.depth), 3, TEJBORUN_BAD_VALUE},
+        {WORD(chain.tag_words), 1, TEJBORUN_BAD_VALUE},
+        {WORD(chain.payload_words), 262144, TEJBORUN_BAD_VALUE},
+        {WORD(chain.payload_words), 4, TEJBORUN_DONE},
+        {WORD(chain.payload_words), 260, TEJBORUN_BAD_PAYLOAD},
+        {WORD(vif1.cl), 256, TEJBORUN_BAD_VALUE},
+        {WORD(vif1.mode), 3, TEJBORUN_BAD_VALUE},
+        {WORD(vif1.waiting), 9, TEJBORUN_BAD_VALUE},
+        {WORD(path3.place), 1, TEJBORUN_BAD_VALUE},
     };
     for (size_t i = 0; i < sizeof states / sizeof states[0]; i++) {
         struct bench bench;
@@ -490,7 +666,7 @@ static void test_wrong_state(bool end)
         words(&bench.lent[BLOCK])[states[i].word] = states[i].value;
         remember_all(&bench);
         uint32_t answer = call_run(&bench, UINT64_MAX);
-        CHECK(states[i].answer == 0 || (answer == states[i].answer && all_unchanged(&bench) && numbers(&bench.lent[RESULT])[0] == 0));
+        CHECK(states[i].answer == TEJBORUN_DONE || (answer == states[i].answer && all_unchanged(&bench) && numbers(&bench.lent[RESULT])[0] == 0));
         CHECK(all_kept_outside(&bench));
         free_bench(&bench);
     }
@@ -500,12 +676,12 @@ static void try_build_and_run(const uint8_t *bytes, size_t count, uint32_t addre
 {
     struct bench bench;
     new_bench(&bench, good, bytes, count, end);
-    words(&bench.lent[BLOCK])[11] = 2;
+    state(&bench.lent[BLOCK])->chain.used[0] = 2;
     remember_all(&bench);
     CHECK(call_build_and_run(&bench, address, UINT64_MAX) == answer && all_kept_outside(&bench));
     const uint64_t *result = numbers(&bench.lent[RESULT]);
-    if (answer == 0)
-        CHECK(holds_meaning(&bench, 2) && result[0] == SHEET_STEPS && result[1] == 0 && words(&bench.lent[BLOCK])[11] == 5);
+    if (answer == TEJBORUN_DONE)
+        CHECK(holds_meaning(&bench, 2) && result[0] == SHEET_STEPS && result[1] == 0 && state(&bench.lent[BLOCK])->chain.used[0] == 2 + SHEET_ENTRIES);
     else
         CHECK(all_unchanged(&bench) && result[0] == 0 && result[1] == offset);
     free_bench(&bench);
@@ -513,13 +689,13 @@ static void try_build_and_run(const uint8_t *bytes, size_t count, uint32_t addre
 
 static void test_build_and_run(bool end)
 {
-    try_build_and_run(sheet, sizeof sheet, 0, 0, 0, end);
-    try_build_and_run(sheet, sizeof sheet, 16, 0, 0, end);
-    try_build_and_run(sheet, sizeof sheet, 32, 47, 0, end);
-    try_build_and_run(sheet, sizeof sheet, 256, 47, 0, end);
-    try_build_and_run(sheet, sizeof sheet, 0x7FFFFFF0, 47, 0, end);
-    try_build_and_run(sheet, sizeof sheet, 8, 5, 0, end);
-    try_build_and_run(sheet, sizeof sheet, UINT32_C(0x80000000), 5, 0, end);
+    try_build_and_run(sheet, sizeof sheet, 0, TEJBORUN_DONE, 0, end);
+    try_build_and_run(sheet, sizeof sheet, 16, TEJBORUN_DONE, 0, end);
+    try_build_and_run(sheet, sizeof sheet, 32, TEJBORUN_LONG_CHAIN, 0, end);
+    try_build_and_run(sheet, sizeof sheet, 256, TEJBORUN_LONG_CHAIN, 0, end);
+    try_build_and_run(sheet, sizeof sheet, 0x7FFFFFF0, TEJBORUN_LONG_CHAIN, 0, end);
+    try_build_and_run(sheet, sizeof sheet, 8, TEJBORUN_BAD_VALUE, 0, end);
+    try_build_and_run(sheet, sizeof sheet, UINT32_C(0x80000000), TEJBORUN_BAD_VALUE, 0, end);
     for (size_t i = 0; i < REFUSED; i++)
         try_build_and_run(refused[i].bytes, refused[i].count, 0, refused[i].refusal, refused[i].offset, end);
 }
@@ -572,25 +748,27 @@ static void test_compare(bool end)
     struct lengths six = good, shorter = good;
     struct pair pair;
     six.result = 6;
-    shorter.log = 8;
+    shorter.log = 4 * TEJBORUN_ENTRY_NUMBERS;
     new_pair(&pair, &six, &shorter, end);
     const uint64_t *result = numbers(&pair.result);
-    CHECK(call_compare(&pair) == 0 && result[0] == 1024 && result[1] == 0 && result[2] == 2048 && result[3] == 0 && result[4] == 3 && result[5] == 0);
-    words(&pair.data[1])[4095]--;
-    CHECK(call_compare(&pair) == 1 && result[0] == 1023 && result[1] == 1 && result[2] == 2048 && result[5] == 0);
+    CHECK(call_compare(&pair) == TEJBORUN_SAME && result[0] == TEJBORUN_VIF1_QUADWORDS && result[1] == 0);
+    CHECK(result[2] == TEJBORUN_VIF1_INSTRUCTIONS && result[3] == 0 && result[4] == 3 && result[5] == 0);
+    words(&pair.data[1])[TEJBORUN_DATA_WORDS - 1]--;
+    CHECK(call_compare(&pair) == TEJBORUN_DIFFERENT && result[0] == LAST_QUADWORD && result[1] == 1);
+    CHECK(result[2] == TEJBORUN_VIF1_INSTRUCTIONS && result[5] == 0);
     words(&pair.data[0])[0]++;
-    pair.code[0].at[16383] ^= 1;
-    CHECK(call_compare(&pair) == 1 && result[0] == 0 && result[1] == 2 && result[2] == 2047 && result[3] == 1);
-    numbers(&pair.log[1])[5] ^= UINT64_C(1) << 63;
-    CHECK(call_compare(&pair) == 1 && result[4] == 2 && result[5] == 1);
+    pair.code[0].at[TEJBORUN_CODE_BYTES - 1] ^= 1;
+    CHECK(call_compare(&pair) == TEJBORUN_DIFFERENT && result[0] == 0 && result[1] == 2 && result[2] == LAST_INSTRUCTION && result[3] == 1);
+    entry(&pair.log[1], 2)[TEJBORUN_ENTRY_VALUE] ^= UINT64_C(1) << 63;
+    CHECK(call_compare(&pair) == TEJBORUN_DIFFERENT && result[4] == 2 && result[5] == 1);
     pair.used[1] = 2;
-    CHECK(call_compare(&pair) == 1 && result[4] == 2 && result[5] == 0);
+    CHECK(call_compare(&pair) == TEJBORUN_DIFFERENT && result[4] == 2 && result[5] == 0);
     pair.used[1] = 5;
-    CHECK(call_compare(&pair) == TEJBORUN_REFUSED + 4);
+    CHECK(call_compare(&pair) == TEJBORUN_REFUSED + TEJBORUN_BAD_LOG);
     free_pair(&pair);
     new_pair(&pair, &six, &six, end);
     pair.used[0] = 4;
-    CHECK(call_compare(&pair) == 1 && numbers(&pair.result)[4] == 3 && numbers(&pair.result)[5] == 0);
+    CHECK(call_compare(&pair) == TEJBORUN_DIFFERENT && numbers(&pair.result)[4] == 3 && numbers(&pair.result)[5] == 0);
     free_pair(&pair);
 }
 
@@ -600,9 +778,11 @@ static void test_wrong_compare(bool end)
     six.result = 6;
     few.result = 5;
     struct pair pair;
-    for (size_t i = 4; i < 13; i++) {
-        struct lengths wrong = wrong_entry[i].lengths;
+    for (size_t i = 0; i < WRONG_ENTRY; i++) {
+        struct lengths wrong = with_wrong(&wrong_entry[i]);
         wrong.result = 6;
+        if (wrong_entry[i].answer < TEJBORUN_BAD_DATA || wrong_entry[i].answer > TEJBORUN_BAD_LOG)
+            continue;
         for (int side = 0; side < 2; side++) {
             new_pair(&pair, side == 0 ? &wrong : &six, side == 0 ? &six : &wrong, end);
             pair.used[0] = pair.used[1] = 2;
@@ -626,12 +806,16 @@ int main(void)
         test_start(end);
         test_run(end);
         test_stops(end);
+        test_gif_stops(end);
         test_wrong_entry(end);
         test_wrong_state(end);
         test_build_and_run(end);
         test_compare(end);
         test_wrong_compare(end);
     }
+    test_unit_words();
+    test_path_words();
     puts("C interface: every function with good, short and wrong buffers, guard pages behind and before them: as the header says");
+    puts("state block: every word under its name");
     return 0;
 }

@@ -59,6 +59,28 @@ words() {
     od -An -v -tu4 -j "$2" -N $(($3 * 4)) "$1"
 }
 
+# word NUMBER: the four bytes of a word.
+word() {
+    printf '%b' "$(printf '\\0%o' $(($1 & 255)) $(($1 >> 8 & 255)) $(($1 >> 16 & 255)) $(($1 >> 24 & 255)))"
+}
+
+# The layout of files, from what the command itself writes: the bytes of a state block, the lengths of the memories and of the longest log, and the numbers of
+# a log entry. The head of a capture before the state block has 40 bytes, that of a sheet case 48; a result has 16 before and 4 behind it.
+layout() {
+    echo 'state channel=1' > reset.txt
+    echo capture > empty.txt
+    expect 0 assemble state reset.txt -o reset.state
+    expect 0 assemble capture empty.txt -o empty.capture
+    block_bytes=$(($(wc -c < reset.state)))
+    calls_at=$((40 + block_bytes)) sheet_at=$((48 + block_bytes)) result_head=$((16 + block_bytes + 4))
+    set -- $(words empty.capture 12 3)
+    data_words=$1 code_bytes=$2 log_numbers=$3
+    memory_bytes=$((4 * data_words + code_bytes)) quadwords=$((data_words / 4)) instructions=$((code_bytes / 8))
+    entries=65536
+    entry_numbers=$((log_numbers / entries))
+    echo "layout: a state block of $((block_bytes / 4)) words, $data_words words, $code_bytes bytes, $entries entries of $entry_numbers numbers"
+}
+
 # round KIND FILE: text and back gives the same bytes.
 round() {
     "$command" dump "$1" "$2" > round.txt 2> err || fail "dump $1 $2: $(cat err)"
@@ -70,6 +92,44 @@ round() {
 as_sheet() {
     # shellcheck disable=SC2059
     printf "$2" > "$1"
+}
+
+# give FIELD WORDS: adds the field to state.txt, its words numbered on from the last.
+give() {
+    if test "$2" = 1; then value=$next; else value=$((next | (next + 1) << 32)); fi
+    echo "state $1=$value" >> state.txt
+    next=$((next + $2))
+}
+
+# give_unit PREFIX, give_path PREFIX: the fields of a unit or a path block.
+give_unit() {
+    unit_at=$next
+    for field in cl wl ofst base tops top itops itop dbf mode mskpath3 mark mask row0 row1 row2 row3 col0 col1 col2 col3; do give "$1$field" 1; done
+    for field in waiting irq due address count format usn m held0 held1 held2; do give "$1$field" 1; done
+    unit_bytes=$((4 * (next - unit_at)))
+}
+
+give_path() {
+    for field in q place format nloop eop nreg; do give "$1$field" 1; done
+    give "$1descriptors" 2
+    give "$1due" 1
+}
+
+# Every field of the state block, in the order of docs/FORMATS.md: the text gives each word a number of its own.
+state_words() {
+    next=1000
+    : > state.txt
+    for field in channel tadr tte ended depth stack0 stack1 tag-words tag-word-at payload-words payload-at; do give $field 1; done
+    give used 2
+    give_unit ''
+    give_path path2.
+    give_path path3.
+    expect 0 assemble state state.txt -o state
+    words state 0 $((block_bytes / 4)) | tr -s ' ' '\n' | sed '/^$/d' > got
+    seq 1000 $((next - 1)) > wanted
+    same got wanted 'the words of the state block'
+    round state state
+    echo "state block: every word under its field's name, to text and back"
 }
 
 usage() {
@@ -133,6 +193,25 @@ bench_points() {
     expect 0 play two.sheet -o two.result
     says out '2 quadwords changed, first 0, last 1023'
     echo "bench points: the empty sheet, a start, data that wraps"
+}
+
+# Every answer of the scope document has a meaning in words.
+meanings() {
+    for answer in 0 1 2 3 4 5 10 11 12 13 14 20 21 22 23 24 30 31 40 41 42 43 44 45 46 47 60 90 91; do
+        echo "result answer=$answer" > meaning.txt
+        expect 0 assemble result meaning.txt -o meaning.result
+        expect 0 dump meaning.result
+        head -n 1 out >> meanings.txt
+    done
+    if grep -F 'without a meaning' meanings.txt >&2; then fail 'an answer without a meaning'; fi
+    if sed 's/.*#//' meanings.txt | sort | uniq -d | grep . >&2; then fail 'a meaning that two answers have'; fi
+    says meanings.txt '# main memory has length 0, no multiple of 16 or more than 1,048,576 bytes'
+    says meanings.txt "# a state block that is not $((block_bytes / 4)) words, or a result with too few numbers"
+    echo 'result answer=92' > meaning.txt
+    expect 0 assemble result meaning.txt -o meaning.result
+    expect 0 dump meaning.result
+    says out '# a number without a meaning'
+    echo "meanings: each answer's, in words"
 }
 
 # refused_sheet NUMBER OFFSET FILE: every command refuses the sheet and leaves nothing behind.
@@ -206,10 +285,10 @@ generated_sheets() {
     at=0 number=0 tried=0
     while test $at -lt "$size"; do
         length=$(words sheets $((at + 4)) 1)
-        whole=$((300 + (length + 3) / 4 * 4))
+        whole=$((sheet_at + (length + 3) / 4 * 4))
         if test $((number % step)) = 0; then
             slice sheets $at $whole > case
-            slice case 300 $((length)) > "sheet"
+            slice case "$sheet_at" $((length)) > "sheet"
             "$second" sheet < case > results || fail "second sheet, case $number"
             one_sheet sheet results
             tried=$((tried + 1))
@@ -224,7 +303,7 @@ generated_sheets() {
 replayed() {
     data=$1 code=$2 log=$3 calls=$4
     at=0 block=none run=none memories=none any_refused=0 idle=1
-    for kind in $(words case 292 $((4 * calls)) | awk '{ print $1 }'); do
+    for kind in $(words case "$calls_at" $((4 * calls)) | awk '{ print $1 }'); do
         answer=$(($(words results $at 1)))
         case $answer in
         0 | 90 | 91) idle=0 ;;
@@ -233,10 +312,10 @@ replayed() {
         if test "$kind" = 2 && test $(($(words results $((at + 4)) 1))) != 0; then idle=0; fi
         if test "$kind" = 1; then
             block=$((at + 4))
-            at=$((at + 256))
+            at=$((at + 4 + block_bytes))
         else
-            run=$at block=$((at + 12)) memories=$((at + 264))
-            at=$((at + 264 + 4 * data + (code + 3) / 4 * 4 + 8 * log))
+            run=$at block=$((at + 12)) memories=$((at + 12 + block_bytes))
+            at=$((memories + 4 * data + (code + 3) / 4 * 4 + 8 * log))
         fi
     done
     test "$at" = $(($(wc -c < results))) || fail 'results of another length'
@@ -246,26 +325,26 @@ replayed() {
 wanted_result() {
     printf 'TRES'
     if test $run = none; then printf '\0\0\0\0\0\0\0\0\0\0\0\0'; else slice results "$run" 12; fi
-    slice "$1" "$2" 252
+    slice "$1" "$2" "$block_bytes"
     slice case 20 4
-    if test $memories != none; then slice results "$memories" $((32768 + 8 * log)); fi
+    if test $memories != none; then slice results "$memories" $((memory_bytes + 8 * log)); fi
 }
 
 # one_capture: the case to text and back, and run; its result is replay's.
 one_capture() {
     set -- $(words case 4 9)
     round capture case
-    slice case 40 252 > state
+    slice case 40 "$block_bytes" > state
     round state state
     if test "$2" -gt 0 && test $(($2 % 4)) = 0 && test "$2" -le 262144; then
-        slice case $((292 + 16 * $9)) $((4 * $2)) > main
+        slice case $((calls_at + 16 * $9)) $((4 * $2)) > main
         round chain main
     fi
     { slice case 0 32; printf '\1\0\0\0'; tail -c +37 case; } > whole
     "$replay" < whole > results || fail 'replay'
     replayed "$3" "$4" "$5" "$9"
     rm -f result
-    if test "$3" != 4096 || test "$4" != 16384 || test $(($5 % 2)) != 0 || test "$5" -gt 131072; then
+    if test "$3" != "$data_words" || test "$4" != "$code_bytes" || test $(($5 % entry_numbers)) != 0 || test "$5" -gt "$log_numbers"; then
         expect $((2 - any_refused)) run case -o result
         says err 'not written'
         absent result
@@ -273,7 +352,7 @@ one_capture() {
     fi
     expect $any_refused run case -o result
     if test $block = none; then wanted_result case 40 > wanted; else wanted_result results "$block" > wanted; fi
-    if test $memories = none; then head -c 272 result > part; else cp result part; fi
+    if test $memories = none; then head -c "$result_head" result > part; else cp result part; fi
     # A refusal changes no buffer: then the words that mean nothing may stand as they were given, where replay writes zero.
     if test $idle = 1 && ! cmp -s part wanted; then wanted_result case 40 > wanted; fi
     same part wanted "capture $number"
@@ -287,7 +366,7 @@ generated_captures() {
     at_case=0 number=0 tried=0
     while test $at_case -lt "$size"; do
         set -- $(words captures $((at_case + 8)) 8)
-        length=$((292 + 16 * $8 + 4 * $1))
+        length=$((calls_at + 16 * $8 + 4 * $1))
         if test $((number % every)) = 0; then
             slice captures $at_case $length > case
             one_capture
@@ -370,7 +449,7 @@ comparisons() {
     says out 'result register 0x100 MSCAL, value 0x00000000000007FF'
     expect 1 compare board a
     says out 'only the board has 5 to 6'
-    edited a.txt 's/used=7/used=65537/'
+    edited a.txt "s/used=7/used=$((entries + 1))/"
     expect 1 compare a board
     says err 'refused 4: '
     expect 2 compare a missing
@@ -384,7 +463,7 @@ damaged() {
     kind=$1 file=$2
     shift 2
     size=$(wc -c < "$file")
-    for length in 0 1 3 4 100 251 271 291 $((size / 2)) $((size - 1)); do
+    for length in 0 1 3 4 39 40 100 $((block_bytes - 1)) $((result_head - 1)) $((calls_at - 1)) $((size / 2)) $((size - 1)); do
         test "$length" -lt "$size" || continue
         head -c "$length" "$file" > broken
         expect 2 dump "$kind" broken
@@ -398,9 +477,14 @@ damaged() {
     absent broken.out
 }
 
-# limit OFFSET BYTES: a capture with these bytes in its head is not read.
+# patched FILE OFFSET NUMBER: the file with another word at an offset, as broken.
+patched() {
+    { slice "$1" 0 "$2"; word "$3"; tail -c +$(($2 + 5)) "$1"; } > broken
+}
+
+# limit OFFSET NUMBER: a capture with this word in its head is not read.
 limit() {
-    { slice difference.capture 0 "$1"; printf '%b' "$2"; tail -c +$(($1 + 5)) difference.capture; } > broken
+    patched difference.capture "$1" "$2"
     expect 2 run broken -o broken.out
     says err 'damaged capture'
     expect 2 dump broken
@@ -411,18 +495,18 @@ damaged_files() {
     damaged capture difference.capture run broken -o broken.out
     damaged result difference.result compare difference.result broken
     expect 2 dump broken
-    limit 4 '\0041\0000\0020\0000'
-    limit 8 '\0001\0010\0000\0000'
-    limit 12 '\0005\0020\0000\0000'
-    limit 16 '\0011\0100\0000\0000'
-    limit 20 '\0011\0000\0002\0000'
-    limit 32 '\0002\0000\0000\0000'
-    limit 36 '\0000\0000\0001\0000'
-    limit 292 '\0003\0000\0000\0000'
+    limit 4 $((1048576 + 33))
+    limit 8 $((8192 / 4 + 1))
+    limit 12 $((data_words + 5))
+    limit 16 $((code_bytes + 9))
+    limit 20 $((log_numbers + 9))
+    limit 32 2
+    limit 36 65536
+    limit "$calls_at" 3
     cat difference.capture difference.capture > broken
     expect 2 run broken -o broken.out
     says err 'give a capture of one case'
-    slice difference.capture 40 252 > state
+    slice difference.capture 40 "$block_bytes" > state
     damaged state state
     for length in 0 1 3 17 100; do
         head -c $length difference.capture > broken
@@ -455,6 +539,49 @@ damaged_files() {
     absent broken.out missing-folder
     if test -e limited.partial; then fail 'limited.partial was left behind'; fi
     echo "damaged files: cut, longer, without mark, beyond each limit; outputs that cannot be written"
+}
+
+# another_layout KIND FILE END COMMAND..: the file, whose state block ends at a byte, is not read with a unit block more or less; the message tells the layout.
+another_layout() {
+    kind=$1 file=$2 end=$3
+    shift 3
+    for more in $unit_bytes -$unit_bytes; do
+        { { slice "$file" 0 "$end"; head -c "$unit_bytes" /dev/zero; } | head -c $((end + more)); tail -c +$((end + 1)) "$file"; } > broken
+        expect 2 dump "$kind" broken
+        says err "broken: a $kind of another layout: its state block has $(((block_bytes + more) / 4)) words, here it has $((block_bytes / 4));"
+        test $# = 0 || { expect 2 "$@"; says err 'of another layout'; }
+    done
+    absent broken.out
+}
+
+# another_kind FILE KIND COMMAND..: the file is told by its mark to be of a kind.
+another_kind() {
+    file=$1 kind=$2
+    shift 2
+    expect 2 "$@"
+    says err "$file: no "
+    says err "that of a $kind"
+}
+
+other_layouts() {
+    another_layout state state "$block_bytes"
+    another_layout capture difference.capture "$calls_at" run broken -o broken.out
+    another_layout result difference.result $((16 + block_bytes)) compare difference.result broken
+    numbers=$(($(words difference.result $((result_head - 4)) 1)))
+    patched difference.result $((result_head - 4)) $((numbers + 1))
+    expect 2 dump broken
+    says err "broken: damaged result: its log has $((numbers + 1)) numbers"
+    head -c 8 /dev/zero >> broken
+    expect 2 dump broken
+    says err "broken: a result of another layout: its log has $((numbers + 1)) numbers"
+    another_kind difference.result result run difference.result -o broken.out
+    another_kind difference.capture capture compare difference.result difference.capture
+    another_kind all-kinds.sheet sheet run all-kinds.sheet -o broken.out
+    expect 2 dump state difference.capture
+    says err 'no state: '
+    says err 'it begins with the mark of a capture'
+    absent broken.out
+    echo "other layouts: a state block with a unit block more or less, a log of no whole entries, another kind of file: each named"
 }
 
 # bad_text KIND LINE MESSAGE TEXT: the text is not assembled; the message names the line.
@@ -498,16 +625,16 @@ bad_texts() {
     bad_text state '' 'has no line that begins with state' ''
     bad_text capture '' "has no line 'capture'" 'state channel=1\n'
     bad_text capture 2 "'capture' is given twice" 'capture\ncapture\n'
-    bad_text capture '' 'damaged capture: 4101 words of data memory; the most is 4100' 'capture data-words=4101\n'
+    bad_text capture '' "damaged capture: $((data_words + 5)) words of data memory; the most is $((data_words + 4))" "capture data-words=$((data_words + 5))\n"
     bad_text capture '' 'damaged capture: 4 words given of main memory; the most is 3' 'capture main-bytes=15\nend\n'
     bad_text capture '' 'makes 1 bytes of main memory; give whole words' 'capture\nbyte 1\n'
     bad_text capture 2 "'start' has no field 'allowance'" 'capture\nstart allowance=1\n'
     bad_text result 1 "'state': the first line is 'result'" 'state channel=1\nresult\n'
-    bad_text result 2 'quadword 1024: the last is 1023' 'result\nquadword 1024 1 2 3 4\n'
-    bad_text result 2 'instruction 2048: the last is 2047' 'result\ninstruction 2048 1\n'
-    bad_text result 2 'entry 65536: the last is 65535' 'result\nentry 65536 1 1\n'
-    bad_text result 2 'entry 2: the log has 4 numbers' 'result log-numbers=4\nentry 2 1 1\n'
-    bad_text result '' 'not written: a result keeps a log of an even length' 'result log-numbers=3\n'
+    bad_text result 2 "quadword $quadwords: the last is $((quadwords - 1))" "result\nquadword $quadwords 1 2 3 4\n"
+    bad_text result 2 "instruction $instructions: the last is $((instructions - 1))" "result\ninstruction $instructions 1\n"
+    bad_text result 2 "entry $entries: the last is $((entries - 1))" "result\nentry $entries 1 1\n"
+    bad_text result 2 "entry 2: the log has $((2 * entry_numbers)) numbers, $entry_numbers for each" "result log-numbers=$((2 * entry_numbers))\nentry 2 1 1\n"
+    bad_text result '' 'not written: a result keeps a log of whole entries' "result log-numbers=$((entry_numbers + 1))\n"
     bad_text result '' "has no line 'result'" ''
     printf 'start addr=5\r\n\tstart addr=6 # no line end' > good.txt
     expect 0 assemble sheet good.txt -o good.sheet
@@ -516,12 +643,16 @@ bad_texts() {
     echo "texts: each kind of mistake with its line, no output left"
 }
 
+layout
+state_words
 usage
 bench_points
+meanings
 refused_sheets
 examples
 comparisons
 damaged_files
+other_layouts
 bad_texts
 generated_sheets
 generated_captures

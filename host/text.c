@@ -125,3 +125,9 @@ void write_word(struct output *output, uint32_t word)
     put_word(bytes, word);
     write_bytes(output, bytes, 4);
 }
+
+void write_words(struct output *output, const uint32_t *words, size_t count)
+{
+    for (size_t i = 0; i < count; i++)
+        write_word(output, words[i]);
+}

@@ -44,5 +44,6 @@ int expect_items(const struct text *text, const struct line *line, size_t count,
 
 void write_bytes(struct output *output, const uint8_t *bytes, size_t count);
 void write_word(struct output *output, uint32_t word);
+void write_words(struct output *output, const uint32_t *words, size_t count);
 
 #endif
