@@ -5,8 +5,8 @@ use mathlib.Core.List.{List}
 use Prim.Native.Nat.{ℕ}
 use Rattle.fields.specs.Fields.{if}
 use Rattle.chain.specs.declared.State.{State}
-use Rattle.chain.specs.declared.ReadState.{ReadState}
-use Rattle.chain.specs.Block.{stateBlock, stateInBlock}
+use Rattle.state_block.specs.declared.ReadState.{ReadState}
+use Rattle.state_block.specs.StateBlock.{stateBlock, stateInBlock}
 use Rattle.blocks.specs.Shown.{shownBlock}
 
 module _ (b : List ℕ) (s : State) {r : ReadState} (e : r ≡ stateInBlock b) where

@@ -1,16 +1,18 @@
 // State blocks of cases, and states and answers as results show them.
 use chain::Answer;
 use chain::State;
+use state_block::STATE_WORDS;
 ghost use mathlib.Core.Path.{_≡_};
 ghost use Rattle.chain.specs.Run.{numberOf};
 ghost use Rattle.cases.specs.Memories.{ruled, wordFrom};
+ghost use Rattle.state_block.specs.Sizes.{stateSize};
 ghost use Rattle.blocks.specs.Shown.{shownBlock};
 
 // The state block that starts at a place of a header.
-pub fn block_at(header: &[u8], at: u32) -> [u32; 63]
-    ensures { λ r. ⌜ r ≡ ruled (wordFrom (now (header .entry)) at) 63 ⌝ }
+pub fn block_at(header: &[u8], at: u32) -> [u32; STATE_WORDS]
+    ensures { λ r. ⌜ r ≡ ruled (wordFrom (now (header .entry)) at) stateSize ⌝ }
 {
-    let mut block = [0; 63];
+    let mut block = [0; STATE_WORDS];
     cases::read_words(header, at, &mut block);
     block
 }
@@ -28,12 +30,12 @@ pub fn answer_number(answer: Answer) -> u32
 }
 
 // What a result shows where the case gave this block and this state is left.
-pub fn shown_block(block: [u32; 63], state: State) -> [u32; 63]
+pub fn shown_block(block: [u32; STATE_WORDS], state: State) -> [u32; STATE_WORDS]
     ensures { λ r. ⌜ r ≡ shownBlock block state ⌝ }
 {
-    let r = chain::state_in_block(block);
+    let r = state_block::state_in_block(&block);
     if r.known {
-        return chain::state_block(state);
+        return state_block::state_block(state);
     }
     block
 }

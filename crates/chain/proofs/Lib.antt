@@ -6,4 +6,3 @@ pub mod AfterLaws
 pub mod RunLaws
 pub mod Theorems
 pub mod BurstLaws
-pub mod BlockLaws

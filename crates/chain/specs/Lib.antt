@@ -7,5 +7,4 @@ pub mod Step
 pub mod Start
 pub mod Run
 pub mod Stops
-pub mod Block
 pub mod Inner

@@ -17,7 +17,7 @@ ghost use mathlib.Core.Bool.{_&&_};
 ghost use Rattle.chain.specs.Range.{startInRange, stateInRange};
 ghost use Rattle.chain.specs.Start.{resetPath, resetUnit, resetState, startResult, startedFrom, startOf};
 
-pub(crate) fn reset_path() -> Path
+fn reset_path() -> Path
     ensures { λ r. ⌜ r ≡ resetPath ⌝ }
 {
     Path {
@@ -26,7 +26,7 @@ pub(crate) fn reset_path() -> Path
     }
 }
 
-pub(crate) fn reset_unit() -> Vif
+fn reset_unit() -> Vif
     ensures { λ r. ⌜ r ≡ resetUnit ⌝ }
 {
     Vif {

@@ -1,5 +1,4 @@
 // The DMA chain on channel 1 (VIF1) or 2 (GIF): state, start and run. What each function means is said by the definitions of specs/.
-mod block;
 mod burst;
 mod control;
 mod execution;
@@ -9,8 +8,6 @@ mod setters;
 mod step;
 mod tags;
 
-pub use block::state_block;
-pub use block::state_in_block;
 pub use control::reset;
 pub use control::start;
 pub use execution::run;
@@ -94,10 +91,4 @@ pub struct RunResult {
     pub answer: Answer,
     pub state: State,
     pub steps: u64,
-}
-
-// What a state block holds, and whether it is a state's.
-pub struct ReadState {
-    pub known: bool,
-    pub state: State,
 }

@@ -7,4 +7,3 @@ pub mod StepLaws
 pub mod FeedLaws
 pub mod ImageLaws
 pub mod SheetLaws
-pub mod BlockLaws

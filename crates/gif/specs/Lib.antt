@@ -7,5 +7,4 @@ pub mod Range
 pub mod Step
 pub mod Run
 pub mod Feed
-pub mod Block
 pub mod Inner

@@ -1,5 +1,4 @@
 // The GIF: tags and data, one quadword at a time, on one path. What each function means is said by the definitions of specs/.
-mod block;
 mod feed;
 mod image;
 mod log;
@@ -9,8 +8,6 @@ mod reglist;
 mod step;
 mod tag;
 
-pub use block::path_block;
-pub use block::path_in_block;
 pub use feed::take_quadwords;
 pub use log::log_refused;
 pub use log::write_entry;
@@ -60,12 +57,6 @@ pub enum Writes {
     Nothing,
     One(Entry),
     Two(Entry, Entry),
-}
-
-// What a path block holds.
-pub enum ReadPath {
-    Whole(Path),
-    Unknown,
 }
 
 pub enum GifAnswer {

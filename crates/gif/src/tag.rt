@@ -11,7 +11,7 @@ ghost use Rattle.gif.specs.Log.{listed};
 ghost use Rattle.gif.specs.Range.{TagFits};
 ghost use Rattle.gif.specs.Tag.{formatOf, nregOf, quadwordsOf, tagOf, takenOf, descriptorAt, placeAfter, placeAtTag, tagWrites};
 
-pub(crate) fn format_of(flg: u64) -> TagFormat
+fn format_of(flg: u64) -> TagFormat
     ensures { λ r. ⌜ r ≡ formatOf flg ⌝ }
 {
     match flg {

@@ -88,7 +88,7 @@ fn time(bytes: &[u8], quads: &mut [u64], log: &mut [u64]) {
     let mut out = [0u8; 65536];
     let n = emit(&mut out, 0, s.refused);
     let n = emit_long(&mut out, n, s.used);
-    let block = gif::path_block(path);
+    let block = state_block::path_block(path);
     let n = emit_all(&mut out, n, &block);
     let n = emit_long(&mut out, n, sum_of_longs(log));
     wire::flush(&out, n);

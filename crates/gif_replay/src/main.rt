@@ -4,11 +4,8 @@ use cases::read_words;
 use cases::tell_damaged;
 use cases::tell_long_changes;
 use gif::GifAnswer;
-use gif::HeldTag;
 use gif::Path;
-use gif::Place;
-use gif::ReadPath;
-use gif::TagFormat;
+use state_block::PATH_WORDS;
 use wire::emit;
 use wire::emit_all;
 use wire::emit_long;
@@ -29,8 +26,8 @@ struct Ended {
     whole: bool,
 }
 
-fn block_of(header: &[u8]) -> [u32; 9] {
-    let mut block = [0; 9];
+fn block_of(header: &[u8]) -> [u32; PATH_WORDS] {
+    let mut block = [0; PATH_WORDS];
     read_words(header, 28, &mut block);
     block
 }
@@ -43,9 +40,9 @@ fn number_of(answer: GifAnswer) -> u32 {
 }
 
 // The block that a result shows.
-fn shown(path: Path, known: bool, given: [u32; 9]) -> [u32; 9] {
+fn shown(path: Path, known: bool, given: [u32; PATH_WORDS]) -> [u32; PATH_WORDS] {
     if known {
-        return gif::path_block(path);
+        return state_block::path_block(path);
     }
     given
 }
@@ -54,7 +51,7 @@ fn shown(path: Path, known: bool, given: [u32; 9]) -> [u32; 9] {
 fn give(
     out: &mut [u8; 65536],
     s: Running,
-    given: [u32; 9],
+    given: [u32; PATH_WORDS],
     quad: &[u8],
     log: &mut [u64],
     before: &mut [u64],
@@ -82,7 +79,7 @@ fn give(
 fn give_all(
     out: &mut [u8; 65536],
     start: Running,
-    given: [u32; 9],
+    given: [u32; PATH_WORDS],
     count: u32,
     log: &mut [u64],
     before: &mut [u64],
@@ -108,34 +105,14 @@ fn give_all(
 }
 
 // What a case starts from. A block that is no path's stands for a path out of range.
-fn started(at: usize, given: [u32; 9], used: u64) -> Running {
-    match gif::path_in_block(given) {
-        ReadPath::Whole(path) => Running {
-            at,
-            path,
-            used,
-            known: true,
-        },
-        ReadPath::Unknown => Running {
-            at,
-            path: out_of_range(),
-            used,
-            known: false,
-        },
-    }
-}
-
-fn out_of_range() -> Path {
-    Path {
-        q: 0,
-        place: Place::Data(HeldTag {
-            nloop: 0,
-            eop: false,
-            format: TagFormat::Image,
-            nreg: 0,
-            descriptors: 0,
-            due: 0,
-        }),
+fn started(at: usize, given: [u32; PATH_WORDS], used: u64) -> Running {
+    let read = state_block::path_in_block(&given);
+    let path = read.path;
+    Running {
+        at,
+        path,
+        used,
+        known: read.known,
     }
 }
 

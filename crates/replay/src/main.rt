@@ -12,6 +12,7 @@ use input::read_case;
 use run::run_calls;
 use start::case_of;
 use start::state_of;
+use state_block::STATE_WORDS;
 use wire::joined;
 use wire::word_at;
 
@@ -19,7 +20,7 @@ use wire::word_at;
 struct Case {
     count: u32,
     whole: bool,
-    block: [u32; 63],
+    block: [u32; STATE_WORDS],
 }
 
 // Where the results stand, and the state that is given to the next call.

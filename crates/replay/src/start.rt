@@ -13,6 +13,7 @@ pub(crate) fn case_of(header: &[u8]) -> Case {
 }
 
 pub(crate) fn state_of(header: &[u8]) -> State {
-    let r = chain::state_in_block(block_at(header, 40));
+    let block = block_at(header, 40);
+    let r = state_block::state_in_block(&block);
     r.state
 }

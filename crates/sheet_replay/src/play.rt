@@ -42,7 +42,7 @@ fn play(
     let block = block_at(header, 48);
     let address = word_at(header, 16);
     let allowance = joined(word_at(header, 40), word_at(header, 44));
-    let given = chain::state_in_block(block);
+    let given = state_block::state_in_block(&block);
     let state = given.state;
     let r = conformance::build_and_run(sheet, main, address, data, code, log, state, allowance);
     let answer = r.answer;

@@ -1,5 +1,5 @@
 -- Buffers read and written.
-use mathlib.Core.Path.{_≡_, refl, ap, _∙_}
+use mathlib.Core.Path.{_≡_, refl, _∙_}
 use mathlib.Core.Bool.{Bool, true, false}
 use mathlib.Core.List.{List, []}
 use Prim.Native.Nat.{ℕ, _≤_}
@@ -10,8 +10,7 @@ use Rattle.fields.specs.Parts.{withWords}
 use Rattle.fields.proofs.PartLaws.{words-end}
 use Rattle.sheet.proofs.ListLaws.{sets-front}
 use Rattle.chain.specs.declared.State.{State}
-use Rattle.chain.specs.declared.ReadState.{ReadState}
-use Rattle.chain.specs.Block.{stateBlock, stateInBlock}
+use Rattle.state_block.specs.StateBlock.{stateBlock}
 use Rattle.tejborun.specs.Buffers.{written, writtenBack}
 
 -- numbers stored one after another from the start on
@@ -22,9 +21,6 @@ numbers-stored numbers result h = sets-front result numbers h
 -- words in place of as many
 all-words : (l ws : List ℕ) → length ws ≡ length l → withWords l 0 ws ≡ ws
 all-words l ws h = words-end [] l ws 0 refl h
-
-pub block-read : (z block : List ℕ) {ws : List ℕ} {r : ReadState} → length block ≡ length z → ws ≡ withWords z 0 block → r ≡ stateInBlock ws → r ≡ stateInBlock block
-block-read z block h e q = q ∙ ap stateInBlock (e ∙ all-words z block h)
 
 pub block-written : (block : List ℕ) (s : State) {ws after : List ℕ} → length ws ≡ length block → ws ≡ stateBlock s → after ≡ withWords block 0 ws → after ≡ stateBlock s
 block-written block s {ws} h e q = q ∙ all-words block ws h ∙ e

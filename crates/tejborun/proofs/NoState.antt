@@ -12,7 +12,9 @@ use Rattle.fields.proofs.ChoiceLaws.{if-ind}
 use Rattle.vif.specs.Step.{Lent}
 use Rattle.chain.specs.declared.State.{State}
 use Rattle.chain.specs.Range.{channelInRange, startInRange, stateInRange, entryRefusal}
-use Rattle.chain.specs.Block.{stateExists, usedInBlock, noState, readState, stateInBlock}
+use Rattle.state_block.specs.Sizes.{stateSize}
+use Rattle.state_block.specs.StateBlock.{usedInBlock, noState, readState, stateInBlock}
+use Rattle.state_block.proofs.StateLaws.{none-read}
 use Rattle.chain.specs.Start.{startOf}
 use Rattle.chain.specs.Run.{runOf}
 use Rattle.conformance.specs.Play.{playRefusal, playOf}
@@ -51,17 +53,16 @@ module _ (main : List ℕ) (m : Lent) (s : State) (h : stateInRange s ≡ false)
 not-zero : {n : ℕ} → OneToFive n → n ≡ 0 → ⊥
 not-zero h z = omega arith
 
-module _ (block : List ℕ) (h : length block ≡ 63) (none : stateExists block ≡ false) where
-  none-read : stateInBlock block ≡ readState false (noState (usedInBlock block))
-  unfolding stateInBlock if
-  none-read = rw none
+module _ (block : List ℕ) (h : length block ≡ stateSize) (unknown : stateInBlock block .known ≡ false) where
+  none : stateInBlock block ≡ readState false (noState (usedInBlock block))
+  none = none-read block h unknown
 
   -- a start answers 5
   pub none-started : (channel tadr tte : ℕ) → startCall block channel tadr tte ≡ blocked 5 block
   unfolding startCall startOf writtenBack if
   none-started channel tadr tte =
-      rw (eq-eqb (length block) 63 h)
-      (if-ind (λ (x : Blocked). x ≡ blocked 5 block) (ltb 1 tte) refl (rw (none-read, none-out (usedInBlock block))))
+      rw (eq-eqb (length block) stateSize h)
+      (if-ind (λ (x : Blocked). x ≡ blocked 5 block) (ltb 1 tte) refl (rw (none, none-out (usedInBlock block))))
 
   -- a run answers its entry refusal and counts no step
   pub none-run : (main : List ℕ) (m : Lent) (allowance : ℕ) (result : List ℕ) → 1 ≤ length result
@@ -71,7 +72,7 @@ module _ (block : List ℕ) (h : length block ≡ 63) (none : stateExists block 
   unfolding runCall runOf writtenBack if
   none-run main m allowance result l e =
       let f = entry-refused main m (noState (usedInBlock block)) (none-out (usedInBlock block)) in
-      (rw (eq-eqb (length block) 63 h, le-ltb (length result) 1 l, none-read, ne-eqb _ 0 (not-zero f), ← e), rw e f)
+      (rw (eq-eqb (length block) stateSize h, le-ltb (length result) 1 l, none, ne-eqb _ 0 (not-zero f), ← e), rw e f)
 
   -- building and running answers the refusal before the sheet's
   pub none-played : (sheet main : List ℕ) (address : ℕ) (m : Lent) (allowance : ℕ) (result : List ℕ) → 2 ≤ length result
@@ -81,4 +82,4 @@ module _ (block : List ℕ) (h : length block ≡ 63) (none : stateExists block 
   unfolding playCall playOf writtenBack if
   none-played sheet main address m allowance result l e =
       let f = play-refused main m (noState (usedInBlock block)) (none-out (usedInBlock block)) address in
-      (rw (eq-eqb (length block) 63 h, le-ltb (length result) 2 l, none-read, ne-eqb _ 0 (not-zero f), ← e), rw e f)
+      (rw (eq-eqb (length block) stateSize h, le-ltb (length result) 2 l, none, ne-eqb _ 0 (not-zero f), ← e), rw e f)

@@ -6,21 +6,22 @@ use borrow.Author.Tests.{eq-eqb, ne-eqb, lt-ltb, le-ltb}
 use lib.ListN.{length}
 use Rattle.fields.specs.Fields.{if}
 use Rattle.vif.specs.Step.{Lent}
-use Rattle.chain.specs.declared.ReadState.{ReadState}
-use Rattle.chain.specs.Block.{stateInBlock}
+use Rattle.state_block.specs.declared.ReadState.{ReadState}
+use Rattle.state_block.specs.Sizes.{stateSize}
+use Rattle.state_block.specs.StateBlock.{stateInBlock}
 use Rattle.conformance.specs.Play.{Played, playNumber, playOf}
 use Rattle.tejborun.specs.Buffers.{short, written, writtenBack}
 use Rattle.tejborun.specs.Play.{playOffset, left, playCall}
 
 module _ (sheet main : List ℕ) (address : ℕ) (m : Lent) (block : List ℕ) (allowance : ℕ) (result : List ℕ) where
-  pub play-no-block : (length block ≡ 63 → ⊥) → left short main m block result ≡ playCall sheet main address m block allowance result
+  pub play-no-block : (length block ≡ stateSize → ⊥) → left short main m block result ≡ playCall sheet main address m block allowance result
   unfolding playCall if
-  play-no-block h = rw (ne-eqb (length block) 63 h)
+  play-no-block h = rw (ne-eqb (length block) stateSize h)
 
-  module _ (h : length block ≡ 63) where
+  module _ (h : length block ≡ stateSize) where
     pub play-short : length result < 2 → left short main m block result ≡ playCall sheet main address m block allowance result
     unfolding playCall if
-    play-short l = rw (eq-eqb (length block) 63 h, lt-ltb (length result) 2 l)
+    play-short l = rw (eq-eqb (length block) stateSize h, lt-ltb (length result) 2 l)
 
     pub play-done : 2 ≤ length result → {read : ReadState} → read ≡ stateInBlock block
         → {x : Played}
@@ -35,4 +36,4 @@ module _ (sheet main : List ℕ) (address : ℕ) (m : Lent) (block : List ℕ) (
         → n ≡ playNumber (x .answer)
         → left n (x .main) (x .memories) after numbers ≡ playCall sheet main address m block allowance result
     unfolding playCall if
-    play-done l e q b o w k = rw (eq-eqb (length block) 63 h, le-ltb (length result) 2 l, ← e, ← q, b, w, o, k)
+    play-done l e q b o w k = rw (eq-eqb (length block) stateSize h, le-ltb (length result) 2 l, ← e, ← q, b, w, o, k)

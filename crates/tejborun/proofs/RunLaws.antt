@@ -8,34 +8,35 @@ use lib.Dec.{eqb}
 use Rattle.fields.specs.Fields.{if}
 use Rattle.vif.specs.Step.{Lent}
 use Rattle.chain.specs.declared.State.{State}
-use Rattle.chain.specs.declared.ReadState.{ReadState}
+use Rattle.state_block.specs.declared.ReadState.{ReadState}
 use Rattle.chain.specs.declared.StartResult.{StartResult}
 use Rattle.chain.specs.declared.RunResult.{RunResult}
-use Rattle.chain.specs.Block.{stateBlock, stateInBlock}
+use Rattle.state_block.specs.Sizes.{stateSize}
+use Rattle.state_block.specs.StateBlock.{stateBlock, stateInBlock}
 use Rattle.chain.specs.Start.{resetState, startNumber, startOf}
 use Rattle.chain.specs.Run.{numberOf, leftBy, runOf}
 use Rattle.tejborun.specs.Buffers.{short, written, writtenBack}
 use Rattle.tejborun.specs.Runs.{blocked, resetCall, startCall, left, runCall}
 
 module _ (block : List ℕ) where
-  pub reset-short : (length block ≡ 63 → ⊥) → blocked short block ≡ resetCall block
+  pub reset-short : (length block ≡ stateSize → ⊥) → blocked short block ≡ resetCall block
   unfolding resetCall if
-  reset-short h = rw (ne-eqb (length block) 63 h)
+  reset-short h = rw (ne-eqb (length block) stateSize h)
 
-  pub reset-done : length block ≡ 63 → {s : State} → s ≡ resetState → {after : List ℕ} → after ≡ stateBlock s → blocked 0 after ≡ resetCall block
+  pub reset-done : length block ≡ stateSize → {s : State} → s ≡ resetState → {after : List ℕ} → after ≡ stateBlock s → blocked 0 after ≡ resetCall block
   unfolding resetCall if
-  reset-done h e q = rw (eq-eqb (length block) 63 h, q, e)
+  reset-done h e q = rw (eq-eqb (length block) stateSize h, q, e)
 
 module _ (block : List ℕ) (channel tadr tte : ℕ) where
-  pub start-short : (length block ≡ 63 → ⊥) → blocked short block ≡ startCall block channel tadr tte
+  pub start-short : (length block ≡ stateSize → ⊥) → blocked short block ≡ startCall block channel tadr tte
   unfolding startCall if
-  start-short h = rw (ne-eqb (length block) 63 h)
+  start-short h = rw (ne-eqb (length block) stateSize h)
 
-  pub start-high : length block ≡ 63 → 1 < tte → blocked 5 block ≡ startCall block channel tadr tte
+  pub start-high : length block ≡ stateSize → 1 < tte → blocked 5 block ≡ startCall block channel tadr tte
   unfolding startCall if
-  start-high h l = rw (eq-eqb (length block) 63 h, lt-ltb 1 tte l)
+  start-high h l = rw (eq-eqb (length block) stateSize h, lt-ltb 1 tte l)
 
-  pub start-done : length block ≡ 63 → tte ≤ 1 → {read : ReadState} → read ≡ stateInBlock block
+  pub start-done : length block ≡ stateSize → tte ≤ 1 → {read : ReadState} → read ≡ stateInBlock block
       → {x : StartResult}
       → x ≡ startOf (read .state) channel tadr (eqb tte 1)
       → {after : List ℕ}
@@ -44,17 +45,17 @@ module _ (block : List ℕ) (channel tadr tte : ℕ) where
       → n ≡ startNumber (x .answer)
       → blocked n after ≡ startCall block channel tadr tte
   unfolding startCall if
-  start-done h l e q b k = rw (eq-eqb (length block) 63 h, le-ltb 1 tte l, ← e, ← q, b, k)
+  start-done h l e q b k = rw (eq-eqb (length block) stateSize h, le-ltb 1 tte l, ← e, ← q, b, k)
 
 module _ (main : List ℕ) (m : Lent) (block : List ℕ) (allowance : ℕ) (result : List ℕ) where
-  pub run-no-block : (length block ≡ 63 → ⊥) → left short m block result ≡ runCall main m block allowance result
+  pub run-no-block : (length block ≡ stateSize → ⊥) → left short m block result ≡ runCall main m block allowance result
   unfolding runCall if
-  run-no-block h = rw (ne-eqb (length block) 63 h)
+  run-no-block h = rw (ne-eqb (length block) stateSize h)
 
-  module _ (h : length block ≡ 63) where
+  module _ (h : length block ≡ stateSize) where
     pub run-short : length result < 1 → left short m block result ≡ runCall main m block allowance result
     unfolding runCall if
-    run-short l = rw (eq-eqb (length block) 63 h, lt-ltb (length result) 1 l)
+    run-short l = rw (eq-eqb (length block) stateSize h, lt-ltb (length result) 1 l)
 
     pub run-done : 1 ≤ length result → {read : ReadState} → read ≡ stateInBlock block
         → {x : RunResult} {m′ : Lent}
@@ -67,4 +68,4 @@ module _ (main : List ℕ) (m : Lent) (block : List ℕ) (allowance : ℕ) (resu
         → n ≡ numberOf (x .answer)
         → left n m′ after numbers ≡ runCall main m block allowance result
     unfolding runCall if
-    run-done l e q b w k = rw (eq-eqb (length block) 63 h, le-ltb (length result) 1 l, ← e, ← q, b, w, k)
+    run-done l e q b w k = rw (eq-eqb (length block) stateSize h, le-ltb (length result) 1 l, ← e, ← q, b, w, k)

@@ -6,15 +6,15 @@ use lib.ListN.{length, drop}
 use lib.Dec.{eqb}
 use Rattle.fields.specs.Fields.{if}
 use Rattle.chain.specs.declared.State.{State}
-use Rattle.chain.specs.Block.{stateBlock}
+use Rattle.state_block.specs.Sizes.{stateSize}
+use Rattle.state_block.specs.StateBlock.{stateBlock}
 
--- the refusal of a block that is not 63 words, or of a result with fewer numbers than the call writes
+-- the refusal of a block that is not as long as a state's, or of a result with fewer numbers than the call writes
 abbrev pub short : ℕ
 short = 60
 
--- a state block is 63 words
 abbrev pub wrongBlock : List ℕ → Bool
-wrongBlock block = not (eqb (length block) 63)
+wrongBlock block = not (eqb (length block) stateSize)
 
 -- numbers at the start of a result, those beyond them as they were
 unfoldable pub written : List ℕ → List ℕ → List ℕ

@@ -6,8 +6,8 @@ use lib.ListN.{length}
 use lib.Dec.{ltb}
 use Rattle.fields.specs.Fields.{if}
 use Rattle.vif.specs.Step.{Lent}
-use Rattle.chain.specs.declared.ReadState.{ReadState}
-use Rattle.chain.specs.Block.{stateInBlock}
+use Rattle.state_block.specs.declared.ReadState.{ReadState}
+use Rattle.state_block.specs.StateBlock.{stateInBlock}
 use Rattle.conformance.specs.declared.PlayAnswer.{PlayAnswer}
 use Rattle.conformance.specs.declared.PlayAnswer.the-variants.{Ended, Refused}
 use Rattle.conformance.specs.Play.{Played, playOf, playNumber}

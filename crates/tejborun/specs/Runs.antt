@@ -6,9 +6,9 @@ use lib.ListN.{length}
 use lib.Dec.{eqb, ltb}
 use Rattle.fields.specs.Fields.{if}
 use Rattle.vif.specs.Step.{Lent}
-use Rattle.chain.specs.declared.ReadState.{ReadState}
+use Rattle.state_block.specs.declared.ReadState.{ReadState}
 use Rattle.chain.specs.declared.StartResult.{StartResult}
-use Rattle.chain.specs.Block.{stateBlock, stateInBlock}
+use Rattle.state_block.specs.StateBlock.{stateBlock, stateInBlock}
 use Rattle.chain.specs.Start.{resetState, startNumber, startOf}
 use Rattle.chain.specs.Run.{Ran, numberOf, runOf}
 use Rattle.tejborun.specs.Buffers.{short, wrongBlock, written, writtenBack}

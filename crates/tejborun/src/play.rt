@@ -1,9 +1,10 @@
 // A sheet's chain built in main memory, started and run.
 use super::blocks::put_back;
-use super::blocks::read_block;
 use super::results::put_two;
 use super::runs::run_number;
 use conformance::PlayAnswer;
+use state_block::STATE_WORDS;
+use state_block::state_in_block;
 ghost use mathlib.Core.Path.{_≡_};
 ghost use Rattle.vif.specs.Step.{lent};
 ghost use Rattle.conformance.specs.Play.{playNumber};
@@ -41,13 +42,13 @@ pub extern "C" fn tejborun_build_and_run(
 ) -> u32
     ensures { λ r. ⌜ left r (now (main .exit)) (lent (now («data» .exit)) (now (code .exit)) (now (log .exit))) (now (block .exit)) (now (result .exit)) ≡ playCall (now (sheet .entry)) (now (main .entry)) address (lent (now («data» .entry)) (now (code .entry)) (now (log .entry))) (now (block .entry)) allowance (now (result .entry)) ⌝ }
 {
-    if block.len() != 63 {
+    if block.len() != STATE_WORDS {
         return 60;
     }
     if result.len() < 2 {
         return 60;
     }
-    let read = read_block(block);
+    let read = state_in_block(block);
     let known = read.known;
     let given = read.state;
     let r = conformance::build_and_run(sheet, main, address, data, code, log, given, allowance);

@@ -1,10 +1,11 @@
 // Calls on a state block: reset, start and run.
 use super::blocks::put_back;
 use super::blocks::put_state;
-use super::blocks::read_block;
 use super::results::put_one;
 use chain::Answer;
 use chain::StartAnswer;
+use state_block::STATE_WORDS;
+use state_block::state_in_block;
 ghost use mathlib.Core.Path.{_≡_};
 ghost use Rattle.vif.specs.Step.{lent};
 ghost use Rattle.chain.specs.Start.{startNumber};
@@ -35,7 +36,7 @@ pub(crate) fn run_number(answer: Answer) -> u32
 pub extern "C" fn tejborun_reset(block: &mut [u32]) -> u32
     ensures { λ r. ⌜ blocked r (now (block .exit)) ≡ resetCall (now (block .entry)) ⌝ }
 {
-    if block.len() != 63 {
+    if block.len() != STATE_WORDS {
         return 60;
     }
     put_state(block, chain::reset());
@@ -46,13 +47,13 @@ pub extern "C" fn tejborun_reset(block: &mut [u32]) -> u32
 pub extern "C" fn tejborun_start(block: &mut [u32], channel: u32, tadr: u32, tte: u32) -> u32
     ensures { λ r. ⌜ blocked r (now (block .exit)) ≡ startCall (now (block .entry)) channel tadr tte ⌝ }
 {
-    if block.len() != 63 {
+    if block.len() != STATE_WORDS {
         return 60;
     }
     if 1 < tte {
         return 5;
     }
-    let read = read_block(block);
+    let read = state_in_block(block);
     let known = read.known;
     let given = read.state;
     let r = chain::start(given, channel, tadr, tte == 1);
@@ -74,13 +75,13 @@ pub extern "C" fn tejborun_run(
 ) -> u32
     ensures { λ r. ⌜ left r (lent (now («data» .exit)) (now (code .exit)) (now (log .exit))) (now (block .exit)) (now (result .exit)) ≡ runCall (now (main .entry)) (lent (now («data» .entry)) (now (code .entry)) (now (log .entry))) (now (block .entry)) allowance (now (result .entry)) ⌝ }
 {
-    if block.len() != 63 {
+    if block.len() != STATE_WORDS {
         return 60;
     }
     if result.len() < 1 {
         return 60;
     }
-    let read = read_block(block);
+    let read = state_in_block(block);
     let known = read.known;
     let given = read.state;
     let r = chain::run(main, data, code, log, given, allowance);

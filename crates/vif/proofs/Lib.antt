@@ -6,6 +6,5 @@ pub mod MpgLaws
 pub mod KeepLaws
 pub mod RangeKept
 pub mod SheetLaws
-pub mod BlockLaws
 pub mod FeedLaws
 pub mod BurstLaws

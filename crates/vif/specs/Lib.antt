@@ -8,5 +8,4 @@ pub mod Words
 pub mod Step
 pub mod Feeds
 pub mod Feed
-pub mod Block
 pub mod Inner

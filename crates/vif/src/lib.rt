@@ -1,5 +1,4 @@
 // The VIF1 unit: codes, registers, payload, and DIRECT into the GIF's path 2. What each function means is said by the definitions of specs/.
-mod block;
 mod bursts;
 mod decode;
 mod direct;
@@ -12,8 +11,6 @@ mod registers;
 mod step;
 mod words;
 
-pub use block::unit_block;
-pub use block::unit_in_block;
 pub use feed::take_words;
 pub use range::unit_in_range;
 pub use step::take;
@@ -104,12 +101,6 @@ pub struct Vif {
     pub row: [u32; 4],
     pub col: [u32; 4],
     pub waiting: Waiting,
-}
-
-// What a unit block holds; where it holds no unit, `unit` is one out of range.
-pub struct ReadUnit {
-    pub known: bool,
-    pub unit: Vif,
 }
 
 // The next word, by its number in its quadword; at word 0 the whole quadword lies ready.

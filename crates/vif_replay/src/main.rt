@@ -11,6 +11,8 @@ use input::read_case;
 use run::run_groups;
 use start::case_of;
 use start::running_of;
+use state_block::PATH_WORDS;
+use state_block::UNIT_WORDS;
 use vif::Vif;
 use wire::joined;
 use wire::word_at;
@@ -22,8 +24,8 @@ struct Case {
     groups: u32,
     count: u32,
     known: bool,
-    unit: [u32; 32],
-    path: [u32; 9],
+    unit: [u32; UNIT_WORDS],
+    path: [u32; PATH_WORDS],
 }
 
 // Where the results stand, and what is given to the next call.

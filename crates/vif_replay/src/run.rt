@@ -4,7 +4,8 @@ use super::Running;
 use super::input::nth;
 use cases::tell_changes;
 use gif::Path;
-use gif::ReadPath;
+use state_block::PATH_WORDS;
+use state_block::UNIT_WORDS;
 use vif::Incoming;
 use vif::Vif;
 use vif::VifAnswer;
@@ -108,16 +109,16 @@ fn calls(
 }
 
 // The blocks that a result shows.
-fn shown_unit(case: Case, unit: Vif) -> [u32; 32] {
+fn shown_unit(case: Case, unit: Vif) -> [u32; UNIT_WORDS] {
     if case.known {
-        return vif::unit_block(unit);
+        return state_block::unit_block(unit);
     }
     case.unit
 }
 
-fn shown_path(case: Case, path: Path) -> [u32; 9] {
+fn shown_path(case: Case, path: Path) -> [u32; PATH_WORDS] {
     if case.known {
-        return gif::path_block(path);
+        return state_block::path_block(path);
     }
     case.path
 }
@@ -134,17 +135,17 @@ fn tell_state(out: &mut [u8; 65536], s: Running, case: Case) -> usize {
 }
 
 fn path_back(path: Path) -> Path {
-    match gif::path_in_block(gif::path_block(path)) {
-        ReadPath::Whole(p) => p,
-        ReadPath::Unknown => path,
-    }
+    let block = state_block::path_block(path);
+    let r = state_block::path_in_block(&block);
+    r.path
 }
 
 // The unit and the path, read back from their blocks.
 fn read_back(s: Running, at: usize) -> Running {
     let unit = s.unit;
     let path = s.path;
-    let r = vif::unit_in_block(vif::unit_block(unit));
+    let block = state_block::unit_block(unit);
+    let r = state_block::unit_in_block(&block);
     let unit2 = r.unit;
     Running {
         at,

@@ -2,55 +2,23 @@
 use super::Case;
 use super::Running;
 use cases::read_words;
-use gif::HeldTag;
-use gif::Path;
-use gif::Place;
-use gif::ReadPath;
-use gif::TagFormat;
+use state_block::PATH_WORDS;
+use state_block::UNIT_WORDS;
+use state_block::path_in_block;
+use state_block::unit_in_block;
 use wire::joined;
 use wire::word_at;
 
-// A path, and whether a block had it.
-struct FoundPath {
-    known: bool,
-    path: Path,
-}
-
-fn unit_words(header: &[u8]) -> [u32; 32] {
-    let mut block = [0u32; 32];
+fn unit_words(header: &[u8]) -> [u32; UNIT_WORDS] {
+    let mut block = [0; UNIT_WORDS];
     read_words(header, 32, &mut block);
     block
 }
 
-fn path_words(header: &[u8]) -> [u32; 9] {
-    let mut block = [0u32; 9];
+fn path_words(header: &[u8]) -> [u32; PATH_WORDS] {
+    let mut block = [0; PATH_WORDS];
     read_words(header, 160, &mut block);
     block
-}
-
-// Stands for the path of a block that is no path's.
-fn out_of_range() -> Path {
-    Path {
-        q: 0,
-        place: Place::Data(HeldTag {
-            nloop: 0,
-            eop: false,
-            format: TagFormat::Image,
-            nreg: 0,
-            descriptors: 0,
-            due: 0,
-        }),
-    }
-}
-
-fn path_of(block: [u32; 9]) -> FoundPath {
-    match gif::path_in_block(block) {
-        ReadPath::Whole(path) => FoundPath { known: true, path },
-        ReadPath::Unknown => FoundPath {
-            known: false,
-            path: out_of_range(),
-        },
-    }
 }
 
 fn both(a: bool, b: bool) -> bool {
@@ -60,7 +28,7 @@ fn both(a: bool, b: bool) -> bool {
     false
 }
 
-fn case_with(header: &[u8], known: bool, unit: [u32; 32], path: [u32; 9]) -> Case {
+fn case_with(header: &[u8], known: bool, unit: [u32; UNIT_WORDS], path: [u32; PATH_WORDS]) -> Case {
     Case {
         number: word_at(header, 196),
         groups: word_at(header, 200),
@@ -74,14 +42,16 @@ fn case_with(header: &[u8], known: bool, unit: [u32; 32], path: [u32; 9]) -> Cas
 pub(crate) fn case_of(header: &[u8]) -> Case {
     let unit = unit_words(header);
     let path = path_words(header);
-    let r = vif::unit_in_block(unit);
-    let p = path_of(path);
+    let r = unit_in_block(&unit);
+    let p = path_in_block(&path);
     case_with(header, both(r.known, p.known), unit, path)
 }
 
 pub(crate) fn running_of(header: &[u8], at: usize) -> Running {
-    let r = vif::unit_in_block(unit_words(header));
-    let p = path_of(path_words(header));
+    let unit_block = unit_words(header);
+    let path_block = path_words(header);
+    let r = unit_in_block(&unit_block);
+    let p = path_in_block(&path_block);
     let unit = r.unit;
     let path = p.path;
     Running {

@@ -10,4 +10,4 @@ returns-2 : tie.Need-returns-2
 returns-2 c = shown-unknown _ _ (c .before .state-in-block .ensures) (c .if1 .left)
 
 pub shown-block-spec : {M : Type 1} → statement M
-shown-block-spec = tie.close (tie.spec (λ c κs. search needs) (λ c κs. search needs) returns returns-2)
+shown-block-spec = tie.close (tie.spec (λ c. search needs) (λ c κs. search needs) (λ c κs. search needs) returns returns-2)

@@ -15,7 +15,7 @@ returns-3 c =
     let s = p .before .before .before in
     let r = s .before .before in
     let t = r .before .before in
-    start-done _ _ _ _ (t .before .if1 .left) (t .if2 .left) (r .read-block .ensures) (s .start .ensures) (p .put-back .ensures) (c .start-number .ensures)
+    start-done _ _ _ _ (t .before .if1 .left) (t .if2 .left) (r .state-in-block .ensures) (s .start .ensures) (p .put-back .ensures) (c .start-number .ensures)
 
 pub tejborun-start-spec : {M : Type 1} → statement M
 tejborun-start-spec =
