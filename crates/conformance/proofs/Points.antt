@@ -6,14 +6,16 @@ use Rattle.gif.specs.Log.{logged, lacksRoom, logRefused}
 use Rattle.gif.specs.Packed.{packedWrites}
 use Rattle.gif.specs.Tag.{formatOf, nregOf, quadwordsOf as gifQuadwordsOf, tagOf, takenOf, descriptorAt, placeAfter, placeAtTag, tagWrites}
 use Rattle.gif.specs.Step.{commit, tagStep, packedWith, gifStep}
+use Rattle.unpack.specs.Formats.{namedIn}
 use Rattle.unpack.specs.Mask.{rowOfCycle, codeAt, maskOf}
 use Rattle.unpack.specs.Payload.{vectorBits, payloadWords, wholeVectors}
 use Rattle.unpack.specs.Position.{positionOf}
+use Rattle.unpack.specs.Range.{cycleRefused}
 use Rattle.unpack.specs.Vector.{extended, element, fieldsOf, fiveFields, vectorAt}
 use Rattle.unpack.specs.Write.{added, rowOf, dataOf, fieldOf, rowsAfter, putField, writtenAt, writeVector, writeVectors}
 use Rattle.unpack.specs.Step.{countOf, unpackingOf, takenWords, acting, heldVector, wordOf, unpackWord}
-use Rattle.vif.specs.Codes.{quadwordsOf as directQuadwordsOf, plainCode, unpackCode, unpackNumbers, codeOf, decodeOf}
-use Rattle.vif.specs.Execute.{startProgram, setMode, beginMpg, addressOf, cycleRefused, beginUnpack}
+use Rattle.vif.specs.Codes.{quadwordsOf as directQuadwordsOf, plainCode, unpackNumbers, codeOf, decodeOf}
+use Rattle.vif.specs.Execute.{startProgram, setMode, beginMpg, addressOf, beginUnpack}
 use Rattle.vif.specs.Payload.{completes, orNothing, wordPlace, mpgStored}
 use Rattle.vif.specs.Range.{registersInRange, waitingInRange, unitInRange}
 use Rattle.vif.specs.Step.{codeStep, giveQuadword, unpackStep, vifStep}
@@ -44,7 +46,7 @@ unfolding rowOfCycle codeAt maskOf vectorBits payloadWords wholeVectors position
 unpackOpen = tt
 
 vifOpen : Unit {0}
-unfolding directQuadwordsOf plainCode unpackCode unpackNumbers codeOf decodeOf startProgram setMode beginMpg addressOf cycleRefused beginUnpack completes orNothing wordPlace mpgStored registersInRange waitingInRange unitInRange codeStep giveQuadword unpackStep vifStep
+unfolding directQuadwordsOf plainCode namedIn unpackNumbers codeOf decodeOf startProgram setMode beginMpg addressOf cycleRefused beginUnpack completes orNothing wordPlace mpgStored registersInRange waitingInRange unitInRange codeStep giveQuadword unpackStep vifStep
 vifOpen = tt
 
 chainOpen : Unit {0}

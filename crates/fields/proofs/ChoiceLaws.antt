@@ -1,5 +1,5 @@
 -- Laws of the choice by a test, and of tests joined.
-use mathlib.Core.Path.{_≡_, refl}
+use mathlib.Core.Path.{_≡_, refl, sym}
 use mathlib.Core.Bool.{Bool, true, false, not, _&&_, _||_}
 use Prim.Native.Nat.{ℕ, _<_}
 use native.Mathlib.Omega.{arith}
@@ -39,6 +39,10 @@ or-left false b h = refl
 pub or-right : (a b : Bool) → (a || b) ≡ false → b ≡ false
 or-right true b h = absurd (let z : _≡_ {A = ℕ} 0 1 = cc in omega arith)
 or-right false b h = h
+
+pub not-true : (b : Bool) → not b ≡ true → b ≡ false
+not-true true h = sym h
+not-true false h = refl
 
 -- ---- tests in turn
 

@@ -1,4 +1,5 @@
 -- Laws of the definitions, by subject; the crates above cite them.
+pub mod FormatLaws
 pub mod PayloadLaws
 pub mod VectorLaws
 pub mod WriteLaws

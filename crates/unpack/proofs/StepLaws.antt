@@ -1,22 +1,23 @@
 -- The step from what its parts give, and its tests as facts.
-use mathlib.Core.Path.{_≡_, refl, sym, ap, _∙_}
-use mathlib.Core.Bool.{Bool, true, false, _&&_}
-use mathlib.Core.List.{List, [], _∷_}
-use Prim.Native.Nat.{ℕ, suc, _+_, _*_, _-_, _/_, _%_, _<_, _≤_}
+use mathlib.Core.Path.{_≡_, _∙_}
+use mathlib.Core.Bool.{Bool, true, false, not}
+use mathlib.Core.List.{List}
+use Prim.Native.Nat.{ℕ, _+_, _*_, _-_, _%_, _<_, _≤_}
 use native.Mathlib.Nat.{le-refl}
 use native.Mathlib.Omega.{arith}
 use borrow.Author.Tests.{leb-true, eqb-true, eqb-false, le-leb}
 use lib.ListN.{length}
 use lib.Dec.{eqb, leb}
 use Rattle.fields.specs.Fields.{if}
-use Rattle.fields.proofs.ChoiceLaws.{and-left, and-right, if-ind-by}
+use Rattle.fields.proofs.ChoiceLaws.{and-left, and-right, or-left, not-true, if-ind-by}
 use Rattle.unpack.specs.declared.Format.{Format}
 use Rattle.unpack.specs.declared.Unpacking.{Unpacking}
 use Rattle.unpack.specs.declared.Registers.{Registers}
 use Rattle.unpack.specs.Payload.{payloadWords, wholeVectors}
+use Rattle.unpack.specs.Position.{addresses, addressMost}
 use Rattle.unpack.specs.Write.{Written, written, writeVectors}
-use Rattle.unpack.specs.Range.{cycleInRange, unpackingInRange, CycleFits, UnpackingFits}
-use Rattle.unpack.specs.Inner.{MemoryFits, WordFits, VectorIn}
+use Rattle.unpack.specs.Range.{cycleRefused, cycleInRange, unpackingInRange, CycleFits, UnpackingFits}
+use Rattle.unpack.specs.Inner.{MemoryFits, WordFits}
 use Rattle.unpack.specs.Step.{countOf, unpackingOf, takenWords, acting, heldVector, wordOf, unpackWord, acceptable, Left, takeOf}
 use Rattle.unpack.proofs.PayloadLaws.{whole-few, vector-in, payload-most, payload-some}
 
@@ -31,28 +32,38 @@ count-few num = count-range num .1
 
 -- ---- tests as facts
 
+-- a cycle that rule 22 accepts has a write
+cycle-some : (cl wl : ℕ) → cycleRefused cl wl ≡ false → 1 ≤ wl
+unfolding cycleRefused
+cycle-some cl wl h = let z = eqb-false wl 0 (or-left _ _ h) in omega arith
+
+pub accepted-cycle : (cl wl : ℕ) → cycleRefused cl wl ≡ false → cl ≤ 255 → wl ≤ 255 → cycleInRange cl wl ≡ true
+unfolding cycleInRange
+accepted-cycle cl wl h m w = rw (h, le-leb cl 255 m, le-leb wl 255 w)
+
 pub cycle-fits : (cl wl : ℕ) → cycleInRange cl wl ≡ true → CycleFits cl wl
 unfolding cycleInRange
 cycle-fits cl wl h =
-    let h′ = and-right (leb 1 wl) _ h in
+    let a = not-true _ (and-left _ _ h) in
+    let h′ = and-right (not (cycleRefused cl wl)) _ h in
     record {
-      some = leb-true 1 wl (and-left _ _ h);
-      below = leb-true wl cl (and-left _ _ h′);
-      most = leb-true cl 255 (and-right (leb wl cl) _ h′);
+      accepted = a;
+      some = cycle-some cl wl a;
+      most = leb-true cl 255 (and-left _ _ h′);
+      wide = leb-true wl 255 (and-right (leb cl 255) _ h′);
     }
 
 pub fits-cycle : (cl wl : ℕ) → CycleFits cl wl → cycleInRange cl wl ≡ true
-unfolding cycleInRange
-fits-cycle cl wl f = rw (le-leb 1 wl (f .some), le-leb wl cl (f .below), le-leb cl 255 (f .most))
+fits-cycle cl wl f = accepted-cycle cl wl (f .accepted) (f .most) (f .wide)
 
 pub unpacking-fits : (f : Format) (u : Unpacking) → unpackingInRange f u ≡ true → UnpackingFits f u
 unfolding unpackingInRange
 unpacking-fits f u h =
-    let h1 = and-right (leb (u .address) 1023) _ h in
+    let h1 = and-right (leb (u .address) addressMost) _ h in
     let h2 = and-right (leb 1 (u .count)) _ h1 in
     let h3 = and-right (leb (u .count) 256) _ h2 in
     record {
-      inside = leb-true (u .address) 1023 (and-left _ _ h);
+      inside = leb-true (u .address) addressMost (and-left _ _ h);
       some = leb-true 1 (u .count) (and-left _ _ h1);
       few = leb-true (u .count) 256 (and-left _ _ h2);
       left = leb-true 1 (u .due) (and-left _ _ h3);
@@ -62,7 +73,7 @@ unpacking-fits f u h =
 pub fits-unpacking : (f : Format) (u : Unpacking) → UnpackingFits f u → unpackingInRange f u ≡ true
 unfolding unpackingInRange
 fits-unpacking f u x =
-    rw (le-leb (u .address) 1023 (x .inside), le-leb 1 (u .count) (x .some), le-leb (u .count) 256 (x .few), le-leb 1 (u .due) (x .left), le-leb (u .due) (payloadWords f (u .count)) (x .most))
+    rw (le-leb (u .address) addressMost (x .inside), le-leb 1 (u .count) (x .some), le-leb (u .count) 256 (x .few), le-leb 1 (u .due) (x .left), le-leb (u .due) (payloadWords f (u .count)) (x .most))
 
 pub record Acceptable (size : ℕ) (f : Format) (u : Unpacking) (r : Registers) (mem : List ℕ) : Type 0 where
   pub memory : MemoryFits size mem
@@ -74,13 +85,13 @@ pub acceptable-fits : (size : ℕ) (f : Format) (u : Unpacking) (r : Registers) 
 unfolding acceptable
 acceptable-fits size f u r mem h =
     let h1 = and-right (leb 1 size) _ h in
-    let h2 = and-right (leb size 1024) _ h1 in
+    let h2 = and-right (leb size addresses) _ h1 in
     let h3 = and-right (eqb (length mem) (4 * size)) _ h2 in
     record {
       memory =
           record {
             some = leb-true 1 size (and-left _ _ h);
-            most = leb-true size 1024 (and-left _ _ h1);
+            most = leb-true size addresses (and-left _ _ h1);
             long = eqb-true (length mem) (4 * size) (and-left _ _ h2);
           };
       cycle = cycle-fits (r .cl) (r .wl) (and-left _ _ h3);

@@ -1,5 +1,5 @@
 -- Elements and vectors of four words.
-use mathlib.Core.Path.{_≡_, refl, sym, ap, _∙_}
+use mathlib.Core.Path.{_≡_, refl, ap, _∙_}
 use mathlib.Core.Bool.{Bool, true, false}
 use mathlib.Core.List.{List, [], _∷_}
 use Prim.Native.Nat.{ℕ, zero, suc, _+_, _*_, _-_, _/_, _%_, _^_, _<_, _≤_}
@@ -14,7 +14,7 @@ use Rattle.unpack.specs.declared.Format.{Format}
 use Rattle.unpack.specs.Payload.{elementBits, elements, isFive, vectorBits, value}
 use Rattle.unpack.specs.Vector.{extended, element, fieldsOf, fiveFields, extendedAt, vectorAt}
 use Rattle.unpack.specs.Inner.{Width, eight, sixteen, whole, ElementFits, VectorFits}
-use Rattle.unpack.proofs.PayloadLaws.{width-of, width-some, few-elements}
+use Rattle.unpack.proofs.PayloadLaws.{width-of, width-some}
 
 -- half the range of a width, once for every width
 pub halves : (w : ℕ) → 1 ≤ w → w ≤ 32 → (0 < 2 ^ (w - 1)) × (2 ^ (w - 1) ≤ 2147483648) × (2 ^ w ≡ 2 * 2 ^ (w - 1)) × (1 * 2 ^ (w - 1) % 4294967296 ≡ 2 ^ (w - 1))

@@ -7,7 +7,7 @@ use Prim.Native.Nat.{ℕ, zero, suc, _+_, _*_, _-_, _/_, _%_, _^_, _<_, _≤_}
 use native.Mathlib.Nat.{add-zero, sub-zero, zero-add, add-assoc, mul-add, mul-assoc, mul-le-mul-left, mul-le-mul-right, suc-mul, mul-suc, add-mul-div-left, div-div-eq-div-mul, mul-div-mul-left, div-eq-of-lt, zero-div, div-one, mod-one, mul-one, min-zero, min-eq-left, le-div-iff-mul-le, div-mul-le-self}
 use native.Mathlib.Omega.{arith}
 use borrow.Author.Tests.{ne-eqb}
-use lib.ListN.{length, getD, set, length-set}
+use lib.ListN.{length, getD, length-set}
 use lib.Seq.{getD-set-other}
 use lib.Dec.{ltb}
 use lib.Pow.{pow-pos, pow-add}
@@ -20,9 +20,9 @@ use Rattle.unpack.specs.declared.Unpacking.{Unpacking}
 use Rattle.unpack.specs.declared.Registers.{Registers}
 use Rattle.unpack.specs.Payload.{elementBits, elements, isFive, vectorBits, payloadWords, value, wholeVectors}
 use Rattle.unpack.specs.Vector.{extended, element, fieldsOf, fiveFields, vectorAt}
-use Rattle.unpack.specs.Position.{positionOf}
+use Rattle.unpack.specs.Position.{addresses, positionOf}
 use Rattle.unpack.specs.Mask.{maskOf, codeAt, codeRow}
-use Rattle.unpack.specs.Write.{rowOf, dataOf, fieldOf, rowsAfter, putField, writtenAt, Written, written, writeVector, writeVectors}
+use Rattle.unpack.specs.Write.{rowsAfter, putField, writtenAt, Written, written, writeVector, writeVectors}
 use Rattle.unpack.specs.Step.{countOf, unpackingOf, takenWords, holds, acting, heldVector, wordOf, unpackWord}
 use Rattle.unpack.specs.Whole.{payloadVector, unpackedBy, takeWords, heldAfter, storeQuadword, copyVectors, fourWords}
 use Rattle.unpack.specs.Inner.{VectorIn, plain}
@@ -262,7 +262,7 @@ whole-all f n =
 pub payload-whole : (size : ℕ) (f : Format) (a num : ℕ) (usn masked i : Bool) (r : Registers) (ws : List ℕ) (w : Written) → Words ws
     → length ws ≡ payloadWords f (countOf num)
     → takeWords size f (unpackingOf f a num usn masked i) r ws w
-    ≡ writeVectors size (a % 1024) (acting f (unpackingOf f a num usn masked i) r) (payloadVector f usn ws) (countOf num) 0 w
+    ≡ writeVectors size (a % addresses) (acting f (unpackingOf f a num usn masked i) r) (payloadVector f usn ws) (countOf num) 0 w
 unfolding unpackedBy unpackingOf
 payload-whole size f a num usn masked i r ws w h l =
     payload-theorem size f a num usn masked i r ws w h (omega arith) ∙ rw (l, whole-all f (countOf num))
@@ -369,10 +369,10 @@ v4-words n = omega arith
 pub v4-payload : (size a num : ℕ) (usn i : Bool) (r : Registers) (ws : List ℕ) (w : Written) → Words ws → length ws ≡ 4 * countOf num
     → r .cl ≡ 1 → r .wl ≡ 1 → r .mode ≡ 0 → length (w .row) ≡ 4
     → takeWords size V4x32 (unpackingOf V4x32 a num usn false i) r ws w
-    ≡ written (w .row) (copyVectors size (a % 1024) (fourWords ws) (countOf num) 0 (w .mem))
+    ≡ written (w .row) (copyVectors size (a % addresses) (fourWords ws) (countOf num) 0 (w .mem))
 unfolding acting unpackingOf maskOf if
 v4-payload size a num usn i r ws w h l hc hw hm hr =
     let u = unpackingOf V4x32 a num usn false i in
     payload-whole size V4x32 a num usn false i r ws w h (l ∙ sym (v4-words (countOf num)))
-    ∙ same-writes size (a % 1024) (acting V4x32 u r) (payloadVector V4x32 usn ws) (fourWords ws) (countOf num) 0 w (λ j s t. v4-vector usn h j)
-    ∙ v4-written size (a % 1024) (acting V4x32 u r) hc hw hm refl (fourWords ws) (countOf num) w hr
+    ∙ same-writes size (a % addresses) (acting V4x32 u r) (payloadVector V4x32 usn ws) (fourWords ws) (countOf num) 0 w (λ j s t. v4-vector usn h j)
+    ∙ v4-written size (a % addresses) (acting V4x32 u r) hc hw hm refl (fourWords ws) (countOf num) w hr

@@ -9,6 +9,7 @@ use Rattle.unpack.specs.declared.Format.{Format}
 use Rattle.unpack.specs.declared.Unpacking.{Unpacking}
 use Rattle.unpack.specs.declared.Registers.{Registers}
 use Rattle.unpack.specs.Payload.{elementBits, vectorBits}
+use Rattle.unpack.specs.Position.{addresses, addressMost}
 use Rattle.unpack.specs.Range.{CycleFits}
 
 -- the widths that elements have
@@ -42,14 +43,14 @@ plain codes mode =
 -- a memory of `size` quadwords
 pub record MemoryFits (size : ℕ) (mem : List ℕ) : Type 0 where
   pub some : 1 ≤ size
-  pub most : size ≤ 1024
+  pub most : size ≤ addresses
   pub long : length mem ≡ 4 * size
 
 -- what the writes of word k need
 pub record WordFits (size : ℕ) (f : Format) (u : Unpacking) (r : Registers) (k from to : ℕ) (mem : List ℕ) : Type 0 where
   pub cycle : CycleFits (r .cl) (r .wl)
   pub memory : MemoryFits size mem
-  pub inside : u .address ≤ 1023
+  pub inside : u .address ≤ addressMost
   pub few : to ≤ 256
   pub words : k ≤ 1024
   pub each : (i : ℕ) → from ≤ i → i < to → VectorIn f k i

@@ -1,4 +1,5 @@
 -- UNPACK, as document 01's chapter "VIF codes" has it from "UNPACK:" on, read top to bottom.
+pub mod Formats
 pub mod Payload
 pub mod Vector
 pub mod Position

@@ -1,28 +1,35 @@
 -- The range of a waiting UNPACK: "if its step would accept it under the held CL and WL, ... with one unit to all of its payload still due"; a unit is a word.
 use Prim.Native.Nat.{ℕ, _≤_}
-use mathlib.Core.Bool.{Bool, _&&_}
-use lib.Dec.{leb}
+use mathlib.Core.Path.{_≡_}
+use mathlib.Core.Bool.{Bool, false, not, _&&_, _||_}
+use lib.Dec.{eqb, leb, ltb}
 use Rattle.unpack.specs.declared.Format.{Format}
 use Rattle.unpack.specs.declared.Unpacking.{Unpacking}
 use Rattle.unpack.specs.Payload.{payloadWords}
+use Rattle.unpack.specs.Position.{addressMost}
 
--- "22 UNPACK with WL 0 or WL > CL", as what is accepted; CL and WL have eight bits
+-- "22 UNPACK with WL 0 or WL > CL"
+unfoldable pub cycleRefused : ℕ → ℕ → Bool
+cycleRefused cl wl = eqb wl 0 || ltb cl wl
+
+-- what is accepted; CL and WL have eight bits
 unfoldable pub cycleInRange : ℕ → ℕ → Bool
-cycleInRange cl wl = leb 1 wl && (leb wl cl && leb cl 255)
+cycleInRange cl wl = not (cycleRefused cl wl) && (leb cl 255 && leb wl 255)
 
 unfoldable pub unpackingInRange : Format → Unpacking → Bool
 unpackingInRange f u =
-    leb (u .address) 1023
+    leb (u .address) addressMost
     && (leb 1 (u .count) && (leb (u .count) 256 && (leb 1 (u .due) && leb (u .due) (payloadWords f (u .count)))))
 
 -- the same as facts, for inner functions
 pub record CycleFits (cl wl : ℕ) : Type 0 where
+  pub accepted : cycleRefused cl wl ≡ false
   pub some : 1 ≤ wl
-  pub below : wl ≤ cl
   pub most : cl ≤ 255
+  pub wide : wl ≤ 255
 
 pub record UnpackingFits (f : Format) (u : Unpacking) : Type 0 where
-  pub inside : u .address ≤ 1023
+  pub inside : u .address ≤ addressMost
   pub some : 1 ≤ u .count
   pub few : u .count ≤ 256
   pub left : 1 ≤ u .due

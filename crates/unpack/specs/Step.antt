@@ -11,6 +11,7 @@ use Rattle.unpack.specs.declared.Registers.{Registers}
 use Rattle.unpack.specs.declared.Rows.{Rows}
 use Rattle.unpack.specs.Payload.{isFive, vectorBits, payloadWords, value, wholeVectors}
 use Rattle.unpack.specs.Vector.{vectorAt}
+use Rattle.unpack.specs.Position.{addresses}
 use Rattle.unpack.specs.Mask.{maskOf}
 use Rattle.unpack.specs.Write.{Written, written, writeVectors}
 use Rattle.unpack.specs.Range.{cycleInRange, unpackingInRange}
@@ -23,7 +24,7 @@ countOf num = if (eqb (num % 256) 0) 256 (num % 256)
 unfoldable pub unpackingOf : Format → ℕ → ℕ → Bool → Bool → Bool → Unpacking
 unpackingOf f a num usn masked interrupt =
     record {
-      address = a % 1024;
+      address = a % addresses;
       count = countOf num;
       due = payloadWords f (countOf num);
       usn = usn;
@@ -95,7 +96,7 @@ left r mem = record { accepted = r .accepted; row = r .row; mem = mem }
 unfoldable pub acceptable : ℕ → Format → Unpacking → Registers → List ℕ → Bool
 acceptable size f u r mem =
     leb 1 size
-    && (leb size 1024 && (eqb (length mem) (4 * size) && (cycleInRange (r .cl) (r .wl) && unpackingInRange f u)))
+    && (leb size addresses && (eqb (length mem) (4 * size) && (cycleInRange (r .cl) (r .wl) && unpackingInRange f u)))
 
 abbrev pub leftOf : Written → Left
 leftOf w = record { accepted = true; row = w .row; mem = w .mem }

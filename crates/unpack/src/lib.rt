@@ -1,5 +1,6 @@
 // UNPACK: the vectors that a payload word completes are written to data memory. What each function means is said by the definitions of specs/.
 mod cycle;
+mod formats;
 mod mask;
 mod payload;
 mod range;
@@ -7,11 +8,19 @@ mod step;
 mod vector;
 mod write;
 
+pub use formats::format_named;
+pub use formats::format_number;
 pub use payload::count_of;
 pub use payload::waiting_for;
 pub use range::cycle_in_range;
+pub use range::cycle_refused;
 pub use range::unpacking_in_range;
 pub use step::take_word;
+
+// Addresses of quadwords have ten bits.
+pub const ADDRESSES: u32 = 1024;
+
+pub const ADDRESS_MOST: u32 = 1023;
 
 pub enum Format {
     S32,
@@ -27,6 +36,12 @@ pub enum Format {
     V4x16,
     V4x8,
     V4x5,
+}
+
+// The format that a number names.
+pub enum NamedFormat {
+    Named(Format),
+    Missing,
 }
 
 // An UNPACK that waits for payload: its quadword address, its vectors, the payload words still due, USN, M, its interrupt bit, and the last three

@@ -1,4 +1,5 @@
 // Formats and the size of their payload.
+use super::ADDRESSES;
 use super::Format;
 use super::Unpacking;
 ghost use mathlib.Core.Path.{_≡_};
@@ -108,7 +109,7 @@ pub fn waiting_for(
 {
     let count = count_of(num);
     Unpacking {
-        address: address % 1024,
+        address: address % ADDRESSES,
         count,
         due: payload_words(f, count),
         usn,

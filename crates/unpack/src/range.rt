@@ -1,28 +1,39 @@
 // The range of a waiting UNPACK.
+use super::ADDRESS_MOST;
 use super::Format;
 use super::Unpacking;
 use super::payload::payload_words;
 ghost use mathlib.Core.Path.{_≡_};
-ghost use Rattle.unpack.specs.Range.{cycleInRange, unpackingInRange};
+ghost use Rattle.unpack.specs.Range.{cycleRefused, cycleInRange, unpackingInRange};
+
+// Whether an UNPACK is refused for CL and WL.
+pub fn cycle_refused(cl: u32, wl: u32) -> bool
+    ensures { λ r. ⌜ r ≡ cycleRefused cl wl ⌝ }
+{
+    if wl == 0 {
+        return true;
+    }
+    cl < wl
+}
 
 // Whether CL and WL are such that an UNPACK is accepted.
 pub fn cycle_in_range(cl: u32, wl: u32) -> bool
     ensures { λ r. ⌜ r ≡ cycleInRange cl wl ⌝ }
 {
-    if wl < 1 {
+    if cycle_refused(cl, wl) {
         return false;
     }
-    if cl < wl {
+    if 255 < cl {
         return false;
     }
-    cl <= 255
+    wl <= 255
 }
 
 // Whether a waiting UNPACK is in its range.
 pub fn unpacking_in_range(f: Format, u: Unpacking) -> bool
     ensures { λ r. ⌜ r ≡ unpackingInRange f u ⌝ }
 {
-    if 1023 < u.address {
+    if ADDRESS_MOST < u.address {
         return false;
     }
     if u.count < 1 {

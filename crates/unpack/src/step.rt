@@ -1,4 +1,5 @@
 // One payload word of an UNPACK.
+use super::ADDRESSES;
 use super::Format;
 use super::Registers;
 use super::Rows;
@@ -69,7 +70,8 @@ fn write_vectors(
     data: &mut [u32],
 ) -> [u32; 4]
     requires { ⌜ WordFits size f u r k from to (now «data») ⌝ }
-    ensures { λ rows. ⌜ written rows (now («data» .exit)) ≡ writeVectors size (u .address) r (heldVector f u word k) (to - from) from (written row (now («data» .entry))) ⌝ }
+    ensures { λ rows. ⌜ written rows (now («data» .exit))
+        ≡ writeVectors size (u .address) r (heldVector f u word k) (to - from) from (written row (now («data» .entry))) ⌝ }
 {
     let codes = unfold_mask(r.mask);
     let col = r.col;
@@ -141,7 +143,7 @@ fn acceptable_input(size: u32, f: Format, u: Unpacking, r: Registers, data: &[u3
     if size < 1 {
         return false;
     }
-    if 1024 < size {
+    if ADDRESSES < size {
         return false;
     }
     if data.len() != 4 * size as usize {

@@ -5,7 +5,7 @@ use super::cycle::place_in_cycle;
 ghost use mathlib.Core.Path.{_≡_};
 ghost use Prim.Native.Nat.{_<_, _≤_, _+_, _*_, _%_};
 ghost use lib.ListN.{length, getD};
-ghost use Rattle.unpack.specs.Position.{positionOf};
+ghost use Rattle.unpack.specs.Position.{addressMost, positionOf};
 ghost use Rattle.unpack.specs.Mask.{rowOfCycle, codeRow};
 ghost use Rattle.unpack.specs.Write.{added, rowOf, dataOf, fieldOf, rowsAfter, putField, writtenAt, written, writeVector};
 ghost use Rattle.unpack.specs.Whole.{storeQuadword};
@@ -144,7 +144,7 @@ fn wrapped(size: u32, at: u32) -> u32
 
 // The quadword that a write goes to.
 fn position(size: u32, address: u32, cl: u32, wl: u32, i: u32) -> u32
-    requires { ⌜ CycleFits cl wl × (0 < size) × (address ≤ 1023) × (i ≤ 255) ⌝ }
+    requires { ⌜ CycleFits cl wl × (0 < size) × (address ≤ addressMost) × (i ≤ 255) ⌝ }
     ensures { λ r. ⌜ r ≡ positionOf size address cl wl i ⌝ }
 {
     let start = cycles_before(wl, i) * cl;
@@ -163,7 +163,8 @@ pub(crate) fn write_vector(
     row: [u32; 4],
     data: &mut [u32],
 ) -> [u32; 4]
-    requires { ⌜ CycleFits (r .cl) (r .wl) × MemoryFits size (now «data») × (address ≤ 1023) × (i ≤ 255) × (codes ≡ codeRow (r .mask) (rowOfCycle (r .wl) i)) × (col ≡ getD (r .col) (rowOfCycle (r .wl) i) 0) ⌝ }
+    requires { ⌜ CycleFits (r .cl) (r .wl) × MemoryFits size (now «data») × (address ≤ addressMost) × (i ≤ 255)
+        × (codes ≡ codeRow (r .mask) (rowOfCycle (r .wl) i)) × (col ≡ getD (r .col) (rowOfCycle (r .wl) i) 0) ⌝ }
     ensures { λ rows. ⌜ written rows (now («data» .exit)) ≡ writeVector size address r i fields (written row (now («data» .entry))) ⌝ }
 {
     let quad = position(size, address, r.cl, r.wl, i);

@@ -1,23 +1,21 @@
 -- A refusal changes nothing, and a step keeps the memories' lengths and the log's room.
-use mathlib.Core.Path.{_≡_, refl, sym, ap, _∙_}
-use mathlib.Core.Bool.{Bool, true, false}
+use mathlib.Core.Path.{_≡_, refl, ap}
+use mathlib.Core.Bool.{Bool, false}
 use mathlib.Core.List.{List, [], _∷_}
 use Prim.Native.Nat.{ℕ, _+_, _*_, _-_, _%_, _≤_}
-use native.Mathlib.Nat.{add-zero}
 use native.Mathlib.Omega.{arith}
 use borrow.Author.Tests.{ltb-false, le-ltb}
 use lib.ListN.{length}
-use lib.Seq.{sets, length-sets}
+use lib.Seq.{length-sets}
 use lib.Dec.{eqb, ltb}
 use Rattle.fields.specs.Fields.{if}
 use Rattle.fields.proofs.ChoiceLaws.{if-ind, if-ind-by, or-left, or-right}
 use Rattle.gif.specs.declared.Path.{Path}
 use Rattle.gif.specs.declared.GifAnswer.{GifAnswer}
 use Rattle.gif.specs.declared.GifAnswer.the-variants.{Taken, Refused as GifRefused}
-use Rattle.gif.specs.Log.{entry, logged, lacksRoom, logRefused}
-use Rattle.gif.specs.Step.{Left as GifLeft, gifStep}
+use Rattle.gif.specs.Log.{entry, lacksRoom, logRefused}
+use Rattle.gif.specs.Step.{Left as GifLeft}
 use Rattle.gif.proofs.LogLaws.{logged-length}
-use Rattle.gif.proofs.RangeLaws.{log-fits}
 use Rattle.gif.proofs.StepLaws.{Wrote, step-wrote}
 use Rattle.unpack.specs.Write.{written}
 use Rattle.unpack.proofs.LengthLaws.{word-length}
@@ -28,7 +26,6 @@ use Rattle.vif.specs.declared.Decoded.{Decoded}
 use Rattle.vif.specs.declared.Decoded.the-variants.{Known, Unknown}
 use Rattle.vif.specs.declared.Incoming.{Incoming}
 use Rattle.vif.specs.declared.Incoming.the-variants.{Word0, Word1, Word2, Word3}
-use Rattle.vif.specs.declared.VifAnswer.{VifAnswer}
 use Rattle.vif.specs.declared.VifAnswer.the-variants.{Word, Quadword, Refused}
 use Rattle.vif.specs.declared.Waiting.{Waiting}
 use Rattle.vif.specs.declared.Waiting.the-variants.{Nothing, MaskDue, RowDue, ColDue, MpgDue, DirectDue, DirecthlDue, UnpackDue}
@@ -36,9 +33,7 @@ use Rattle.vif.specs.declared.Vif.{Vif}
 use Rattle.vif.specs.Codes.{interruptOf, decodeOf}
 use Rattle.vif.specs.Execute.{Executed, executed, codeResult, resultWith, startProgram, setMode, beginMpg, beginUnpack, executeOf, decodedStep}
 use Rattle.vif.specs.Payload.{mpgStored, bytesOf, wordPlace, writeRegisters}
-use Rattle.vif.specs.Step.{Lent, lent, Left, leaves, refused, wordIn, afterCode, afterGif, giveQuadword, directStep, unpackStep, codeStep, stepBy, vifStep, takeOf}
-use Rattle.vif.specs.Range.{unitInRange}
-use Rattle.vif.specs.Inner.{GifReady, StepReady}
+use Rattle.vif.specs.Step.{Lent, Left, leaves, refused, wordIn, afterCode, afterGif, giveQuadword, directStep, unpackStep, codeStep, stepBy, vifStep}
 
 -- what a step does to the log: entries more, by which `used` grows
 pub record LogGrows (used : ℕ) (log : List ℕ) (used′ : ℕ) (log′ : List ℕ) : Type 0 where

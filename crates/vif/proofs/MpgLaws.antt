@@ -19,7 +19,7 @@ use Rattle.vif.specs.declared.Waiting.{Waiting}
 use Rattle.vif.specs.declared.Waiting.the-variants.{Nothing, MaskDue, RowDue, ColDue, MpgDue, DirectDue, DirecthlDue, UnpackDue}
 use Rattle.vif.specs.declared.Vif.{Vif}
 use Rattle.vif.specs.Payload.{instructions, bytesOf, wordPlace, mpgStored}
-use Rattle.vif.specs.Step.{Lent, Left, wordIn, afterGif, giveQuadword, directStep, unpackStep, codeStep, stepBy, vifStep}
+use Rattle.vif.specs.Step.{Lent, wordIn, afterGif, giveQuadword, directStep, unpackStep, codeStep, stepBy, vifStep}
 
 -- a word is four stores
 pub four-stores : (code : List ℕ) (at word : ℕ)

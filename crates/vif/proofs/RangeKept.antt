@@ -1,15 +1,15 @@
 -- A unit in range stays in range, and so a step leaves what the next one accepts.
-use mathlib.Core.Path.{_≡_, refl, sym, ap, _∙_}
-use mathlib.Core.Bool.{Bool, true, false, not, _&&_}
+use mathlib.Core.Path.{_≡_, refl, _∙_}
+use mathlib.Core.Bool.{Bool, true, false, not}
 use mathlib.Core.List.{List}
-use Prim.Native.Nat.{ℕ, _+_, _*_, _-_, _%_, _^_, _<_, _≤_}
+use Prim.Native.Nat.{ℕ, _+_, _*_, _-_, _^_, _<_, _≤_}
 use native.Mathlib.Omega.{arith}
-use borrow.Author.Tests.{leb-true, le-leb, eqb-true, eqb-false, ltb-false}
-use lib.ListN.{length}
-use lib.Dec.{eqb, leb, ltb}
-use Rattle.fields.specs.Fields.{if, bits, quadword}
+use borrow.Author.Tests.{leb-true, le-leb, eqb-false}
+use lib.Dec.{eqb, leb}
+use Rattle.fields.specs.Fields.{bits, quadword}
+use Rattle.fields.specs.Refusals.{cmdUnlisted, formatMissing}
 use Rattle.fields.proofs.FieldLaws.{bits-below}
-use Rattle.fields.proofs.ChoiceLaws.{and-left, and-right, or-left, or-right, if-ind, if-ind-by}
+use Rattle.fields.proofs.ChoiceLaws.{and-left, and-right, if-ind, if-ind-by}
 use Rattle.gif.specs.declared.Path.{Path}
 use Rattle.gif.specs.declared.GifAnswer.{GifAnswer}
 use Rattle.gif.specs.declared.GifAnswer.the-variants.{Taken, Refused as GifRefused}
@@ -17,12 +17,12 @@ use Rattle.gif.specs.Range.{pathInRange}
 use Rattle.gif.specs.Step.{Left as GifLeft, gifStep}
 use Rattle.gif.proofs.RangeLaws.{log-fits}
 use Rattle.gif.proofs.StepLaws.{step-ranged}
-use Rattle.unpack.specs.declared.Format.{Format}
-use Rattle.unpack.specs.declared.Format.the-variants.{S32, S16, S8, V2x32, V2x16, V2x8, V3x32, V3x16, V3x8, V4x32, V4x16, V4x8, V4x5}
-use Rattle.unpack.specs.declared.Unpacking.{Unpacking}
-use Rattle.unpack.specs.Range.{cycleInRange, unpackingInRange, UnpackingFits}
+use Rattle.unpack.specs.declared.NamedFormat.{NamedFormat}
+use Rattle.unpack.specs.declared.NamedFormat.the-variants.{Named, Missing}
+use Rattle.unpack.specs.Formats.{formatNamed}
+use Rattle.unpack.specs.Range.{cycleRefused, cycleInRange}
 use Rattle.unpack.specs.Step.{countOf, holds, unpackingOf}
-use Rattle.unpack.proofs.StepLaws.{count-range, fits-cycle, unpacking-fits, fits-unpacking, begun-fits}
+use Rattle.unpack.proofs.StepLaws.{count-range, accepted-cycle, unpacking-fits, fits-unpacking, begun-fits}
 use Rattle.vif.specs.declared.Code.{Code}
 use Rattle.vif.specs.declared.Code.the-variants.{Nop, Stcycl, Offset, Base, Itop, Stmod, Mskpath3, Mark, Flushe, Flush, Flusha, Mscal, Mscalf, Mscnt, Stmask, Strow, Stcol, Mpg, Direct, Directhl, Unpack}
 use Rattle.vif.specs.declared.UnpackCode.{UnpackCode}
@@ -35,14 +35,14 @@ use Rattle.vif.specs.declared.Waiting.{Waiting}
 use Rattle.vif.specs.declared.Waiting.the-variants.{Nothing, MaskDue, RowDue, ColDue, MpgDue, DirectDue, DirecthlDue, UnpackDue}
 use Rattle.vif.specs.declared.Vif.{Vif}
 use Rattle.vif.specs.Setters.{withWaiting}
-use Rattle.vif.specs.Codes.{quadwordsOf, plainCode, unpackCode, codeOf, decodeOf, immOf, interruptOf}
-use Rattle.vif.specs.Execute.{Executed, codeResult, resultWith, nextTops, started, startProgram, setMode, addressOf, cycleRefused, beginMpg, beginUnpack, executeOf, decodedStep}
+use Rattle.vif.specs.Codes.{immOf, numOf, cmdOf, quadwordsOf, plainCode, unpackCode, unpackNumbers, codeOf, decodeOf}
+use Rattle.vif.specs.Execute.{Executed, nextTops, started, startProgram, setMode, addressOf, beginMpg, beginUnpack, executeOf, decodedStep}
 use Rattle.vif.specs.Payload.{orNothing}
-use Rattle.vif.specs.Range.{upTo, registersInRange, waitingInRange, unitInRange}
-use Rattle.vif.specs.Inner.{GifReady, StepReady}
-use Rattle.vif.specs.Step.{Lent, lent, Left, afterGif, giveQuadword, directStep, unpackStep, codeStep, stepBy, vifStep}
-use Rattle.vif.proofs.RangeLaws.{up-to-fits, fits-up-to, waiting-ranged, row-due, col-due, mpg-due, direct-due, directhl-due}
-use Rattle.vif.proofs.KeepLaws.{Kept, step-kept, log-stays}
+use Rattle.vif.specs.Range.{registersInRange, waitingInRange, unitInRange}
+use Rattle.vif.specs.Inner.{StepReady}
+use Rattle.vif.specs.Step.{Lent, Left, afterGif, giveQuadword, directStep, unpackStep, codeStep, stepBy, vifStep}
+use Rattle.vif.proofs.RangeLaws.{fits-up-to, waiting-ranged, row-due, col-due, mpg-due, direct-due, directhl-due}
+use Rattle.vif.proofs.KeepLaws.{step-kept, log-stays}
 
 -- ---- registers as facts
 
@@ -159,25 +159,24 @@ plain-fits cmd num imm h =
     (if-ind Fits (eqb cmd 32) (fine (Known Stmask) any)
     (if-ind Fits (eqb cmd 48) (fine (Known Strow) any)
     (if-ind Fits (eqb cmd 49) (fine (Known Stcol) any)
-    (if-ind Fits (eqb cmd 74) (fine (Known (Mpg (imm % 2048) num)) (omega arith))
+    (if-ind Fits (eqb cmd 74) (fine (Known (Mpg _ num)) (ten 0 10 2047 (bits-below imm 0 10)))
     (if-ind Fits (eqb cmd 80) (fine (Known (Direct _)) (direct-fits imm h))
     (if-ind Fits (eqb cmd 81) (fine (Known (Directhl _)) (direct-fits imm h))
-    (fine (Unknown 20) any))))))))))))))))))))
+    (fine (Unknown cmdUnlisted) any))))))))))))))))))))
   where
     ten : (from to n : ℕ) → bits imm from to < n + 1 → bits imm from to ≤ n
     ten from to n l = omega arith
 
-unpack-code-fits : (format : ℕ) (u : UnpackCode) → Fits (unpackCode format u)
-unfolding unpackCode
-unpack-code-fits format u = go 0 S32 (go 1 S16 (go 2 S8 (go 4 V2x32 (go 5 V2x16 (go 6 V2x8 (go 8 V3x32 (go 9 V3x16 (go 10 V3x8 (go 12 V4x32 (go 13 V4x16 (go 14 V4x8 (go 15 V4x5 (fine (Unknown 21) any)))))))))))))
-  where
-    go : (n : ℕ) (f : Format) {d : Decoded} → Fits d → Fits (if (eqb format n) (Known (Unpack f u)) d)
-    go n f r = if-ind Fits (eqb format n) (fine (Known (Unpack f u)) any) r
+unpack-code-fits : (format : NamedFormat) (u : UnpackCode) → Fits (unpackCode format u)
+unpack-code-fits (Named f) u = fine (Known (Unpack f u)) any
+unpack-code-fits Missing u = fine (Unknown formatMissing) any
 
 decode-fits : (word : ℕ) → Fits (decodeOf word)
 unfolding decodeOf codeOf
 decode-fits word =
-    if-ind Fits (leb 96 (bits word 24 30)) (unpack-code-fits _ _) (plain-fits _ _ _ (bits-below word 0 15))
+    if-ind Fits (leb 96 (cmdOf word))
+    (unpack-code-fits (formatNamed (bits (cmdOf word) 0 3)) (unpackNumbers (cmdOf word) (numOf word) (immOf word)))
+    (plain-fits (cmdOf word) (numOf word) (immOf word) (bits-below word 0 15))
 
 -- ---- a code's own step
 
@@ -245,13 +244,9 @@ module _ (v : Vif) (f : RegistersFit v) (q : v .waiting ≡ Nothing) where
   ranged-waits : (w : Waiting) → waitingInRange w (v .cl) (v .wl) ≡ true → Ranged (withWaiting v w)
   ranged-waits w h = record { held = waits-ranged v w f h }
 
-  -- "22 UNPACK with WL 0 or WL > CL": what is left is in range
+  -- what rule 22 leaves is in range
   cycle-ranged : cycleRefused (v .cl) (v .wl) ≡ false → cycleInRange (v .cl) (v .wl) ≡ true
-  unfolding cycleRefused
-  cycle-ranged h =
-      let z = eqb-false (v .wl) 0 (or-left _ _ h) in
-      let l = ltb-false (v .cl) (v .wl) (or-right (eqb (v .wl) 0) _ h) in
-      fits-cycle (v .cl) (v .wl) (record { some = omega arith; below = l; most = f .cl-fits })
+  cycle-ranged h = accepted-cycle (v .cl) (v .wl) h (f .cl-fits) (f .wl-fits)
 
   ranged : (c : Code) → CodeFits c → (i : Bool) (used : ℕ) (log : List ℕ) → Ranged (executeOf c v i used log .unit)
   unfolding setMode beginMpg beginUnpack waitingInRange

@@ -1,23 +1,20 @@
 -- Tests as facts.
-use mathlib.Core.Path.{_≡_, refl, sym, _∙_}
-use mathlib.Core.Bool.{Bool, true, false, _&&_}
+use mathlib.Core.Path.{_≡_}
+use mathlib.Core.Bool.{Bool, true}
 use mathlib.Core.List.{List}
-use Prim.Native.Nat.{ℕ, _+_, _*_, _<_, _≤_}
-use native.Mathlib.Omega.{arith}
+use Prim.Native.Nat.{ℕ, _+_, _≤_}
 use borrow.Author.Tests.{leb-true, le-leb, eq-eqb}
 use lib.ListN.{length}
-use lib.Dec.{leb, eqb}
+use lib.Dec.{leb}
 use Rattle.fields.proofs.ChoiceLaws.{and-left, and-right}
-use Rattle.gif.specs.declared.Path.{Path}
 use Rattle.unpack.specs.declared.Format.{Format}
 use Rattle.unpack.specs.declared.Unpacking.{Unpacking}
-use Rattle.unpack.specs.Range.{cycleInRange, unpackingInRange}
+use Rattle.unpack.specs.Range.{cycleInRange}
 use Rattle.unpack.specs.Step.{acceptable}
 use Rattle.unpack.proofs.StepLaws.{unpacking-fits}
 use Rattle.vif.specs.declared.Waiting.{Waiting}
-use Rattle.vif.specs.declared.Waiting.the-variants.{Nothing, MaskDue, RowDue, ColDue, MpgDue, DirectDue, DirecthlDue, UnpackDue}
+use Rattle.vif.specs.declared.Waiting.the-variants.{RowDue, ColDue, MpgDue, DirectDue, DirecthlDue, UnpackDue}
 use Rattle.vif.specs.declared.Vif.{Vif}
-use Rattle.vif.specs.Payload.{writeRegisters}
 use Rattle.vif.specs.Range.{upTo, registersInRange, waitingInRange, unitInRange}
 use Rattle.vif.specs.Inner.{UnpackReady}
 

@@ -25,8 +25,10 @@ use Rattle.unpack.specs.declared.Format.the-variants.{V4x32}
 use Rattle.unpack.specs.declared.Unpacking.{Unpacking}
 use Rattle.unpack.specs.Payload.{payloadWords, vectorBits}
 use Rattle.unpack.specs.Write.{Written, written}
+use Rattle.unpack.specs.Range.{cycleRefused}
 use Rattle.unpack.specs.Step.{countOf, unpackingOf, holds, unpackWord}
 use Rattle.unpack.specs.Whole.{takeWords, heldAfter, copyVectors, fourWords}
+use Rattle.unpack.proofs.FormatLaws.{named-number}
 use Rattle.unpack.proofs.PayloadLaws.{payload-some}
 use Rattle.unpack.proofs.StepLaws.{count-range}
 use Rattle.unpack.proofs.VectorLaws.{Words}
@@ -43,8 +45,8 @@ use Rattle.vif.specs.declared.Waiting.{Waiting}
 use Rattle.vif.specs.declared.Waiting.the-variants.{Nothing, MpgDue, DirectDue, UnpackDue}
 use Rattle.vif.specs.declared.Vif.{Vif}
 use Rattle.vif.specs.Setters.{withCycle, withMode, withRow, withWaiting}
-use Rattle.vif.specs.Codes.{quadwordsOf, interruptOf, decodeOf, codeOf, plainCode, unpackCode, unpackNumbers}
-use Rattle.vif.specs.Execute.{started, startProgram, setMode, beginMpg, addressOf, cycleRefused, beginUnpack, executeOf}
+use Rattle.vif.specs.Codes.{quadwordsOf, interruptOf, decodeOf, codeOf, plainCode, unpackNumbers}
+use Rattle.vif.specs.Execute.{started, startProgram, setMode, beginMpg, addressOf, beginUnpack, executeOf}
 use Rattle.vif.specs.Payload.{completes, orNothing, bytesOf, wordPlace, mpgStored, writeRegisters}
 use Rattle.vif.specs.Step.{Lent, lent, leaves, wordIn, afterCode, codeStep, giveQuadword, unpackStep, vifStep}
 use Rattle.vif.specs.Feeds.{Fed, fed, Feeds, none, more, aWord, aQuadword, wordsIn, QuadwordsIn, no-quadword, one-quadword, Zeros, one-zero, storeInstruction, copyInstructions, unpackWaits, begunUnpack, unpackedFed}
@@ -229,7 +231,7 @@ dataCode n a = record { address = a; num = n; usn = false; masked = false; tops 
 
 module _ (n a : ℕ) (some : 1 ≤ n) (few : n ≤ 255) (inside : a < 1024) where
   data-decoded : decodeOf (1811939328 + n * 65536 + a) ≡ Known (Unpack V4x32 (dataCode n a))
-  unfolding decodeOf codeOf unpackCode unpackNumbers bits if
+  unfolding decodeOf codeOf unpackNumbers bits if
   data-decoded =
       let c : (1811939328 + n * 65536 + a) / 16777216 % 128 ≡ 108 = omega arith in
       let d : (1811939328 + n * 65536 + a) / 65536 % 256 ≡ n = omega arith in
@@ -237,7 +239,7 @@ module _ (n a : ℕ) (some : 1 ≤ n) (few : n ≤ 255) (inside : a < 1024) wher
       let x : a / 1 % 1024 ≡ a = omega arith in
       let y : a / 16384 % 2 ≡ 0 = omega arith in
       let z : a / 32768 % 2 ≡ 0 = omega arith in
-      rw (c, d, e, x, y, z)
+      rw (c, d, e, x, y, z, named-number V4x32)
 
   data-quiet : interruptOf (1811939328 + n * 65536 + a) ≡ false
   unfolding bits
@@ -386,7 +388,7 @@ module _ (n a : ℕ) (some : 1 ≤ n) (few : n ≤ 255) (inside : a < 2048) wher
       let c : (1241513984 + n * 65536 + a) / 16777216 % 128 ≡ 74 = omega arith in
       let d : (1241513984 + n * 65536 + a) / 65536 % 256 ≡ n = omega arith in
       let e : (1241513984 + n * 65536 + a) / 1 % 65536 ≡ a = omega arith in
-      let x : a % 2048 ≡ a = omega arith in
+      let x : a / 1 % 2048 ≡ a = omega arith in
       rw (c, d, e, x)
 
   code-quiet : interruptOf (1241513984 + n * 65536 + a) ≡ false

@@ -1,17 +1,17 @@
 -- The step from what its parts give.
-use mathlib.Core.Path.{_≡_, refl, sym, ap, _∙_}
-use mathlib.Core.Bool.{Bool, true, false}
+use mathlib.Core.Path.{_≡_, sym, ap, _∙_}
+use mathlib.Core.Bool.{Bool}
 use mathlib.Core.List.{List}
-use Prim.Native.Nat.{ℕ, _+_, _*_, _^_}
+use Prim.Native.Nat.{ℕ}
 use borrow.Author.Tests.{eq-eqb}
 use lib.ListN.{length}
 use Rattle.fields.specs.Fields.{if, quadword}
 use Rattle.gif.specs.declared.Path.{Path}
 use Rattle.gif.specs.declared.GifAnswer.{GifAnswer}
+use Rattle.gif.specs.declared.GifAnswer.the-variants.{Refused as GifRefused}
 use Rattle.gif.specs.declared.GifResult.{GifResult}
 use Rattle.gif.specs.Step.{Left as GifLeft, left as gifLeft, gifStep, takeOf as gifTakeOf}
-use Rattle.gif.specs.declared.GifAnswer.the-variants.{Refused as GifRefused}
-use Rattle.gif.proofs.StepLaws.{tested, Wrote, step-wrote}
+use Rattle.gif.proofs.StepLaws.{tested, step-wrote}
 use Rattle.gif.proofs.RangeLaws.{log-fits}
 use Rattle.unpack.specs.declared.Format.{Format}
 use Rattle.unpack.specs.declared.Unpacking.{Unpacking}

@@ -1,10 +1,13 @@
 -- VIF codes: document 01's "Bits 0-15 IMM, 16-23 NUM, 24-30 CMD, 31 interrupt. Each word is decoded into one case of a closed list of codes, each case
 -- with its own numbers."
-use Prim.Native.Nat.{ℕ, _%_}
+use Prim.Native.Nat.{ℕ}
 use mathlib.Core.Bool.{Bool}
 use lib.Dec.{eqb, leb}
 use Rattle.fields.specs.Fields.{if, bits}
-use Rattle.unpack.specs.declared.Format.the-variants.{S32, S16, S8, V2x32, V2x16, V2x8, V3x32, V3x16, V3x8, V4x32, V4x16, V4x8, V4x5}
+use Rattle.fields.specs.Refusals.{cmdUnlisted, formatMissing}
+use Rattle.unpack.specs.declared.NamedFormat.{NamedFormat}
+use Rattle.unpack.specs.declared.NamedFormat.the-variants.{Named, Missing}
+use Rattle.unpack.specs.Formats.{formatNamed}
 use Rattle.vif.specs.declared.Code.the-variants.{Nop, Stcycl, Offset, Base, Itop, Stmod, Mskpath3, Mark, Flushe, Flush, Flusha, Mscal, Mscalf, Mscnt, Stmask, Strow, Stcol, Mpg, Direct, Directhl, Unpack}
 use Rattle.vif.specs.declared.UnpackCode.{UnpackCode}
 use Rattle.vif.specs.declared.Decoded.{Decoded}
@@ -27,7 +30,7 @@ unfoldable pub quadwordsOf : ℕ → ℕ
 quadwordsOf imm = if (eqb imm 0) 65536 imm
 
 -- the codes below 60h; the document's numbers are hexadecimal: 10, 11, 13 are 16, 17, 19; 14, 15, 17 are 20, 21, 23; 20 is 32; 30, 31 are 48, 49; 4A is 74;
--- 50, 51 are 80, 81. MPG holds IMM modulo 2,048, which gives the same places as IMM
+-- 50, 51 are 80, 81. MPG holds bits 0-10 of IMM, which give the same places as IMM
 unfoldable pub plainCode : ℕ → ℕ → ℕ → Decoded
 plainCode cmd num imm =
     if (eqb cmd 0) (Known Nop)
@@ -47,28 +50,15 @@ plainCode cmd num imm =
     (if (eqb cmd 32) (Known Stmask)
     (if (eqb cmd 48) (Known Strow)
     (if (eqb cmd 49) (Known Stcol)
-    (if (eqb cmd 74) (Known (Mpg (imm % 2048) num))
+    (if (eqb cmd 74) (Known (Mpg (bits imm 0 10) num))
     (if (eqb cmd 80) (Known (Direct (quadwordsOf imm)))
     (if (eqb cmd 81) (Known (Directhl (quadwordsOf imm)))
-    (Unknown 20))))))))))))))))))))
+    (Unknown cmdUnlisted))))))))))))))))))))
 
--- "CMD bits 0-1 vl, bits 2-3 vn": the formats by the number of bits 0-3; "21 vl 3 with vn below 3"
-unfoldable pub unpackCode : ℕ → UnpackCode → Decoded
-unpackCode format u =
-    if (eqb format 0) (Known (Unpack S32 u))
-    (if (eqb format 1) (Known (Unpack S16 u))
-    (if (eqb format 2) (Known (Unpack S8 u))
-    (if (eqb format 4) (Known (Unpack V2x32 u))
-    (if (eqb format 5) (Known (Unpack V2x16 u))
-    (if (eqb format 6) (Known (Unpack V2x8 u))
-    (if (eqb format 8) (Known (Unpack V3x32 u))
-    (if (eqb format 9) (Known (Unpack V3x16 u))
-    (if (eqb format 10) (Known (Unpack V3x8 u))
-    (if (eqb format 12) (Known (Unpack V4x32 u))
-    (if (eqb format 13) (Known (Unpack V4x16 u))
-    (if (eqb format 14) (Known (Unpack V4x8 u))
-    (if (eqb format 15) (Known (Unpack V4x5 u))
-    (Unknown 21)))))))))))))
+-- "21 vl 3 with vn below 3"
+abbrev pub unpackCode : NamedFormat → UnpackCode → Decoded
+unpackCode (Named f) u = Known (Unpack f u)
+unpackCode Missing u = Unknown formatMissing
 
 -- "bit 4 M; IMM bits 0-9 address A, bit 14 USN, bit 15 adds TOPS, as held at the code, to A"
 unfoldable pub unpackNumbers : ℕ → ℕ → ℕ → UnpackCode
@@ -81,9 +71,9 @@ unpackNumbers cmd num imm =
       tops = eqb (bits imm 15 15) 1;
     }
 
--- "60-7F UNPACK."
+-- "60-7F UNPACK"; "CMD bits 0-1 vl, bits 2-3 vn", the number of the format
 unfoldable pub codeOf : ℕ → ℕ → ℕ → Decoded
-codeOf cmd num imm = if (leb 96 cmd) (unpackCode (bits cmd 0 3) (unpackNumbers cmd num imm)) (plainCode cmd num imm)
+codeOf cmd num imm = if (leb 96 cmd) (unpackCode (formatNamed (bits cmd 0 3)) (unpackNumbers cmd num imm)) (plainCode cmd num imm)
 
 unfoldable pub decodeOf : ℕ → Decoded
 decodeOf word = codeOf (cmdOf word) (numOf word) (immOf word)

@@ -1,11 +1,14 @@
 -- What a code does in its own step.
 use Prim.Native.Nat.{ℕ, _+_, _%_}
-use mathlib.Core.Bool.{Bool, false, not, _||_}
+use mathlib.Core.Bool.{Bool, false, not}
 use mathlib.Core.List.{List, [], _∷_}
-use lib.Dec.{eqb, ltb}
+use lib.Dec.{eqb}
 use Rattle.fields.specs.Fields.{if}
+use Rattle.fields.specs.Refusals.{cycleWrong, modeWrong, logFull}
 use Rattle.gif.specs.Log.{entry, logged, lacksRoom}
 use Rattle.unpack.specs.declared.Format.{Format}
+use Rattle.unpack.specs.Position.{addresses}
+use Rattle.unpack.specs.Range.{cycleRefused}
 use Rattle.unpack.specs.Step.{countOf, unpackingOf}
 use Rattle.vif.specs.declared.Code.{Code}
 use Rattle.vif.specs.declared.Code.the-variants.{Nop, Stcycl, Offset, Base, Itop, Stmod, Mskpath3, Mark, Flushe, Flush, Flusha, Mscal, Mscalf, Mscnt, Stmask, Strow, Stcol, Mpg, Direct, Directhl, Unpack}
@@ -39,7 +42,7 @@ resultWith r log = executed (r .answer) (r .unit) (r .used) log
 
 -- "TOPS = BASE+OFST modulo 1,024 if DBF is now 1, else BASE"
 unfoldable pub nextTops : Bool → Vif → ℕ
-nextTops dbf v = if dbf ((v .base + v .ofst) % 1024) (v .base)
+nextTops dbf v = if dbf ((v .base + v .ofst) % addresses) (v .base)
 
 -- "Then ITOP = ITOPS, TOP = TOPS, DBF flips, and TOPS = ...": in this order, so TOP takes the old TOPS
 abbrev pub started : Vif → Vif
@@ -48,7 +51,7 @@ started v = withStart v (v .itops) (v .tops) (not (v .dbf)) (nextTops (not (v .d
 -- "14 MSCAL, 15 MSCALF, 17 MSCNT: log entry 256, 257, 258 with value IMM, IMM, 0"; "31 log lacks room"
 unfoldable pub startProgram : ℕ → ℕ → Vif → Bool → ℕ → List ℕ → Executed
 startProgram r x v i used log =
-    if (lacksRoom log used (entry r x ∷ [])) (executed (Refused 31) v used log)
+    if (lacksRoom log used (entry r x ∷ [])) (executed (Refused logFull) v used log)
     (executed (Word i) (started v) (used + 1) (logged log used (entry r x ∷ [])))
 
 -- a code that waits for payload completes no interrupt in its own step
@@ -57,7 +60,7 @@ waitsFor v w used = codeResult (Word false) (withWaiting v w) used
 
 -- "05 STMOD: bits 0-1"; "23 STMOD 3"
 unfoldable pub setMode : ℕ → Vif → Bool → ℕ → CodeResult
-setMode m v i used = if (eqb m 3) (codeResult (Refused 23) v used) (codeResult (Word i) (withMode v m) used)
+setMode m v i used = if (eqb m 3) (codeResult (Refused modeWrong) v used) (codeResult (Word i) (withMode v m) used)
 
 -- "MPG: NUM instructions of two words (0 means 256)"
 unfoldable pub beginMpg : ℕ → ℕ → Vif → Bool → ℕ → CodeResult
@@ -68,12 +71,9 @@ unfoldable pub addressOf : UnpackCode → ℕ → ℕ
 addressOf u tops = if (u .tops) (u .address + tops) (u .address)
 
 -- "22 UNPACK with WL 0 or WL > CL"
-unfoldable pub cycleRefused : ℕ → ℕ → Bool
-cycleRefused cl wl = eqb wl 0 || ltb cl wl
-
 unfoldable pub beginUnpack : Format → UnpackCode → Vif → Bool → ℕ → CodeResult
 beginUnpack f u v i used =
-    if (cycleRefused (v .cl) (v .wl)) (codeResult (Refused 22) v used)
+    if (cycleRefused (v .cl) (v .wl)) (codeResult (Refused cycleWrong) v used)
     (waitsFor v (UnpackDue f (unpackingOf f (addressOf u (v .tops)) (u .num) (u .usn) (u .masked) i)) used)
 
 -- a code's own step, with its interrupt bit

@@ -5,6 +5,7 @@ use mathlib.Core.List.{List}
 use lib.ListN.{length}
 use lib.Dec.{eqb}
 use Rattle.fields.specs.Fields.{if, quadword}
+use Rattle.fields.specs.Refusals.{directUnaligned}
 use Rattle.gif.specs.declared.Path.{Path}
 use Rattle.gif.specs.declared.GifAnswer.{GifAnswer}
 use Rattle.gif.specs.declared.GifAnswer.the-variants.{Taken, Refused as GifRefused}
@@ -100,9 +101,9 @@ giveQuadword quad v p due i w used m = afterQuadword (gifStep p quad used (m .lo
 -- "24 DIRECT payload due and the next word isn't word 0"; w is what waits if more is due
 abbrev pub directStep : Incoming → Vif → Path → ℕ → Bool → Waiting → ℕ → Lent → Left
 directStep (Word0 a b c d) v p due i w used m = giveQuadword (quadword (a + b * 2 ^ 32) (c + d * 2 ^ 32)) v p due i w used m
-directStep (Word1 a) v p due i w used m = refused 24 v p used m
-directStep (Word2 a) v p due i w used m = refused 24 v p used m
-directStep (Word3 a) v p due i w used m = refused 24 v p used m
+directStep (Word1 a) v p due i w used m = refused directUnaligned v p used m
+directStep (Word2 a) v p due i w used m = refused directUnaligned v p used m
+directStep (Word3 a) v p due i w used m = refused directUnaligned v p used m
 
 -- a payload word of UNPACK
 abbrev pub afterUnpack : Written → Vif → Path → Format → Unpacking → ℕ → ℕ → Lent → Left

@@ -2,7 +2,9 @@
 use super::Code;
 use super::Decoded;
 use super::UnpackCode;
-use unpack::Format;
+use fields::refusals;
+use unpack::ADDRESSES;
+use unpack::NamedFormat;
 ghost use mathlib.Core.Path.{_≡_};
 ghost use Rattle.vif.specs.Codes.{quadwordsOf, plainCode, unpackCode, unpackNumbers, codeOf, decodeOf};
 
@@ -21,9 +23,9 @@ fn plain_code(cmd: u32, num: u32, imm: u32) -> Decoded
             cl: imm % 256,
             wl: imm / 256 % 256,
         }),
-        2 => Decoded::Known(Code::Offset(imm % 1024)),
-        3 => Decoded::Known(Code::Base(imm % 1024)),
-        4 => Decoded::Known(Code::Itop(imm % 1024)),
+        2 => Decoded::Known(Code::Offset(imm % ADDRESSES)),
+        3 => Decoded::Known(Code::Base(imm % ADDRESSES)),
+        4 => Decoded::Known(Code::Itop(imm % ADDRESSES)),
         5 => Decoded::Known(Code::Stmod(imm % 4)),
         6 => Decoded::Known(Code::Mskpath3(imm / 32768 % 2 == 1)),
         7 => Decoded::Known(Code::Mark(imm)),
@@ -42,34 +44,16 @@ fn plain_code(cmd: u32, num: u32, imm: u32) -> Decoded
         }),
         80 => Decoded::Known(Code::Direct(quadwords_of(imm))),
         81 => Decoded::Known(Code::Directhl(quadwords_of(imm))),
-        _ => Decoded::Unknown(20),
+        _ => Decoded::Unknown(refusals::CMD_UNLISTED),
     }
 }
 
-fn known_unpack(f: Format, u: UnpackCode) -> Decoded
-    ensures { λ r. ⌜ r ≡ Decoded.Known (Code.Unpack f u) ⌝ }
-{
-    Decoded::Known(Code::Unpack(f, u))
-}
-
-fn unpack_code(format: u32, u: UnpackCode) -> Decoded
+fn unpack_code(format: NamedFormat, u: UnpackCode) -> Decoded
     ensures { λ r. ⌜ r ≡ unpackCode format u ⌝ }
 {
     match format {
-        0 => known_unpack(Format::S32, u),
-        1 => known_unpack(Format::S16, u),
-        2 => known_unpack(Format::S8, u),
-        4 => known_unpack(Format::V2x32, u),
-        5 => known_unpack(Format::V2x16, u),
-        6 => known_unpack(Format::V2x8, u),
-        8 => known_unpack(Format::V3x32, u),
-        9 => known_unpack(Format::V3x16, u),
-        10 => known_unpack(Format::V3x8, u),
-        12 => known_unpack(Format::V4x32, u),
-        13 => known_unpack(Format::V4x16, u),
-        14 => known_unpack(Format::V4x8, u),
-        15 => known_unpack(Format::V4x5, u),
-        _ => Decoded::Unknown(21),
+        NamedFormat::Named(f) => Decoded::Known(Code::Unpack(f, u)),
+        NamedFormat::Missing => Decoded::Unknown(refusals::FORMAT_MISSING),
     }
 }
 
@@ -77,7 +61,7 @@ fn unpack_numbers(cmd: u32, num: u32, imm: u32) -> UnpackCode
     ensures { λ r. ⌜ r ≡ unpackNumbers cmd num imm ⌝ }
 {
     UnpackCode {
-        address: imm % 1024,
+        address: imm % ADDRESSES,
         num,
         usn: imm / 16384 % 2 == 1,
         masked: cmd / 16 % 2 == 1,
@@ -89,7 +73,10 @@ fn code_of(cmd: u32, num: u32, imm: u32) -> Decoded
     ensures { λ r. ⌜ r ≡ codeOf cmd num imm ⌝ }
 {
     if 96 <= cmd {
-        unpack_code(cmd % 16, unpack_numbers(cmd, num, imm))
+        unpack_code(
+            unpack::format_named(cmd % 16),
+            unpack_numbers(cmd, num, imm),
+        )
     } else {
         plain_code(cmd, num, imm)
     }

@@ -8,6 +8,7 @@ use super::payload::answered;
 use super::payload::completed;
 use super::payload::or_nothing;
 use super::registers::with_waiting;
+use fields::refusals;
 use gif::GifAnswer;
 use gif::Path;
 ghost use mathlib.Core.Path.{_≡_};
@@ -78,8 +79,23 @@ pub(crate) fn direct(
             log,
             used,
         ),
-        Incoming::Word1(_) => answered(VifAnswer::Refused(24), unit, path2, used),
-        Incoming::Word2(_) => answered(VifAnswer::Refused(24), unit, path2, used),
-        Incoming::Word3(_) => answered(VifAnswer::Refused(24), unit, path2, used),
+        Incoming::Word1(_) => answered(
+            VifAnswer::Refused(refusals::DIRECT_UNALIGNED),
+            unit,
+            path2,
+            used,
+        ),
+        Incoming::Word2(_) => answered(
+            VifAnswer::Refused(refusals::DIRECT_UNALIGNED),
+            unit,
+            path2,
+            used,
+        ),
+        Incoming::Word3(_) => answered(
+            VifAnswer::Refused(refusals::DIRECT_UNALIGNED),
+            unit,
+            path2,
+            used,
+        ),
     }
 }

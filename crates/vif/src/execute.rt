@@ -16,13 +16,16 @@ use super::registers::with_mskpath3;
 use super::registers::with_offset;
 use super::registers::with_start;
 use super::registers::with_waiting;
+use fields::refusals;
+use unpack::ADDRESSES;
 use unpack::Format;
 ghost use mathlib.Core.Path.{_≡_};
 ghost use mathlib.Core.Bool.{false};
 ghost use Prim.Native.Nat.{_%_};
+ghost use Rattle.unpack.specs.Position.{addresses};
 ghost use Rattle.vif.specs.Codes.{interruptOf, decodeOf};
 ghost use Rattle.vif.specs.Setters.{withWaiting};
-ghost use Rattle.vif.specs.Execute.{codeResult, resultWith, nextTops, started, startProgram, setMode, addressOf, cycleRefused, beginMpg, beginUnpack, executeOf, decodedStep};
+ghost use Rattle.vif.specs.Execute.{codeResult, resultWith, nextTops, started, startProgram, setMode, addressOf, beginMpg, beginUnpack, executeOf, decodedStep};
 
 fn answered(answer: VifAnswer, unit: Vif, used: u64) -> CodeResult
     ensures { λ r. ⌜ r ≡ codeResult answer unit used ⌝ }
@@ -46,7 +49,7 @@ fn next_tops(dbf: bool, unit: Vif) -> u32
     ensures { λ r. ⌜ r ≡ nextTops dbf unit ⌝ }
 {
     if dbf {
-        (unit.base % 1024 + unit.ofst % 1024) % 1024
+        (unit.base % ADDRESSES + unit.ofst % ADDRESSES) % ADDRESSES
     } else {
         unit.base
     }
@@ -74,7 +77,7 @@ fn start_program(
     if gif::write_entry(log, used, register, value as u64) {
         done(start(unit), interrupt, used + 1)
     } else {
-        answered(VifAnswer::Refused(31), unit, used)
+        answered(VifAnswer::Refused(refusals::LOG_FULL), unit, used)
     }
 }
 
@@ -82,27 +85,18 @@ fn set_mode(mode: u32, unit: Vif, interrupt: bool, used: u64) -> CodeResult
     ensures { λ r. ⌜ r ≡ setMode mode unit interrupt used ⌝ }
 {
     if mode == 3 {
-        answered(VifAnswer::Refused(23), unit, used)
+        answered(VifAnswer::Refused(refusals::MODE_WRONG), unit, used)
     } else {
         done(with_mode(unit, mode), interrupt, used)
     }
 }
 
-fn cycle_refused(cl: u32, wl: u32) -> bool
-    ensures { λ r. ⌜ r ≡ cycleRefused cl wl ⌝ }
-{
-    if wl == 0 {
-        return true;
-    }
-    cl < wl
-}
-
-// The address of an UNPACK, to be read modulo 1,024.
+// The address of an UNPACK, whose low ten bits count.
 fn address_of(u: UnpackCode, tops: u32) -> u32
-    ensures { λ r. ⌜ r % 1024 ≡ addressOf u tops % 1024 ⌝ }
+    ensures { λ r. ⌜ r % addresses ≡ addressOf u tops % addresses ⌝ }
 {
     if u.tops {
-        u.address % 1024 + tops % 1024
+        u.address % ADDRESSES + tops % ADDRESSES
     } else {
         u.address
     }
@@ -111,8 +105,8 @@ fn address_of(u: UnpackCode, tops: u32) -> u32
 fn begin_unpack(f: Format, u: UnpackCode, unit: Vif, interrupt: bool, used: u64) -> CodeResult
     ensures { λ r. ⌜ r ≡ beginUnpack f u unit interrupt used ⌝ }
 {
-    if cycle_refused(unit.cl, unit.wl) {
-        return answered(VifAnswer::Refused(22), unit, used);
+    if unpack::cycle_refused(unit.cl, unit.wl) {
+        return answered(VifAnswer::Refused(refusals::CYCLE_WRONG), unit, used);
     }
     let address = address_of(u, unit.tops);
     let waiting = unpack::waiting_for(f, address, u.num, u.usn, u.masked, interrupt);

@@ -2,8 +2,6 @@ use native.Mathlib.Nat.{div-one}
 use borrow.Author.Needs.{needs}
 use Rattle.unpack.proofs.cycle.cycles_before.Statement.{statement}
 use Rattle.unpack.proofs.cycle.cycles_before.Tie as tie
-use Rattle.unpack.proofs.cycle.cycles_before.Reads as reads
-use Rattle.unpack.proofs.cycle.cycles_before.Lts as lts
 
 returns : tie.Need-returns
 returns c = rw (c .if1 .taken, div-one)

@@ -2,8 +2,6 @@ use native.Mathlib.Nat.{mod-one}
 use borrow.Author.Needs.{needs}
 use Rattle.unpack.proofs.cycle.place_in_cycle.Statement.{statement}
 use Rattle.unpack.proofs.cycle.place_in_cycle.Tie as tie
-use Rattle.unpack.proofs.cycle.place_in_cycle.Reads as reads
-use Rattle.unpack.proofs.cycle.place_in_cycle.Lts as lts
 
 returns : tie.Need-returns
 returns c = rw (c .if1 .taken, mod-one)

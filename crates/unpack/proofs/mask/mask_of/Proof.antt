@@ -2,15 +2,11 @@ use Rattle.unpack.specs.Mask.{maskOf}
 use Rattle.fields.specs.Fields.{if}
 use Rattle.unpack.proofs.mask.mask_of.Statement.{statement}
 use Rattle.unpack.proofs.mask.mask_of.Tie as tie
-use Rattle.unpack.proofs.mask.mask_of.Reads as reads
-use Rattle.unpack.proofs.mask.mask_of.Lts as lts
 
--- src/mask.rt:33:1
 returns : tie.Need-returns
 unfolding maskOf if
 returns c = rw (c .if1 .taken)
 
--- src/mask.rt:33:1
 returns-2 : tie.Need-returns-2
 unfolding maskOf if
 returns-2 c = rw (c .if1 .left)

@@ -1,12 +1,9 @@
 use Rattle.unpack.specs.Mask.{rowOfCycle}
 use native.Mathlib.Nat.{min-eq-left, min-eq-right}
-use mathlib.Core.Path.{sym, _∙_}
+use mathlib.Core.Path.{sym}
 use borrow.Author.Needs.{needs}
 use Rattle.unpack.proofs.mask.row_of_cycle.Statement.{statement}
 use Rattle.unpack.proofs.mask.row_of_cycle.Tie as tie
-use Rattle.unpack.proofs.mask.row_of_cycle.Reads as reads
-use Rattle.unpack.proofs.mask.row_of_cycle.Lts as lts
-use Rattle.unpack.proofs.cycle.place_in_cycle.Reads as place-in-cycle-reads
 
 returns : tie.Need-returns
 unfolding rowOfCycle

@@ -2,10 +2,7 @@ use Rattle.unpack.specs.Mask.{codeAt}
 use native.Mathlib.Nat.{div-one}
 use Rattle.unpack.proofs.mask.unfold_mask.Statement.{statement}
 use Rattle.unpack.proofs.mask.unfold_mask.Tie as tie
-use Rattle.unpack.proofs.mask.unfold_mask.Reads as reads
-use Rattle.unpack.proofs.mask.unfold_mask.Lts as lts
 
--- src/mask.rt:7:1
 returns : tie.Need-returns
 unfolding codeAt
 returns c = simp div-one

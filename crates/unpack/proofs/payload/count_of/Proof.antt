@@ -3,15 +3,11 @@ use Rattle.fields.specs.Fields.{if}
 use borrow.Author.Tests.{eq-eqb, ne-eqb}
 use Rattle.unpack.proofs.payload.count_of.Statement.{statement}
 use Rattle.unpack.proofs.payload.count_of.Tie as tie
-use Rattle.unpack.proofs.payload.count_of.Reads as reads
-use Rattle.unpack.proofs.payload.count_of.Lts as lts
 
--- src/payload.rt:106:1
 returns : tie.Need-returns
 unfolding countOf if
 returns c = rw (eq-eqb _ _ (c .if1 .taken))
 
--- src/payload.rt:106:1
 returns-2 : tie.Need-returns-2
 unfolding countOf if
 returns-2 c = rw (ne-eqb _ _ (c .if1 .left))

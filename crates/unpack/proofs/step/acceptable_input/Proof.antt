@@ -4,44 +4,23 @@ use mathlib.Core.Path.{sym, _∙_}
 use borrow.Author.Needs.{needs}
 use Rattle.unpack.proofs.step.acceptable_input.Statement.{statement}
 use Rattle.unpack.proofs.step.acceptable_input.Tie as tie
-use Rattle.unpack.proofs.step.acceptable_input.Reads as reads
-use Rattle.unpack.proofs.step.acceptable_input.Lts as lts
-use Rattle.unpack.proofs.range.cycle_in_range.Reads as cycle-in-range-reads
-use Rattle.unpack.proofs.range.unpacking_in_range.Reads as unpacking-in-range-reads
 
--- src/step.rt:134:9
 returns : tie.Need-returns
 unfolding acceptable
 returns c = rw (lt-leb _ _ (c .if1 .taken))
 
--- src/step.rt:137:9
 returns-2 : tie.Need-returns-2
 unfolding acceptable
 returns-2 c = rw (le-leb _ _ (c .before .if1 .left), lt-leb _ _ (c .if2 .taken))
 
--- src/step.rt:139:22
-mul-if3 : tie.Need-mul-if3
-mul-if3 c = search needs
-
--- src/step.rt:140:9
 returns-3 : tie.Need-returns-3
 unfolding acceptable
 returns-3 c = rw (le-leb _ _ (c .before .before .if1 .left), le-leb _ _ (c .before .if2 .left), ne-eqb _ _ (c .if3 .taken))
 
--- src/step.rt:142:8
-cycle-in-range-requires : tie.Need-cycle-in-range-requires
-cycle-in-range-requires c κs = search needs
-
--- src/step.rt:143:9
-unpacking-in-range-requires : tie.Need-unpacking-in-range-requires
-unpacking-in-range-requires c κs = search needs
-
--- src/step.rt:130:1
 returns-4 : tie.Need-returns-4
 unfolding acceptable
 returns-4 c = rw (le-leb _ _ (c .before .before .before .before .before .if1 .left), le-leb _ _ (c .before .before .before .before .if2 .left), eq-eqb _ _ (c .before .before .before .if3 .left), sym (c .before .before .cycle-in-range .ensures) ∙ c .before .if4 .taken) (c .unpacking-in-range .ensures)
 
--- src/step.rt:130:1
 returns-5 : tie.Need-returns-5
 unfolding acceptable
 returns-5 c = rw (le-leb _ _ (c .before .before .before .before .if1 .left), le-leb _ _ (c .before .before .before .if2 .left), eq-eqb _ _ (c .before .before .if3 .left), sym (c .before .cycle-in-range .ensures) ∙ c .if4 .left)
@@ -52,9 +31,9 @@ acceptable-input-spec =
     (tie.spec
     returns
     returns-2
-    mul-if3
+    (λ c. search needs)
     returns-3
-    cycle-in-range-requires
-    unpacking-in-range-requires
+    (λ c κs. search needs)
+    (λ c κs. search needs)
     returns-4
     returns-5)

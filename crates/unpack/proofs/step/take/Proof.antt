@@ -6,12 +6,6 @@ use mathlib.Core.Path.{refl, sym}
 use borrow.Author.Needs.{needs}
 use Rattle.unpack.proofs.step.take.Statement.{statement}
 use Rattle.unpack.proofs.step.take.Tie as tie
-use Rattle.unpack.proofs.step.take.Reads as reads
-use Rattle.unpack.proofs.step.take.Lts as lts
-use Rattle.unpack.proofs.payload.payload_words.Reads as payload-words-reads
-use Rattle.unpack.proofs.payload.whole_vectors.Reads as whole-vectors-reads
-use Rattle.unpack.proofs.step.acting_registers.Reads as acting-registers-reads
-use Rattle.unpack.proofs.step.write_vectors.Reads as write-vectors-reads
 
 whole-vectors-requires : tie.Need-whole-vectors-requires
 unfolding takenWords

@@ -5,18 +5,12 @@ use Rattle.unpack.specs.Inner.{WordFits}
 use Rattle.unpack.specs.Write.{written, writeVectors}
 use Rattle.unpack.specs.Mask.{unfolded}
 use native.Mathlib.Omega.{arith}
-use mathlib.Core.Path.{_≡_, refl, sym, _∙_}
-use Prim.Native.Nat.{_-_, _≤_, _+_}
+use mathlib.Core.Path.{_≡_, sym, _∙_}
+use Prim.Native.Nat.{_-_, _≤_}
 use lib.ListN.{length}
 use borrow.Author.Needs.{needs}
 use Rattle.unpack.proofs.step.write_vectors.Statement.{statement}
 use Rattle.unpack.proofs.step.write_vectors.Tie as tie
-use Rattle.unpack.proofs.step.write_vectors.Reads as reads
-use Rattle.unpack.proofs.step.write_vectors.Lts as lts
-use Rattle.unpack.proofs.mask.row_of_cycle.Reads as row-of-cycle-reads
-use Rattle.unpack.proofs.mask.unfold_mask.Reads as unfold-mask-reads
-use Rattle.unpack.proofs.step.held_vector.Reads as held-vector-reads
-use Rattle.unpack.proofs.write.write_vector.Reads as write-vector-reads
 
 abbrev Inv-loop : tie.InvT-loop
 Inv-loop size f u r word k from to data₀ codes col rows₀ i₀ «data» rows i = WordFits size f u r k from to «data» × (from ≤ i) × (length «data» ≡ length data₀) × (codes ≡ unfolded (r .mask)) × (col ≡ r .col) × (writeVectors size (u .address) r (heldVector f u word k) (to - i) i (written rows «data») ≡ writeVectors size (u .address) r (heldVector f u word k) (to - from) from (written rows₀ data₀))

@@ -4,48 +4,33 @@ use Rattle.fields.specs.Fields.{if}
 use borrow.Author.Tests.{lt-ltb, le-ltb}
 use native.Mathlib.Omega.{arith}
 use Prim.Native.Nat.{_-_, _^_}
-use mathlib.Core.Bool.{true, false}
 use borrow.Author.Needs.{needs}
 use Rattle.unpack.proofs.vector.extend.Statement.{statement}
 use Rattle.unpack.proofs.vector.extend.Tie as tie
-use Rattle.unpack.proofs.vector.extend.Reads as reads
-use Rattle.unpack.proofs.vector.extend.Lts as lts
 
--- src/vector.rt:20:9
 returns : tie.Need-returns
 unfolding extended if
 returns c = rw (c .if1 .taken)
 
--- src/vector.rt:22:25
 sub-half : tie.Need-sub-half
 sub-half c = let l = c .before .pre .0 in omega arith
 
--- src/vector.rt:22:16
 shl-half : tie.Need-shl-half
 shl-half c = let l = c .before .pre .1 in omega arith
 
--- src/vector.rt:26:29
 sub-result : tie.Need-sub-result
 sub-result c = let h = halves (c .before .before .args .width) (c .before .before .pre .0) (c .before .before .pre .1) in omega arith
 
--- src/vector.rt:26:14
-sub-result-2 : tie.Need-sub-result-2
-sub-result-2 c = search needs
-
--- src/vector.rt:26:14
 sub-result-3 : tie.Need-sub-result-3
 sub-result-3 c = let h = halves (c .before .before .args .width) (c .before .before .pre .0) (c .before .before .pre .1) in omega arith
 
--- src/vector.rt:26:9
 add-result : tie.Need-add-result
 add-result c = let h = halves (c .before .before .args .width) (c .before .before .pre .0) (c .before .before .pre .1) in let x = c .before .before .pre .2 in omega arith
 
--- src/vector.rt:15:1
 returns-2 : tie.Need-returns-2
 unfolding extended if
 returns-2 c = let h = halves (c .before .before .args .width) (c .before .before .pre .0) (c .before .before .pre .1) in let t = lt-ltb (c .before .before .args .x) (2 ^ (c .before .before .args .width - 1)) (omega arith) in rw (c .before .if1 .left, t)
 
--- src/vector.rt:15:1
 returns-3 : tie.Need-returns-3
 unfolding extended if
 returns-3 c = let h = halves (c .before .before .args .width) (c .before .before .pre .0) (c .before .before .pre .1) in let t = le-ltb (c .before .before .args .x) (2 ^ (c .before .before .args .width - 1)) (omega arith) in rw (c .before .if1 .left, t) (omega arith)
@@ -58,7 +43,7 @@ extend-spec =
     sub-half
     shl-half
     sub-result
-    sub-result-2
+    (λ c. search needs)
     sub-result-3
     add-result
     returns-2

@@ -4,33 +4,18 @@ use borrow.Author.Tests.{ne-eqb}
 use borrow.Author.Needs.{needs}
 use Rattle.unpack.proofs.write.data_of.Statement.{statement}
 use Rattle.unpack.proofs.write.data_of.Tie as tie
-use Rattle.unpack.proofs.write.data_of.Reads as reads
-use Rattle.unpack.proofs.write.data_of.Lts as lts
-use Rattle.unpack.proofs.write.add.Reads as add-reads
-use Rattle.unpack.proofs.write.next_row.Reads as next-row-reads
 
--- src/write.rt:29:14
-add-requires : tie.Need-add-requires
-add-requires c κs = search needs
-
--- src/write.rt:30:14
-next-row-requires : tie.Need-next-row-requires
-next-row-requires c κs = search needs
-
--- src/write.rt:25:1
 returns : tie.Need-returns
 unfolding dataOf if
 returns c = rw (c .before .match .keys1) (c .add .ensures)
 
--- src/write.rt:25:1
 returns-2 : tie.Need-returns-2
 unfolding dataOf if
 returns-2 c = rw (c .before .match .keys2) (c .next-row .ensures)
 
--- src/write.rt:25:1
 returns-3 : tie.Need-returns-3
 unfolding dataOf if
 returns-3 c = rw (ne-eqb _ 1 (c .match .rest .0 .1), ne-eqb _ 2 (c .match .rest .1))
 
 pub data-of-spec : {M : Type 1} → statement M
-data-of-spec = tie.close (tie.spec add-requires next-row-requires returns returns-2 returns-3)
+data-of-spec = tie.close (tie.spec (λ c κs. search needs) (λ c κs. search needs) returns returns-2 returns-3)

@@ -4,33 +4,22 @@ use borrow.Author.Tests.{ne-eqb}
 use borrow.Author.Needs.{needs}
 use Rattle.unpack.proofs.write.field.Statement.{statement}
 use Rattle.unpack.proofs.write.field.Tie as tie
-use Rattle.unpack.proofs.write.field.Reads as reads
-use Rattle.unpack.proofs.write.field.Lts as lts
-use Rattle.unpack.proofs.write.data_of.Reads as data-of-reads
 
--- src/write.rt:39:14
-data-of-requires : tie.Need-data-of-requires
-data-of-requires c κs = search needs
-
--- src/write.rt:35:1
 returns : tie.Need-returns
 unfolding fieldOf if
 returns c = rw (c .before .match .keys1) (c .data-of .ensures)
 
--- src/write.rt:35:1
 returns-2 : tie.Need-returns-2
 unfolding fieldOf if
 returns-2 c = rw (c .match .keys2)
 
--- src/write.rt:35:1
 returns-3 : tie.Need-returns-3
 unfolding fieldOf if
 returns-3 c = rw (c .match .keys3)
 
--- src/write.rt:35:1
 returns-4 : tie.Need-returns-4
 unfolding fieldOf if
 returns-4 c = rw (ne-eqb _ 0 (c .match .rest .0 .0 .1), ne-eqb _ 1 (c .match .rest .0 .1), ne-eqb _ 2 (c .match .rest .1))
 
 pub field-spec : {M : Type 1} → statement M
-field-spec = tie.close (tie.spec data-of-requires returns returns-2 returns-3 returns-4)
+field-spec = tie.close (tie.spec (λ c κs. search needs) returns returns-2 returns-3 returns-4)

@@ -3,8 +3,6 @@ use borrow.Author.Tests.{eq-eqb, ne-eqb}
 use borrow.Author.Needs.{needs}
 use Rattle.unpack.proofs.write.is_plain.Statement.{statement}
 use Rattle.unpack.proofs.write.is_plain.Tie as tie
-use Rattle.unpack.proofs.write.is_plain.Reads as reads
-use Rattle.unpack.proofs.write.is_plain.Lts as lts
 
 returns : tie.Need-returns
 unfolding plain

@@ -5,11 +5,6 @@ use native.Mathlib.Omega.{arith}
 use borrow.Author.Needs.{needs}
 use Rattle.unpack.proofs.write.position.Statement.{statement}
 use Rattle.unpack.proofs.write.position.Tie as tie
-use Rattle.unpack.proofs.write.position.Reads as reads
-use Rattle.unpack.proofs.write.position.Lts as lts
-use Rattle.unpack.proofs.cycle.cycles_before.Reads as cycles-before-reads
-use Rattle.unpack.proofs.cycle.place_in_cycle.Reads as place-in-cycle-reads
-use Rattle.unpack.proofs.write.wrapped.Reads as wrapped-reads
 
 mul-start : tie.Need-mul-start
 mul-start c = let m = cycle-most (c .before .pre .0) (c .before .pre .3) (c .cycles-before .ensures) in omega arith

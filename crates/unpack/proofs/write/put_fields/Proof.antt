@@ -2,9 +2,6 @@ use Rattle.unpack.proofs.WriteLaws.{stored}
 use borrow.Author.Needs.{needs}
 use Rattle.unpack.proofs.write.put_fields.Statement.{statement}
 use Rattle.unpack.proofs.write.put_fields.Tie as tie
-use Rattle.unpack.proofs.write.put_fields.Reads as reads
-use Rattle.unpack.proofs.write.put_fields.Lts as lts
-use Rattle.unpack.proofs.write.put_field.Reads as put-field-reads
 
 returns : tie.Need-returns
 returns c = stored _ _ _ _ _ _ _ (c .before .before .before .before .before .before .before .before .before .before .before .before .before .before .put-field .ensures) (c .before .before .before .before .before .before .before .before .before .before .put-field2 .ensures) (c .before .before .before .before .before .before .put-field3 .ensures) (c .before .before .put-field4 .ensures)

@@ -5,8 +5,6 @@ use lib.ListN.{length-set}
 use borrow.Author.Needs.{needs}
 use Rattle.unpack.proofs.write.store_quadword.Statement.{statement}
 use Rattle.unpack.proofs.write.store_quadword.Tie as tie
-use Rattle.unpack.proofs.write.store_quadword.Reads as reads
-use Rattle.unpack.proofs.write.store_quadword.Lts as lts
 
 slice-write-data-2 : tie.Need-slice-write-data-2
 slice-write-data-2 c = simp length-set (omega arith)

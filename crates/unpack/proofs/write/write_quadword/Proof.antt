@@ -3,12 +3,6 @@ use mathlib.Core.Path.{sym, _∙_}
 use borrow.Author.Needs.{needs}
 use Rattle.unpack.proofs.write.write_quadword.Statement.{statement}
 use Rattle.unpack.proofs.write.write_quadword.Tie as tie
-use Rattle.unpack.proofs.write.write_quadword.Reads as reads
-use Rattle.unpack.proofs.write.write_quadword.Lts as lts
-use Rattle.unpack.proofs.write.is_plain.Reads as is-plain-reads
-use Rattle.unpack.proofs.write.next_rows.Reads as next-rows-reads
-use Rattle.unpack.proofs.write.put_fields.Reads as put-fields-reads
-use Rattle.unpack.proofs.write.store_quadword.Reads as store-quadword-reads
 
 returns : tie.Need-returns
 returns c = plain-stored _ _ _ _ _ _ _ (search needs) (sym (c .before .before .before .before .before .is-plain .ensures) ∙ c .before .before .before .before .if1 .taken) (c .before .before .store-quadword .ensures)

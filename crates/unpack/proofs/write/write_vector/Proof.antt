@@ -3,10 +3,6 @@ use native.Mathlib.Omega.{arith}
 use borrow.Author.Needs.{needs}
 use Rattle.unpack.proofs.write.write_vector.Statement.{statement}
 use Rattle.unpack.proofs.write.write_vector.Tie as tie
-use Rattle.unpack.proofs.write.write_vector.Reads as reads
-use Rattle.unpack.proofs.write.write_vector.Lts as lts
-use Rattle.unpack.proofs.write.position.Reads as position-reads
-use Rattle.unpack.proofs.write.write_quadword.Reads as write-quadword-reads
 
 write-quadword-requires : tie.Need-write-quadword-requires
 write-quadword-requires c κs =

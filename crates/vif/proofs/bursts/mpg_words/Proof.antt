@@ -11,11 +11,6 @@ use Rattle.vif.specs.Inner.{Leads}
 use Rattle.vif.proofs.BurstLaws.{storing, mpg-begins, mpg-more}
 use Rattle.vif.proofs.bursts.mpg_words.Statement.{statement}
 use Rattle.vif.proofs.bursts.mpg_words.Tie as tie
-use Rattle.vif.proofs.bursts.mpg_words.Reads as reads
-use Rattle.vif.proofs.bursts.mpg_words.Lts as lts
-use Rattle.fields.proofs.word_at.Reads as word-at-reads
-use Rattle.vif.proofs.mpg.store_mpg.Reads as store-mpg-reads
-use Rattle.vif.proofs.registers.with_waiting.Reads as with-waiting-reads
 
 abbrev Inv-loop : tie.InvT-loop
 Inv-loop unit address count due interrupt main a n code₀ k₀ code k =
@@ -30,7 +25,6 @@ Inv-loop unit address count due interrupt main a n code₀ k₀ code k =
 abbrev μ-loop : tie.MeasureT-loop
 μ-loop unit address count due interrupt main a n code₀ k₀ code k = n - k
 
--- src/bursts.rt:86:5
 loop-holds : tie.Need-loop-holds Inv-loop μ-loop
 loop-holds c =
     record {
@@ -39,35 +33,21 @@ loop-holds c =
       leads = λ p used mem log. mpg-begins _ _ _ _ _ _ _ p used _ (c .before .before .pre .0);
     }
 
--- src/bursts.rt:87:35
 sub-store-mpg : tie.Need-sub-store-mpg Inv-loop μ-loop
 sub-store-mpg c = omega arith
 
--- src/bursts.rt:87:62
 mul-word-at : tie.Need-mul-word-at Inv-loop μ-loop
 mul-word-at c = omega arith
 
--- src/bursts.rt:87:58
 add-word-at : tie.Need-add-word-at Inv-loop μ-loop
 add-word-at c = omega arith
 
--- src/bursts.rt:87:44
-word-at-requires : tie.Need-word-at-requires Inv-loop μ-loop
-word-at-requires c κs = search needs
-
--- src/bursts.rt:87:9
-store-mpg-requires : tie.Need-store-mpg-requires Inv-loop μ-loop
-store-mpg-requires c κs = search needs
-
--- src/bursts.rt:88:9
 add-k : tie.Need-add-k Inv-loop μ-loop
 add-k c = omega arith
 
--- src/bursts.rt:86:5
 loop-less : tie.Need-loop-less Inv-loop μ-loop
 loop-less c = omega arith
 
--- src/bursts.rt:86:5
 loop-again : tie.Need-loop-again Inv-loop μ-loop
 loop-again c =
     let q = c .before .before .before .before .before .before .loop .inv in
@@ -77,19 +57,12 @@ loop-again c =
       leads = λ p used mem log. mpg-more (c .before .before .before .before .before .before .before .before .before .args .unit) _ _ _ (omega arith) (c .before .before .before .before .word-at .ensures) (c .before .before .store-mpg .ensures) (q .leads p used mem log);
     }
 
--- src/bursts.rt:95:18
 sub-t19 : tie.Need-sub-t19 Inv-loop μ-loop
 sub-t19 c = omega arith
 
--- src/bursts.rt:90:5
-with-waiting-requires : tie.Need-with-waiting-requires Inv-loop μ-loop
-with-waiting-requires c κs = search needs
-
--- src/bursts.rt:71:1
 same-length : tie.Need-same-length Inv-loop μ-loop
 same-length c = c .before .before .loop .inv .lengths
 
--- src/bursts.rt:71:1
 returns : tie.Need-returns Inv-loop μ-loop
 returns c =
     λ p used mem log.
@@ -107,12 +80,12 @@ mpg-words-spec =
     sub-store-mpg
     mul-word-at
     add-word-at
-    word-at-requires
-    store-mpg-requires
+    (λ c κs. search needs)
+    (λ c κs. search needs)
     add-k
     loop-less
     loop-again
     sub-t19
-    with-waiting-requires
+    (λ c κs. search needs)
     same-length
     returns)

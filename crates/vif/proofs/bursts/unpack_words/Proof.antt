@@ -11,14 +11,6 @@ use Rattle.vif.specs.Inner.{UnpackReady, Leads}
 use Rattle.vif.proofs.BurstLaws.{unpacking, unpack-begins, unpack-ready, unpack-more}
 use Rattle.vif.proofs.bursts.unpack_words.Statement.{statement}
 use Rattle.vif.proofs.bursts.unpack_words.Tie as tie
-use Rattle.vif.proofs.bursts.unpack_words.Reads as reads
-use Rattle.vif.proofs.bursts.unpack_words.Lts as lts
-use Rattle.fields.proofs.word_at.Reads as word-at-reads
-use Rattle.unpack.proofs.take_word.Reads as take-word-reads
-use Rattle.vif.proofs.registers.with_row.Reads as with-row-reads
-use Rattle.vif.proofs.registers.with_waiting.Reads as with-waiting-reads
-use Rattle.vif.proofs.step.held.Reads as held-reads
-use Rattle.vif.proofs.step.write_registers.Reads as write-registers-reads
 
 abbrev Inv-loop : tie.InvT-loop
 Inv-loop unit f main a n data₀ registers row₀ rest₀ k₀ «data» row rest k =
@@ -35,11 +27,6 @@ Inv-loop unit f main a n data₀ registers row₀ rest₀ k₀ «data» row rest
 abbrev μ-loop : tie.MeasureT-loop
 μ-loop unit f main a n data₀ registers row₀ rest₀ k₀ «data» row rest k = n - k
 
--- src/bursts.rt:56:9
-write-registers-requires : tie.Need-write-registers-requires Inv-loop μ-loop
-write-registers-requires c κs = search needs
-
--- src/bursts.rt:60:5
 loop-holds : tie.Need-loop-holds Inv-loop μ-loop
 loop-holds c =
     let q = c .before .before .before .before .pre in
@@ -51,35 +38,21 @@ loop-holds c =
       leads = λ p used code log. unpack-begins _ _ _ _ _ p used _ (q .0);
     }
 
--- src/bursts.rt:61:38
 mul-word-at : tie.Need-mul-word-at Inv-loop μ-loop
 mul-word-at c = omega arith
 
--- src/bursts.rt:61:34
 add-word-at : tie.Need-add-word-at Inv-loop μ-loop
 add-word-at c = omega arith
 
--- src/bursts.rt:61:13
-word-at-requires : tie.Need-word-at-requires Inv-loop μ-loop
-word-at-requires c κs = search needs
-
--- src/bursts.rt:62:13
-take-word-requires : tie.Need-take-word-requires Inv-loop μ-loop
-take-word-requires c κs = search needs
-
--- src/bursts.rt:64:9
 held-requires : tie.Need-held-requires Inv-loop μ-loop
 held-requires c κs = c .before .before .before .before .before .before .before .loop .inv .ready .some
 
--- src/bursts.rt:65:9
 add-k : tie.Need-add-k Inv-loop μ-loop
 add-k c = omega arith
 
--- src/bursts.rt:60:5
 loop-less : tie.Need-loop-less Inv-loop μ-loop
 loop-less c = omega arith
 
--- src/bursts.rt:60:5
 loop-again : tie.Need-loop-again Inv-loop μ-loop
 loop-again c =
     let q = c .before .before .before .before .before .before .before .before .loop .inv in
@@ -96,19 +69,9 @@ loop-again c =
           (unpack-more _ _ _ _ _ _ (q .ready) h (c .before .before .before .before .before .before .before .before .before .before .write-registers .ensures) (c .before .before .before .before .take-word .ensures) (c .before .before .before .before .before .before .word-at .ensures) (q .leads p used code log));
     }
 
--- src/bursts.rt:67:18
-with-row-requires : tie.Need-with-row-requires Inv-loop μ-loop
-with-row-requires c κs = search needs
-
--- src/bursts.rt:67:5
-with-waiting-requires : tie.Need-with-waiting-requires Inv-loop μ-loop
-with-waiting-requires c κs = search needs
-
--- src/bursts.rt:44:1
 same-length : tie.Need-same-length Inv-loop μ-loop
 same-length c = c .before .before .before .loop .inv .lengths
 
--- src/bursts.rt:44:1
 returns : tie.Need-returns Inv-loop μ-loop
 returns c =
     λ p used code log.
@@ -122,17 +85,17 @@ unpack-words-spec =
     (tie.spec
     Inv-loop
     μ-loop
-    write-registers-requires
+    (λ c κs. search needs)
     loop-holds
     mul-word-at
     add-word-at
-    word-at-requires
-    take-word-requires
+    (λ c κs. search needs)
+    (λ c κs. search needs)
     held-requires
     add-k
     loop-less
     loop-again
-    with-row-requires
-    with-waiting-requires
+    (λ c κs. search needs)
+    (λ c κs. search needs)
     same-length
     returns)

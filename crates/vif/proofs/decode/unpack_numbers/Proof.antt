@@ -3,10 +3,7 @@ use Rattle.fields.specs.Fields.{bits}
 use native.Mathlib.Nat.{div-one}
 use Rattle.vif.proofs.decode.unpack_numbers.Statement.{statement}
 use Rattle.vif.proofs.decode.unpack_numbers.Tie as tie
-use Rattle.vif.proofs.decode.unpack_numbers.Reads as reads
-use Rattle.vif.proofs.decode.unpack_numbers.Lts as lts
 
--- src/decode.rt:76:1
 returns : tie.Need-returns
 unfolding unpackNumbers bits
 returns c = simp div-one

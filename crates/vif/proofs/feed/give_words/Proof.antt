@@ -10,11 +10,6 @@ use Rattle.vif.specs.Inner.{FedReady, fedIn, restOf}
 use Rattle.vif.proofs.FeedLaws.{rest-begins, rest-out, rest-used, rest-ends}
 use Rattle.vif.proofs.feed.give_words.Statement.{statement}
 use Rattle.vif.proofs.feed.give_words.Tie as tie
-use Rattle.vif.proofs.feed.give_words.Reads as reads
-use Rattle.vif.proofs.feed.give_words.Lts as lts
-use Rattle.vif.proofs.bursts.burst.Reads as burst-reads
-use Rattle.vif.proofs.feed.give_word.Reads as give-word-reads
-use Rattle.vif.proofs.bursts.taken.Reads as taken-reads
 
 abbrev Inv-loop : tie.InvT-loop
 Inv-loop main a count limit data₀ code₀ log₀ used s₀ «data» code log s =
@@ -28,11 +23,6 @@ Inv-loop main a count limit data₀ code₀ log₀ used s₀ «data» code log s
 abbrev μ-loop : tie.MeasureT-loop
 μ-loop main a count limit data₀ code₀ log₀ used s₀ «data» code log s = limit - s .steps
 
--- src/feed.rt:73:9
-taken-requires : tie.Need-taken-requires Inv-loop μ-loop
-taken-requires c κs = search needs
-
--- src/feed.rt:74:5
 loop-holds : tie.Need-loop-holds Inv-loop μ-loop
 loop-holds c =
     let e = c .taken .ensures in
@@ -43,39 +33,30 @@ loop-holds c =
       same = rest-begins _ _ _ _ (c .taken .result) _ (rw e) (rw e);
     }
 
--- src/feed.rt:76:13
 same-length : tie.Need-same-length Inv-loop μ-loop
 same-length c = c .before .before .loop .inv .lengths .0
 
--- src/feed.rt:76:13
 same-length-2 : tie.Need-same-length-2 Inv-loop μ-loop
 same-length-2 c = c .before .before .loop .inv .lengths .1
 
--- src/feed.rt:76:13
 same-length-3 : tie.Need-same-length-3 Inv-loop μ-loop
 same-length-3 c = c .before .before .loop .inv .lengths .2
 
--- src/feed.rt:76:13
 returns : tie.Need-returns Inv-loop μ-loop
 returns c = rest-ends _ _ _ _ _ (c .before .before .before .taken .ensures) (c .before .before .loop .inv .same) (rest-out _ _ _ _ _ _ (c .before .before .loop .inv .quiet) (c .if1 .taken))
 
--- src/feed.rt:79:13
 same-length-4 : tie.Need-same-length-4 Inv-loop μ-loop
 same-length-4 c = c .before .before .before .before .loop .inv .lengths .0
 
--- src/feed.rt:79:13
 same-length-5 : tie.Need-same-length-5 Inv-loop μ-loop
 same-length-5 c = c .before .before .before .before .loop .inv .lengths .1
 
--- src/feed.rt:79:13
 same-length-6 : tie.Need-same-length-6 Inv-loop μ-loop
 same-length-6 c = c .before .before .before .before .loop .inv .lengths .2
 
--- src/feed.rt:79:13
 returns-2 : tie.Need-returns-2 Inv-loop μ-loop
 returns-2 c = rest-ends _ _ _ _ _ (c .before .before .before .before .before .taken .ensures) (c .before .before .before .before .loop .inv .same) (rest-used _ _ _ _ _ _ (c .before .before .before .before .loop .inv .quiet) (c .if2 .taken))
 
--- src/feed.rt:81:13
 burst-requires : tie.Need-burst-requires Inv-loop μ-loop
 burst-requires c κs =
     let q = c .before .before .before .before .before .before .before .loop .inv in (
@@ -85,7 +66,6 @@ burst-requires c κs =
       record { near = c .before .before .before .before .before .before .before .before .before .before .before .before .before .pre .1; few-words = c .before .before .before .if2 .left; few-steps = c .before .before .before .before .before .if1 .left; quiet = q .quiet },
     )
 
--- src/feed.rt:82:9
 give-word-requires : tie.Need-give-word-requires Inv-loop μ-loop
 give-word-requires c κs =
     let u = c .before .before .before .before .before .before .before .before .before .burst .ensures in
@@ -93,43 +73,34 @@ give-word-requires c κs =
     let l = c .before .before .before .before .before .before .before .before .before .before .before .before .before .before .before .before .before .before .before .before .before .before .before .fits .limit in
     (u .stays (c .before .before .before .before .before .before .before .before .before .before .before .before .before .before .before .before .before .loop .inv .ready), omega arith, omega arith)
 
--- src/feed.rt:84:13
 same-length-7 : tie.Need-same-length-7 Inv-loop μ-loop
 same-length-7 c = c .before .before .before .before .before .before .before .give-word .kept .1 .1 .1 .0 ∙ c .before .before .before .before .before .before .before .before .before .before .before .before .before .before .before .before .before .burst .kept .1 .1 .1 .1 .1 .0 ∙ c .before .before .before .before .before .before .before .before .before .before .before .before .before .before .before .before .before .before .before .before .before .before .before .before .before .loop .inv .lengths .0
 
--- src/feed.rt:84:13
 same-length-8 : tie.Need-same-length-8 Inv-loop μ-loop
 same-length-8 c = c .before .before .before .before .before .before .before .give-word .kept .1 .1 .1 .1 .0 ∙ c .before .before .before .before .before .before .before .before .before .before .before .before .before .before .before .before .before .burst .kept .1 .1 .1 .1 .1 .1 .0 ∙ c .before .before .before .before .before .before .before .before .before .before .before .before .before .before .before .before .before .before .before .before .before .before .before .before .before .loop .inv .lengths .1
 
--- src/feed.rt:84:13
 same-length-9 : tie.Need-same-length-9 Inv-loop μ-loop
 same-length-9 c = c .before .before .before .before .before .before .before .give-word .kept .1 .1 .1 .1 .1 .0 ∙ c .before .before .before .before .before .before .before .before .before .before .before .before .before .before .before .before .before .burst .kept .1 .1 .1 .1 .1 .1 .1 .0 ∙ c .before .before .before .before .before .before .before .before .before .before .before .before .before .before .before .before .before .before .before .before .before .before .before .before .before .loop .inv .lengths .2
 
--- src/feed.rt:84:13
 returns-3 : tie.Need-returns-3 Inv-loop μ-loop
 returns-3 c =
     let u = c .before .before .before .before .before .before .before .before .before .before .before .before .before .before .before .before .before .burst .ensures in
     rest-ends _ _ _ _ _ (c .before .before .before .before .before .before .before .before .before .before .before .before .before .before .before .before .before .before .before .before .before .before .before .before .before .before .taken .ensures) (c .before .before .before .before .before .before .before .before .before .before .before .before .before .before .before .before .before .before .before .before .before .before .before .before .before .loop .inv .same) (u .same ∙ c .before .before .before .before .before .before .before .give-word .ensures .stops _ _ (u .going) (c .if3 .taken))
 
--- src/feed.rt:87:13
 same-length-10 : tie.Need-same-length-10 Inv-loop μ-loop
 same-length-10 c = c .before .before .before .before .before .before .before .before .before .before .give-word .kept .1 .1 .1 .0 ∙ c .before .before .before .before .before .before .before .before .before .before .before .before .before .before .before .before .before .before .before .before .burst .kept .1 .1 .1 .1 .1 .0 ∙ c .before .before .before .before .before .before .before .before .before .before .before .before .before .before .before .before .before .before .before .before .before .before .before .before .before .before .before .before .loop .inv .lengths .0
 
--- src/feed.rt:87:13
 same-length-11 : tie.Need-same-length-11 Inv-loop μ-loop
 same-length-11 c = c .before .before .before .before .before .before .before .before .before .before .give-word .kept .1 .1 .1 .1 .0 ∙ c .before .before .before .before .before .before .before .before .before .before .before .before .before .before .before .before .before .before .before .before .burst .kept .1 .1 .1 .1 .1 .1 .0 ∙ c .before .before .before .before .before .before .before .before .before .before .before .before .before .before .before .before .before .before .before .before .before .before .before .before .before .before .before .before .loop .inv .lengths .1
 
--- src/feed.rt:87:13
 same-length-12 : tie.Need-same-length-12 Inv-loop μ-loop
 same-length-12 c = c .before .before .before .before .before .before .before .before .before .before .give-word .kept .1 .1 .1 .1 .1 .0 ∙ c .before .before .before .before .before .before .before .before .before .before .before .before .before .before .before .before .before .before .before .before .burst .kept .1 .1 .1 .1 .1 .1 .1 .0 ∙ c .before .before .before .before .before .before .before .before .before .before .before .before .before .before .before .before .before .before .before .before .before .before .before .before .before .before .before .before .loop .inv .lengths .2
 
--- src/feed.rt:87:13
 returns-4 : tie.Need-returns-4 Inv-loop μ-loop
 returns-4 c =
     let u = c .before .before .before .before .before .before .before .before .before .before .before .before .before .before .before .before .before .before .before .before .burst .ensures in
     rest-ends _ _ _ _ _ (c .before .before .before .before .before .before .before .before .before .before .before .before .before .before .before .before .before .before .before .before .before .before .before .before .before .before .before .before .before .taken .ensures) (c .before .before .before .before .before .before .before .before .before .before .before .before .before .before .before .before .before .before .before .before .before .before .before .before .before .before .before .before .loop .inv .same) (u .same ∙ c .before .before .before .before .before .before .before .before .before .before .give-word .ensures .refuses _ _ (u .going) (c .if4 .taken))
 
--- src/feed.rt:74:5
 loop-less : tie.Need-loop-less Inv-loop μ-loop
 loop-less c =
     let u = c .before .before .before .before .before .before .before .before .before .before .before .before .before .before .before .before .before .before .before .before .burst .ensures in
@@ -138,7 +109,6 @@ loop-less c =
     let z = c .if4 .left in
     omega arith
 
--- src/feed.rt:74:5
 loop-again : tie.Need-loop-again Inv-loop μ-loop
 loop-again c =
     let u = c .before .before .before .before .before .before .before .before .before .before .before .before .before .before .before .before .before .before .before .before .burst .ensures in
@@ -157,7 +127,7 @@ give-words-spec =
     (tie.spec
     Inv-loop
     μ-loop
-    taken-requires
+    (λ c κs. search needs)
     loop-holds
     same-length
     same-length-2

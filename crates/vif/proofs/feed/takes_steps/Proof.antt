@@ -4,35 +4,19 @@ use Rattle.vif.specs.Feed.{takesSteps}
 use borrow.Author.Needs.{needs}
 use Rattle.vif.proofs.feed.takes_steps.Statement.{statement}
 use Rattle.vif.proofs.feed.takes_steps.Tie as tie
-use Rattle.vif.proofs.feed.takes_steps.Reads as reads
-use Rattle.vif.proofs.feed.takes_steps.Lts as lts
-use Rattle.gif.proofs.log_refused.Reads as log-refused-reads
-use Rattle.vif.proofs.step.in_range.Reads as in-range-reads
 
--- src/feed.rt:109:9
 returns : tie.Need-returns
 unfolding takesSteps
 returns c = rw (ne-eqb _ 4096 (c .if1 .taken))
 
--- src/feed.rt:112:9
 returns-2 : tie.Need-returns-2
 unfolding takesSteps
 returns-2 c = rw (eq-eqb _ 4096 (c .before .if1 .left), ne-eqb _ 16384 (c .if2 .taken))
 
--- src/feed.rt:114:8
-log-refused-requires : tie.Need-log-refused-requires
-log-refused-requires c κs = search needs
-
--- src/feed.rt:115:9
 returns-3 : tie.Need-returns-3
 unfolding takesSteps
 returns-3 c = rw (eq-eqb _ 4096 (c .before .before .before .if1 .left), eq-eqb _ 16384 (c .before .before .if2 .left), sym (c .before .log-refused .ensures) ∙ c .if3 .taken)
 
--- src/feed.rt:117:5
-in-range-requires : tie.Need-in-range-requires
-in-range-requires c κs = search needs
-
--- src/feed.rt:105:1
 returns-4 : tie.Need-returns-4
 unfolding takesSteps
 returns-4 c = rw (eq-eqb _ 4096 (c .before .before .before .before .if1 .left), eq-eqb _ 16384 (c .before .before .before .if2 .left), sym (c .before .before .log-refused .ensures) ∙ c .before .if3 .left) (c .in-range .ensures)
@@ -40,4 +24,4 @@ returns-4 c = rw (eq-eqb _ 4096 (c .before .before .before .before .if1 .left), 
 pub takes-steps-spec : {M : Type 1} → statement M
 takes-steps-spec =
     tie.close
-    (tie.spec returns returns-2 log-refused-requires returns-3 in-range-requires returns-4)
+    (tie.spec returns returns-2 (λ c κs. search needs) returns-3 (λ c κs. search needs) returns-4)

@@ -3,15 +3,11 @@ use Rattle.fields.specs.Fields.{if}
 use borrow.Author.Tests.{eq-eqb, ne-eqb}
 use Rattle.vif.proofs.payload.completed.Statement.{statement}
 use Rattle.vif.proofs.payload.completed.Tie as tie
-use Rattle.vif.proofs.payload.completed.Reads as reads
-use Rattle.vif.proofs.payload.completed.Lts as lts
 
--- src/payload.rt:16:1
 returns : tie.Need-returns
 unfolding completes if
 returns c = rw (eq-eqb _ _ (c .if1 .taken))
 
--- src/payload.rt:16:1
 returns-2 : tie.Need-returns-2
 unfolding completes if
 returns-2 c = rw (ne-eqb _ _ (c .if1 .left))

@@ -3,15 +3,11 @@ use Rattle.fields.specs.Fields.{if}
 use borrow.Author.Tests.{eq-eqb, ne-eqb}
 use Rattle.vif.proofs.payload.or_nothing.Statement.{statement}
 use Rattle.vif.proofs.payload.or_nothing.Tie as tie
-use Rattle.vif.proofs.payload.or_nothing.Reads as reads
-use Rattle.vif.proofs.payload.or_nothing.Lts as lts
 
--- src/payload.rt:22:1
 returns : tie.Need-returns
 unfolding orNothing if
 returns c = rw (eq-eqb _ _ (c .if1 .taken))
 
--- src/payload.rt:22:1
 returns-2 : tie.Need-returns-2
 unfolding orNothing if
 returns-2 c = rw (ne-eqb _ _ (c .if1 .left))

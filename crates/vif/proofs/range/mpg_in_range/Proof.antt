@@ -5,34 +5,19 @@ use mathlib.Core.Path.{sym, _∙_}
 use borrow.Author.Needs.{needs}
 use Rattle.vif.proofs.range.mpg_in_range.Statement.{statement}
 use Rattle.vif.proofs.range.mpg_in_range.Tie as tie
-use Rattle.vif.proofs.range.mpg_in_range.Reads as reads
-use Rattle.vif.proofs.range.mpg_in_range.Lts as lts
-use Rattle.vif.proofs.range.up_to.Reads as up-to-reads
 
--- src/range.rt:58:9
 returns : tie.Need-returns
 returns c = rw (lt-leb _ _ (c .if1 .taken))
 
--- src/range.rt:60:8
-up-to-requires : tie.Need-up-to-requires
-up-to-requires c κs = search needs
-
--- src/range.rt:61:22
 add-up-to : tie.Need-add-up-to
 add-up-to c = let f = up-to-fits 256 (c .before .before .before .args .count) (sym (c .before .up-to .ensures) ∙ c .if2 .taken) in omega arith
 
--- src/range.rt:61:9
-up-to-requires-2 : tie.Need-up-to-requires-2
-up-to-requires-2 c κs = search needs
-
--- src/range.rt:61:9
 returns-2 : tie.Need-returns-2
 returns-2 c = rw (le-leb _ _ (c .before .before .before .if1 .left), sym (c .before .before .up-to .ensures) ∙ c .before .if2 .taken) (c .up-to2 .ensures)
 
--- src/range.rt:54:1
 returns-3 : tie.Need-returns-3
 returns-3 c = rw (le-leb _ _ (c .before .before .if1 .left), sym (c .before .up-to .ensures) ∙ c .if2 .left)
 
 pub mpg-in-range-spec : {M : Type 1} → statement M
 mpg-in-range-spec =
-    tie.close (tie.spec returns up-to-requires add-up-to up-to-requires-2 returns-2 returns-3)
+    tie.close (tie.spec returns (λ c κs. search needs) add-up-to (λ c κs. search needs) returns-2 returns-3)
