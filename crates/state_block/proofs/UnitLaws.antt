@@ -9,41 +9,33 @@ use lib.ListN.{getD, length, length-append}
 use Rattle.fields.specs.Fields.{if}
 use Rattle.fields.specs.Parts.{withWords}
 use Rattle.unpack.specs.declared.Format.{Format}
-use Rattle.unpack.specs.declared.Format.the-variants.{S32, S16, S8, V2x32, V2x16, V2x8, V3x32, V3x16, V3x8, V4x32, V4x16, V4x8, V4x5}
+use Rattle.unpack.specs.declared.NamedFormat.{NamedFormat}
+use Rattle.unpack.specs.declared.NamedFormat.the-variants.{Named, Missing}
+use Rattle.unpack.specs.Formats.{formatNumber, formatNamed}
+use Rattle.unpack.proofs.FormatLaws.{named-number, number-named}
 use Rattle.vif.specs.declared.Waiting.{Waiting}
 use Rattle.vif.specs.declared.Waiting.the-variants.{Nothing, MaskDue, RowDue, ColDue, MpgDue, DirectDue, DirecthlDue, UnpackDue}
 use Rattle.vif.specs.declared.Vif.{Vif}
-use Rattle.state_block.specs.declared.ReadFormat.{ReadFormat}
 use Rattle.state_block.specs.declared.ReadWaiting.{ReadWaiting}
 use Rattle.state_block.specs.Sizes.{registerSize, waitingSize, unitSize}
 use Rattle.state_block.specs.Words.{numbered}
-use Rattle.state_block.specs.UnitBlock.{formatNumber, aFormat, noFormat, formats, formatNumbered, waitingNumber, waitingWords, readWaiting, waitings, waitingInBlock, registerWords, unitBlock, readUnit, unitWith, unitInBlock}
+use Rattle.state_block.specs.UnitBlock.{aFormat, readFormat, formatNumbered, waitingNumber, waitingWords, readWaiting, waitings, waitingInBlock, registerWords, unitBlock, readUnit, unitWith, unitInBlock}
 use Rattle.state_block.proofs.WordLaws.{bit-is, bit-back, has-number}
 use Rattle.state_block.proofs.PartLaws.{begins-none, begins-more, begins-all}
 
 -- ---- formats and their numbers
 
 pub format-back : (f : Format) → formatNumbered (formatNumber f) ≡ aFormat f
-unfolding formatNumbered numbered if
-format-back S32 = refl
-format-back S16 = refl
-format-back S8 = refl
-format-back V2x32 = refl
-format-back V2x16 = refl
-format-back V2x8 = refl
-format-back V3x32 = refl
-format-back V3x16 = refl
-format-back V3x8 = refl
-format-back V4x32 = refl
-format-back V4x16 = refl
-format-back V4x8 = refl
-format-back V4x5 = refl
+unfolding formatNumbered
+format-back f = rw (named-number f)
 
 pub format-has : (n : ℕ) → formatNumbered n .known ≡ true → formatNumber (formatNumbered n .format) ≡ n
 unfolding formatNumbered
-format-has n h =
-    ⊎-elim (λ e. e) (λ e. absurd (let k = rw e at h in let z : _≡_ {A = ℕ} 0 1 = cc in omega arith))
-    (has-number (λ (r : ReadFormat). formatNumber (r .format)) n formats noFormat)
+format-has n h = by-name (formatNamed n) refl h
+  where
+    by-name : (r : NamedFormat) → formatNamed n ≡ r → readFormat r .known ≡ true → formatNumber (readFormat r .format) ≡ n
+    by-name (Named f) e k = number-named n f e
+    by-name Missing e k = absurd (let z : _≡_ {A = ℕ} 0 1 = cc in omega arith)
 
 -- ---- the code that waits
 

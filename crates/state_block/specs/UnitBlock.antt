@@ -6,7 +6,10 @@ use lib.ListN.{length, getD}
 use lib.Dec.{eqb}
 use Rattle.fields.specs.Fields.{if}
 use Rattle.unpack.specs.declared.Format.{Format}
-use Rattle.unpack.specs.declared.Format.the-variants.{S32, S16, S8, V2x32, V2x16, V2x8, V3x32, V3x16, V3x8, V4x32, V4x16, V4x8, V4x5}
+use Rattle.unpack.specs.declared.Format.the-variants.{S32}
+use Rattle.unpack.specs.declared.NamedFormat.{NamedFormat}
+use Rattle.unpack.specs.declared.NamedFormat.the-variants.{Named, Missing}
+use Rattle.unpack.specs.Formats.{formatNumber, formatNamed}
 use Rattle.unpack.specs.declared.Unpacking.{Unpacking}
 use Rattle.vif.specs.declared.Waiting.{Waiting}
 use Rattle.vif.specs.declared.Waiting.the-variants.{Nothing, MaskDue, RowDue, ColDue, MpgDue, DirectDue, DirecthlDue, UnpackDue}
@@ -21,48 +24,19 @@ use Rattle.state_block.specs.Words.{bitOf, isBit, bitAt, numbered}
 
 -- ---- the format of an UNPACK
 
--- word 26: bits 0 to 3 of CMD
-abbrev pub formatNumber : Format → ℕ
-formatNumber S32 = 0
-formatNumber S16 = 1
-formatNumber S8 = 2
-formatNumber V2x32 = 4
-formatNumber V2x16 = 5
-formatNumber V2x8 = 6
-formatNumber V3x32 = 8
-formatNumber V3x16 = 9
-formatNumber V3x8 = 10
-formatNumber V4x32 = 12
-formatNumber V4x16 = 13
-formatNumber V4x8 = 14
-formatNumber V4x5 = 15
-
+-- what word 26 says, bits 0 to 3 of CMD, and whether it is a format's
 abbrev pub aFormat : Format → ReadFormat
 aFormat f = record { known = true; format = f }
 
 abbrev pub noFormat : ReadFormat
 noFormat = record { known = false; format = S32 }
 
-abbrev pub formats : List ReadFormat
-formats =
-    aFormat S32
-    ∷ aFormat S16
-    ∷ aFormat S8
-    ∷ aFormat V2x32
-    ∷ aFormat V2x16
-    ∷ aFormat V2x8
-    ∷ aFormat V3x32
-    ∷ aFormat V3x16
-    ∷ aFormat V3x8
-    ∷ aFormat V4x32
-    ∷ aFormat V4x16
-    ∷ aFormat V4x8
-    ∷ aFormat V4x5
-    ∷ []
+abbrev pub readFormat : NamedFormat → ReadFormat
+readFormat (Named f) = aFormat f
+readFormat Missing = noFormat
 
--- the format of a number, if it is a format's
 unfoldable pub formatNumbered : ℕ → ReadFormat
-formatNumbered n = numbered (λ (r : ReadFormat). formatNumber (r .format)) n formats noFormat
+formatNumbered n = readFormat (formatNamed n)
 
 -- ---- the code that waits
 

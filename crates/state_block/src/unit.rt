@@ -8,6 +8,7 @@ use super::WAITING_WORDS;
 use super::words::bit;
 use super::words::both;
 use unpack::Format;
+use unpack::NamedFormat;
 use unpack::Unpacking;
 use vif::Vif;
 use vif::Waiting;
@@ -16,27 +17,7 @@ ghost use mathlib.Core.Bool.{false};
 ghost use mathlib.Core.List.{_∷_};
 ghost use lib.ListN.{length};
 ghost use Rattle.state_block.specs.Sizes.{unitSize};
-ghost use Rattle.state_block.specs.UnitBlock.{formatNumber, aFormat, noFormat, formatNumbered, dueWords, mpgWords, unpackWords, waitingWords, readWaiting, unpackingInBlock, unpackWith, waitingInBlock, registerWords, unitBlock, heldUnit, noUnit, readUnit, unitWith, unitInBlock};
-
-fn format_number(f: Format) -> u32
-    ensures { λ r. ⌜ r ≡ formatNumber f ⌝ }
-{
-    match f {
-        Format::S32 => 0,
-        Format::S16 => 1,
-        Format::S8 => 2,
-        Format::V2x32 => 4,
-        Format::V2x16 => 5,
-        Format::V2x8 => 6,
-        Format::V3x32 => 8,
-        Format::V3x16 => 9,
-        Format::V3x8 => 10,
-        Format::V4x32 => 12,
-        Format::V4x16 => 13,
-        Format::V4x8 => 14,
-        Format::V4x5 => 15,
-    }
-}
+ghost use Rattle.state_block.specs.UnitBlock.{aFormat, noFormat, formatNumbered, dueWords, mpgWords, unpackWords, waitingWords, readWaiting, unpackingInBlock, unpackWith, waitingInBlock, registerWords, unitBlock, heldUnit, noUnit, readUnit, unitWith, unitInBlock};
 
 // Words 21 to 31 of a code that has nothing but its payload due.
 fn due_words(code: u32, interrupt: bool, due: u32) -> [u32; WAITING_WORDS]
@@ -60,7 +41,7 @@ fn unpack_words(f: Format, u: Unpacking) -> [u32; WAITING_WORDS]
         u.due,
         u.address,
         u.count,
-        format_number(f),
+        unpack::format_number(f),
         bit(u.usn),
         bit(u.masked),
         u.first,
@@ -155,21 +136,9 @@ fn no_format() -> ReadFormat
 fn format_numbered(n: u32) -> ReadFormat
     ensures { λ r. ⌜ r ≡ formatNumbered n ⌝ }
 {
-    match n {
-        0 => a_format(Format::S32),
-        1 => a_format(Format::S16),
-        2 => a_format(Format::S8),
-        4 => a_format(Format::V2x32),
-        5 => a_format(Format::V2x16),
-        6 => a_format(Format::V2x8),
-        8 => a_format(Format::V3x32),
-        9 => a_format(Format::V3x16),
-        10 => a_format(Format::V3x8),
-        12 => a_format(Format::V4x32),
-        13 => a_format(Format::V4x16),
-        14 => a_format(Format::V4x8),
-        15 => a_format(Format::V4x5),
-        _ => no_format(),
+    match unpack::format_named(n) {
+        NamedFormat::Named(f) => a_format(f),
+        NamedFormat::Missing => no_format(),
     }
 }
 
