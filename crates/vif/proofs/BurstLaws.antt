@@ -6,7 +6,7 @@ use Prim.Native.Nat.{ℕ, suc, _+_, _*_, _-_, _/_, _%_, _<_}
 use native.Mathlib.Nat.{sub-zero}
 use native.Mathlib.Numerals.{one-add}
 use native.Mathlib.Omega.{arith}
-use borrow.Author.Tests.{eq-eqb, ne-eqb}
+use borrow.Author.Tests.{ne-eqb}
 use lib.ListN.{length}
 use lib.Dec.{eqb}
 use Rattle.fields.specs.Fields.{if}
@@ -18,6 +18,9 @@ use Rattle.gif.specs.declared.QuadwordsResult.{QuadwordsResult}
 use Rattle.gif.specs.Step.{gifStep}
 use Rattle.gif.specs.Feed.{Fed as GifFed, fedBy, feedOf as gifFeedOf}
 use Rattle.gif.proofs.FeedLaws.{Takes, none, more, feed-quadwords, feed-few}
+use Rattle.memories.specs.declared.VifUnit.{VifUnit}
+use Rattle.memories.specs.Units.{quadwords, instructions}
+use Rattle.memories.specs.Lengths.{Lent, lent}
 use Rattle.unpack.specs.declared.Format.{Format}
 use Rattle.unpack.specs.declared.Unpacking.{Unpacking}
 use Rattle.unpack.specs.declared.Registers.{Registers}
@@ -33,9 +36,10 @@ use Rattle.vif.specs.declared.Vif.{Vif}
 use Rattle.vif.specs.Setters.{withRow, withWaiting}
 use Rattle.vif.specs.Payload.{completes, orNothing, mpgStored, writeRegisters}
 use Rattle.vif.specs.Words.{incomingAt}
-use Rattle.vif.specs.Step.{Lent, lent, leaves, wordIn, giveQuadword, directStep, unpackStep, stepBy, vifStep}
+use Rattle.vif.specs.Step.{leaves, wordIn, giveQuadword, directStep, unpackStep, stepBy, vifStep}
 use Rattle.vif.specs.Feeds.{Fed, fed, aWord, aQuadword}
-use Rattle.vif.specs.Inner.{UnpackReady, Leads, directs, Quadwords, fedIn, Going, Bursts, takenWith}
+use Rattle.vif.specs.Inner.{UnpackReady, MpgReady, Leads, directs, Quadwords, fedIn, Going, Bursts, takenWith}
+use Rattle.vif.proofs.RangeLaws.{memory-accepted}
 use Rattle.vif.proofs.FeedLaws.{leads-none, leads-one, leads-then, rest-leads}
 
 -- the word at an address is the one that comes
@@ -56,9 +60,9 @@ unfolding orNothing if
 waits-still due w h = rw (ne-eqb due 1 (λ e. omega arith))
 
 -- a word more
-word-more : {main : List ℕ} {a k : ℕ} {x y z : Fed} → Leads main a k k x y
-    → vifStep (y .unit) (y .path2) (incomingAt main (a + 4 * k)) (y .used) (y .memories) ≡ leaves aWord (z .unit) (z .path2) (z .used) (z .memories)
-    → Leads main a (k + 1) (k + 1) x z
+word-more : {which : VifUnit} {main : List ℕ} {a k : ℕ} {x y z : Fed} → Leads which main a k k x y
+    → vifStep which (y .unit) (y .path2) (incomingAt main (a + 4 * k)) (y .used) (y .memories) ≡ leaves aWord (z .unit) (z .path2) (z .used) (z .memories)
+    → Leads which main a (k + 1) (k + 1) x z
 word-more {z = z} p e = leads-then p (leads-one {o = leaves aWord (z .unit) (z .path2) (z .used) (z .memories)} (sym e) refl (λ q. omega arith) refl)
 
 -- ---- UNPACK
@@ -67,66 +71,75 @@ word-more {z = z} p e = leads-then p (leads-one {o = leaves aWord (z .unit) (z .
 abbrev pub unpacking : Vif → Format → List ℕ → Unpacking → Vif
 unpacking v f row u = withWaiting (withRow v row) (UnpackDue f u)
 
-pub unpack-begins : (main : List ℕ) (a : ℕ) (v : Vif) (f : Format) (u : Unpacking) (p : Path) (used : ℕ) (m : Lent) → v .waiting ≡ UnpackDue f u
-    → Leads main a 0 0 (fed v p used m) (fed (unpacking v f (v .row) u) p used m)
-unpack-begins main a v f u p used m h = rw (← ap (λ (w : Waiting). fed (withWaiting v w) p used m) h) leads-none
+pub unpack-begins : (which : VifUnit) (main : List ℕ) (a : ℕ) (v : Vif) (f : Format) (u : Unpacking) (p : Path) (used : ℕ) (m : Lent) → v .waiting ≡ UnpackDue f u
+    → Leads which main a 0 0 (fed v p used m) (fed (unpacking v f (v .row) u) p used m)
+unpack-begins which main a v f u p used m h = rw (← ap (λ (w : Waiting). fed (withWaiting v w) p used m) h) leads-none
 
-module _ (v : Vif) (f : Format) (u : Unpacking) (word : ℕ) (row mem : List ℕ) (g : UnpackReady v f u mem) (h : 1 < u .due) where
+module _ (size : ℕ) (v : Vif) (f : Format) (u : Unpacking) (word : ℕ) (row mem : List ℕ) (g : UnpackReady size v f u mem) (h : 1 < u .due) where
   -- a payload word before the last leaves it waiting, ready for the next
-  pub unpack-ready : (m : List ℕ) → length m ≡ length mem → UnpackReady v f (holds u word) m
+  pub unpack-ready : (m : List ℕ) → length m ≡ length mem → UnpackReady size v f (holds u word) m
   unfolding acceptable
   unpack-ready m l =
-      let x = acceptable-fits 1024 f u (writeRegisters v) mem (g .accepted) in
+      let x = acceptable-fits size f u (writeRegisters v) mem (g .accepted) in
       let y = x .unpacking in
       let d = y .most in
-      let s = x .memory .long in
+      let s = x .memory in
       record {
         some = omega arith;
         accepted =
-            rw (eq-eqb (length m) 4096 (l ∙ s), fits-cycle (v .cl) (v .wl) (x .cycle))
+            rw (memory-accepted size m (record { some = s .some; most = s .most; long = l ∙ s .long }), fits-cycle (v .cl) (v .wl) (x .cycle))
             (fits-unpacking f (holds u word) (record { inside = y .inside; some = y .some; few = y .few; left = omega arith; most = omega arith }));
       }
 
-  module _ {r : Registers} {s : Rows} {m : List ℕ} (er : r ≡ writeRegisters v) (es : unpackLeft s m ≡ unpackTakeOf 1024 f u r word row mem) where
+  module _ {r : Registers} {s : Rows} {m : List ℕ} (er : r ≡ writeRegisters v) (es : unpackLeft s m ≡ unpackTakeOf size f u r word row mem)
+      (which : VifUnit) (z : size ≡ quadwords which) where
     unpack-step : (p : Path) (used : ℕ) (code log : List ℕ) (next : Incoming) → wordIn next ≡ word
-        → vifStep (unpacking v f row u) p next used (lent mem code log)
+        → vifStep which (unpacking v f row u) p next used (lent mem code log)
         ≡ leaves aWord (unpacking v f (s .row) (holds u word)) p used (lent m code log)
     unfolding vifStep unpackStep unpackTakeOf if
     unpack-step p used code log next e =
         let q = rw (er, g .accepted) at es in
-        rw (e, not-last (u .due) (u .interrupt) h, waits-still (u .due) (UnpackDue f (holds u word)) h, ap (λ (o : UnpackLeft). o .row) q, ap (λ (o : UnpackLeft). o .mem) q)
+        rw (← z, e, not-last (u .due) (u .interrupt) h, waits-still (u .due) (UnpackDue f (holds u word)) h, ap (λ (o : UnpackLeft). o .row) q, ap (λ (o : UnpackLeft). o .mem) q)
 
     pub unpack-more : {main : List ℕ} {a k : ℕ} {p : Path} {used : ℕ} {code log : List ℕ} {x : Fed} → word ≡ wordAt main (a + 4 * k)
-        → Leads main a k k x (fed (unpacking v f row u) p used (lent mem code log))
-        → Leads main a (k + 1) (k + 1) x (fed (unpacking v f (s .row) (holds u word)) p used (lent m code log))
+        → Leads which main a k k x (fed (unpacking v f row u) p used (lent mem code log))
+        → Leads which main a (k + 1) (k + 1) x (fed (unpacking v f (s .row) (holds u word)) p used (lent m code log))
     unpack-more {main} {a} {k} {p} {used} {code} {log} e i =
         word-more i (unpack-step p used code log (incomingAt main (a + 4 * k)) (incoming-word main (a + 4 * k) ∙ sym e))
 
 -- ---- MPG
+
+-- with words of it stored
+pub mpg-later : {size address count due k : ℕ} {code code′ : List ℕ} → MpgReady size address count due code → k < due → length code′ ≡ length code
+    → MpgReady size address count (due - k) code′
+mpg-later r h l =
+    let d = r .due-most in
+    record { some = r .some; most = r .most; wide = l ∙ r .wide; inside = r .inside; few = r .few; left = omega arith; due-most = omega arith }
 
 module _ (v : Vif) (address count : ℕ) (i : Bool) where
   -- the unit with an MPG that waits
   abbrev pub storing : ℕ → Vif
   storing due = withWaiting v (MpgDue address count due i)
 
-  pub mpg-begins : (main : List ℕ) (a due : ℕ) (p : Path) (used : ℕ) (m : Lent) → v .waiting ≡ MpgDue address count due i
-      → Leads main a 0 0 (fed v p used m) (fed (storing (due - 0)) p used m)
-  mpg-begins main a due p used m h = rw (sub-zero due, ← ap (λ (w : Waiting). fed (withWaiting v w) p used m) h) leads-none
+  pub mpg-begins : (which : VifUnit) (main : List ℕ) (a due : ℕ) (p : Path) (used : ℕ) (m : Lent) → v .waiting ≡ MpgDue address count due i
+      → Leads which main a 0 0 (fed v p used m) (fed (storing (due - 0)) p used m)
+  mpg-begins which main a due p used m h = rw (sub-zero due, ← ap (λ (w : Waiting). fed (withWaiting v w) p used m) h) leads-none
 
-  mpg-step : (due word : ℕ) → 1 < due → (p : Path) (used : ℕ) (mem code log : List ℕ) (next : Incoming) → wordIn next ≡ word
-      → vifStep (storing due) p next used (lent mem code log)
-      ≡ leaves aWord (storing (due - 1)) p used (lent mem (mpgStored 2048 address count due word code) log)
-  unfolding vifStep
-  mpg-step due word h p used mem code log next e = rw (e, not-last due i h, waits-still due (MpgDue address count (due - 1) i) h)
+  module _ (which : VifUnit) {size : ℕ} (z : size ≡ instructions which) where
+    mpg-step : (due word : ℕ) → 1 < due → (p : Path) (used : ℕ) (mem code log : List ℕ) (next : Incoming) → wordIn next ≡ word
+        → vifStep which (storing due) p next used (lent mem code log)
+        ≡ leaves aWord (storing (due - 1)) p used (lent mem (mpgStored size address count due word code) log)
+    unfolding vifStep
+    mpg-step due word h p used mem code log next e = rw (← z, e, not-last due i h, waits-still due (MpgDue address count (due - 1) i) h)
 
-  pub mpg-more : {main : List ℕ} {a k due word : ℕ} {p : Path} {used : ℕ} {mem code code′ log : List ℕ} {x : Fed} → k + 1 < due
-      → word ≡ wordAt main (a + 4 * k) → code′ ≡ mpgStored 2048 address count (due - k) word code
-      → Leads main a k k x (fed (storing (due - k)) p used (lent mem code log))
-      → Leads main a (k + 1) (k + 1) x (fed (storing (due - (k + 1))) p used (lent mem code′ log))
-  mpg-more {main} {a} {k} {due} {word} {p} {used} {mem} {code} {code′} {log} h e s l =
-      let d : due - (k + 1) ≡ due - k - 1 = omega arith in
-      rw (d, s)
-      (word-more l (mpg-step (due - k) word (omega arith) p used mem code log (incomingAt main (a + 4 * k)) (incoming-word main (a + 4 * k) ∙ sym e)))
+    pub mpg-more : {main : List ℕ} {a k due word : ℕ} {p : Path} {used : ℕ} {mem code code′ log : List ℕ} {x : Fed} → k + 1 < due
+        → word ≡ wordAt main (a + 4 * k) → code′ ≡ mpgStored size address count (due - k) word code
+        → Leads which main a k k x (fed (storing (due - k)) p used (lent mem code log))
+        → Leads which main a (k + 1) (k + 1) x (fed (storing (due - (k + 1))) p used (lent mem code′ log))
+    mpg-more {main} {a} {k} {due} {word} {p} {used} {mem} {code} {code′} {log} h e s l =
+        let d : due - (k + 1) ≡ due - k - 1 = omega arith in
+        rw (d, s)
+        (word-more l (mpg-step (due - k) word (omega arith) p used mem code log (incomingAt main (a + 4 * k)) (incoming-word main (a + 4 * k) ∙ sym e)))
 
 -- ---- DIRECT and DIRECTHL
 
@@ -136,28 +149,28 @@ incoming-quadword : (main : List ℕ) (a : ℕ) → a % 16 ≡ 0
 unfolding incomingAt if
 incoming-quadword main a h = let e : a / 4 % 4 ≡ 0 = omega arith in rw e
 
-by-hl : (hl : Bool) (due : ℕ) (i : Bool) (v : Vif) (p : Path) (n : Incoming) (used : ℕ) (m : Lent)
-    → stepBy (directs hl due i) v p n used m ≡ directStep n v p due i (directs hl (due - 1) i) used m
-by-hl true due i v p n used m = refl
-by-hl false due i v p n used m = refl
+by-hl : (which : VifUnit) (hl : Bool) (due : ℕ) (i : Bool) (v : Vif) (p : Path) (n : Incoming) (used : ℕ) (m : Lent)
+    → stepBy which (directs hl due i) v p n used m ≡ directStep n v p due i (directs hl (due - 1) i) used m
+by-hl which true due i v p n used m = refl
+by-hl which false due i v p n used m = refl
 
-module _ (main : List ℕ) (v : Vif) (mem code : List ℕ) (hl i : Bool) where
+module _ (which : VifUnit) (main : List ℕ) (v : Vif) (mem code : List ℕ) (hl i : Bool) where
   -- the unit with a DIRECT that waits
   abbrev giving : ℕ → Path → ℕ → List ℕ → Fed
   giving due p used log = fed (withWaiting v (directs hl due i)) p used (lent mem code log)
 
   direct-step : (a due : ℕ) (p : Path) (used : ℕ) (log : List ℕ) → a % 16 ≡ 0 → 1 < due → gifStep p (quadwordAt main a) used log .answer ≡ Taken
-      → vifStep (withWaiting v (directs hl due i)) p (incomingAt main a) used (lent mem code log)
+      → vifStep which (withWaiting v (directs hl due i)) p (incomingAt main a) used (lent mem code log)
       ≡ leaves aQuadword (withWaiting v (directs hl (due - 1) i)) (gifStep p (quadwordAt main a) used log .path) (gifStep p (quadwordAt main a) used log .used)
       (lent mem code (gifStep p (quadwordAt main a) used log .log))
   unfolding vifStep giveQuadword longAt
   direct-step a due p used log h l e =
       let j : a + 8 + 4 ≡ a + 12 = omega arith in
-      by-hl hl due i (withWaiting v (directs hl due i)) p (incomingAt main a) used (lent mem code log)
+      by-hl which hl due i (withWaiting v (directs hl due i)) p (incomingAt main a) used (lent mem code log)
       ∙ rw (incoming-quadword main a h) (rw (← j) (rw (e, not-last due i l, waits-still due (directs hl (due - 1) i) l)))
 
   pub direct-leads : {a due used : ℕ} {p : Path} {log : List ℕ} {x : GifFed} → Takes main a p used log x → ((x .taken ≡ 0 → ⊥) → a % 16 ≡ 0) → x .taken < due
-      → Leads main a (4 * x .taken) (x .taken) (giving due p used log) (giving (due - x .taken) (x .path) (x .used) (x .log))
+      → Leads which main a (4 * x .taken) (x .taken) (giving due p used log) (giving (due - x .taken) (x .path) (x .used) (x .log))
   direct-leads {a} {due} none h l = rw (sub-zero due) leads-none
   direct-leads {a} {due} {used} {p} {log} (more {x = x} e t) h l =
       let z : a % 16 ≡ 0 = h (λ q. omega arith) in
@@ -179,33 +192,33 @@ quadwords-taken {main} {a} {due} {words} {steps} {n} {used} {p} {log} {log′} {
       few = omega arith;
       few-words = omega arith;
       few-steps = omega arith;
-      leads = λ v mem code hl i. direct-leads main v mem code hl i (feed-quadwords main a n p used log e) (λ z. h .3 (λ y. z (omega arith))) (omega arith);
+      leads = λ which v mem code hl i. direct-leads which main v mem code hl i (feed-quadwords main a n p used log e) (λ z. h .3 (λ y. z (omega arith))) (omega arith);
     }
 
 -- ---- a burst
 
-pub burst-none : {main : List ℕ} {limit a count : ℕ} {s : WordsResult} {m : Lent} → Going limit a count s → Bursts main limit a count s m s m
+pub burst-none : {which : VifUnit} {main : List ℕ} {limit a count : ℕ} {s : WordsResult} {m : Lent} → Going limit a count s → Bursts which main limit a count s m s m
 burst-none g = record { same = refl; stays = λ r. r; later = omega arith; going = g }
 
-pub burst-leads : {main : List ℕ} {limit a count k n used : ℕ} {s t : WordsResult} {m m′ : Lent} {v : Vif} {p : Path} → Going limit a count s
-    → k < count - s .words → n < limit - s .steps → Leads main (a + 4 * s .words) k n (fedIn s m) (fed v p used m′)
-    → t ≡ takenWith v p used (s .words + k) (s .steps + n) (s .interrupt) → Bursts main limit a count s m t m′
-burst-leads {main} {limit} {a} {count} {k} {n} {used} {s} {t} {m} {m′} g h l i e =
+pub burst-leads : {which : VifUnit} {main : List ℕ} {limit a count k n used : ℕ} {s t : WordsResult} {m m′ : Lent} {v : Vif} {p : Path} → Going limit a count s
+    → k < count - s .words → n < limit - s .steps → Leads which main (a + 4 * s .words) k n (fedIn s m) (fed v p used m′)
+    → t ≡ takenWith v p used (s .words + k) (s .steps + n) (s .interrupt) → Bursts which main limit a count s m t m′
+burst-leads {which} {main} {limit} {a} {count} {k} {n} {used} {s} {t} {m} {m′} g h l i e =
     rw e
     (record {
-      same = rest-leads main limit a count s m i h l (s .interrupt);
+      same = rest-leads which main limit a count s m i h l (s .interrupt);
       stays = i .stays;
       later = omega arith;
       going = record { near = g .near; few-words = omega arith; few-steps = omega arith; quiet = g .quiet };
     })
 
-pub burst-quadwords : {main : List ℕ} {limit a count due : ℕ} {s t : WordsResult} (mem code : List ℕ) {log log′ : List ℕ} {r : QuadwordsResult} {rest : Waiting} (hl i : Bool)
+pub burst-quadwords : {which : VifUnit} {main : List ℕ} {limit a count due : ℕ} {s t : WordsResult} (mem code : List ℕ) {log log′ : List ℕ} {r : QuadwordsResult} {rest : Waiting} (hl i : Bool)
     → Going limit a count s → s .unit .waiting ≡ directs hl due i
     → Quadwords main (a + 4 * s .words) due (count - s .words) (limit - s .steps) (s .path2) (s .used) log r log′
     → rest ≡ directs hl (due - r .taken) i
     → t ≡ takenWith (withWaiting (s .unit) rest) (r .path) (r .used) (s .words + 4 * r .taken) (s .steps + r .taken) (s .interrupt)
-    → Bursts main limit a count s (lent mem code log) t (lent mem code log′)
-burst-quadwords {s = s} mem code {log} hl i g q x w e =
+    → Bursts which main limit a count s (lent mem code log) t (lent mem code log′)
+burst-quadwords {which} {s = s} mem code {log} hl i g q x w e =
     burst-leads g (x .few-words) (x .few-steps)
-    (rw (← ap (λ (w : Waiting). fed (withWaiting (s .unit) w) (s .path2) (s .used) (lent mem code log)) q) at (x .leads (s .unit) mem code hl i))
+    (rw (← ap (λ (w : Waiting). fed (withWaiting (s .unit) w) (s .path2) (s .used) (lent mem code log)) q) at (x .leads which (s .unit) mem code hl i))
     (rw w at e)

@@ -7,6 +7,7 @@ use native.Mathlib.Omega.{arith}
 use Rattle.fields.specs.Fields.{if}
 use Rattle.fields.specs.Refusals.{logFull}
 use Rattle.gif.specs.Log.{entry, lacksRoom, Entered, entered, entryOf}
+use Rattle.memories.specs.declared.VifUnit.{VifUnit}
 use Rattle.unpack.specs.declared.Format.{Format}
 use Rattle.unpack.specs.declared.Unpacking.{Unpacking}
 use Rattle.unpack.specs.Position.{addresses}
@@ -22,29 +23,29 @@ use Rattle.vif.specs.declared.Vif.{Vif}
 use Rattle.vif.specs.Execute.{Executed, executed, started, startProgram, waitsFor, addressOf, beginUnpack, executeOf, decodedStep}
 
 -- what holds at the code that an arm knows holds at the value itself
-pub by-code : {c d : Code} → c ≡ d → (v : Vif) (i : Bool) (used : ℕ) (log : List ℕ) {e : Executed} → e ≡ executeOf d v i used log
-    → e ≡ executeOf c v i used log
-by-code q v i used log h = rw q h
+pub by-code : (which : VifUnit) {c d : Code} → c ≡ d → (v : Vif) (i : Bool) (used : ℕ) (log : List ℕ) {e : Executed} → e ≡ executeOf which d v i used log
+    → e ≡ executeOf which c v i used log
+by-code which q v i used log h = rw q h
 
-pub by-decoded : {c d : Decoded} → c ≡ d → (v : Vif) (i : Bool) (used : ℕ) (log : List ℕ) {e : Executed} → e ≡ decodedStep d v i used log
-    → e ≡ decodedStep c v i used log
-by-decoded q v i used log h = rw q h
+pub by-decoded : (which : VifUnit) {c d : Decoded} → c ≡ d → (v : Vif) (i : Bool) (used : ℕ) (log : List ℕ) {e : Executed} → e ≡ decodedStep which d v i used log
+    → e ≡ decodedStep which c v i used log
+by-decoded which q v i used log h = rw q h
 
 -- a program start by whether its entry was stored
-module _ (r x : ℕ) (v : Vif) (i : Bool) (used : ℕ) (log : List ℕ) {b : Bool} {m : List ℕ} (e : entered b m ≡ entryOf log used (entry r x)) where
-  pub program-started : b ≡ true → executed (Word i) (started v) (used + 1) m ≡ startProgram r x v i used log
+module _ (which : VifUnit) (r x : ℕ) (v : Vif) (i : Bool) (used : ℕ) (log : List ℕ) {b : Bool} {m : List ℕ} (e : entered b m ≡ entryOf log used (entry r x)) where
+  pub program-started : b ≡ true → executed (Word i) (started which v) (used + 1) m ≡ startProgram which r x v i used log
   unfolding startProgram entryOf if
   program-started t = go (lacksRoom log used (entry r x ∷ [])) refl
     where
-      go : (c : Bool) → lacksRoom log used (entry r x ∷ []) ≡ c → executed (Word i) (started v) (used + 1) m ≡ startProgram r x v i used log
+      go : (c : Bool) → lacksRoom log used (entry r x ∷ []) ≡ c → executed (Word i) (started which v) (used + 1) m ≡ startProgram which r x v i used log
       go true w = absurd (let e′ = rw w at e in let s = ap (λ (y : Entered). y .stored) e′ in let z : _≡_ {A = ℕ} 0 1 = cc in omega arith)
       go false w = let e′ = rw w at e in rw (w, ap (λ (y : Entered). y .log) e′)
 
-  pub program-refused : b ≡ false → executed (Refused logFull) v used m ≡ startProgram r x v i used log
+  pub program-refused : b ≡ false → executed (Refused logFull) v used m ≡ startProgram which r x v i used log
   unfolding startProgram entryOf if
   program-refused t = go (lacksRoom log used (entry r x ∷ [])) refl
     where
-      go : (c : Bool) → lacksRoom log used (entry r x ∷ []) ≡ c → executed (Refused logFull) v used m ≡ startProgram r x v i used log
+      go : (c : Bool) → lacksRoom log used (entry r x ∷ []) ≡ c → executed (Refused logFull) v used m ≡ startProgram which r x v i used log
       go false w = absurd (let e′ = rw w at e in let s = ap (λ (y : Entered). y .stored) e′ in let z : _≡_ {A = ℕ} 0 1 = cc in omega arith)
       go true w = let e′ = rw w at e in rw (w, ap (λ (y : Entered). y .log) e′)
 
@@ -54,9 +55,9 @@ pub unpacking-mod : (f : Format) (num : ℕ) (usn masked i : Bool) (a b : ℕ) �
 unfolding unpackingOf
 unpacking-mod f num usn masked i a b h = rw h
 
-pub unpack-begun : (f : Format) (u : UnpackCode) (v : Vif) (i : Bool) (used a : ℕ) {w : Unpacking} {r : CodeResult}
+pub unpack-begun : (which : VifUnit) (f : Format) (u : UnpackCode) (v : Vif) (i : Bool) (used a : ℕ) {w : Unpacking} {r : CodeResult}
     → cycleRefused (v .cl) (v .wl) ≡ false → a % addresses ≡ addressOf u (v .tops) % addresses → w ≡ unpackingOf f a (u .num) (u .usn) (u .masked) i
-    → r ≡ waitsFor v (UnpackDue f w) used → r ≡ beginUnpack f u v i used
+    → r ≡ waitsFor v (UnpackDue f w) used → r ≡ beginUnpack which f u v i used
 unfolding beginUnpack if
-unpack-begun f u v i used a h ea ew er =
+unpack-begun which f u v i used a h ea ew er =
     rw h (er ∙ rw (ew, unpacking-mod f (u .num) (u .usn) (u .masked) i a (addressOf u (v .tops)) ea))

@@ -1,20 +1,21 @@
 -- Words given one after another: one turn, and what the tests say.
 use mathlib.Core.Path.{_≡_, refl, sym, ap, _∙_}
-use mathlib.Core.Bool.{Bool, true, false, not, _&&_}
+use mathlib.Core.Bool.{Bool, true, false}
 use mathlib.Core.List.{List}
 use Prim.Native.Nat.{ℕ, zero, suc, _+_, _*_, _-_, _<_, _≤_}
 use native.Mathlib.Nat.{zero-add, add-zero, add-assoc, sub-zero}
 use native.Mathlib.Numerals.{one-add}
 use native.Mathlib.Omega.{arith}
 use borrow.Author.Tests.{ne-eqb, eqb-true}
-use lib.ListN.{length}
 use lib.Dec.{eqb}
 use Rattle.fields.specs.Fields.{if}
 use Rattle.fields.proofs.ChoiceLaws.{and-left, and-right}
 use Rattle.gif.specs.declared.Path.{Path}
-use Rattle.gif.specs.Log.{logRefused}
 use Rattle.gif.proofs.FeedLaws.{inside-most}
 use Rattle.gif.proofs.RangeLaws.{log-fits}
+use Rattle.memories.specs.declared.VifUnit.{VifUnit}
+use Rattle.memories.specs.Lengths.{Lent, lengthsRefusal}
+use Rattle.memories.proofs.LengthLaws.{lengths-fit}
 use Rattle.vif.specs.declared.Incoming.{Incoming}
 use Rattle.vif.specs.declared.Vif.{Vif}
 use Rattle.vif.specs.declared.VifAnswer.{VifAnswer}
@@ -22,7 +23,7 @@ use Rattle.vif.specs.declared.VifAnswer.the-variants.{Word, Quadword, Re
 use Rattle.vif.specs.declared.WordsResult.{WordsResult}
 use Rattle.vif.specs.Range.{unitInRange}
 use Rattle.vif.specs.Words.{incomingAt}
-use Rattle.vif.specs.Step.{Lent, Left, wordsTaken, vifStep}
+use Rattle.vif.specs.Step.{Left, wordsTaken, vifStep}
 use Rattle.vif.specs.Feeds.{Fed, fed}
 use Rattle.vif.specs.Feed.{FedOn, fedOn, fedOnBy, fedTo, stepMore, afterWord, onWord, feedsOf, wordsInside, takesSteps}
 use Rattle.vif.specs.Inner.{plus, FedReady, Leads, fedIn, restOf, Going, Gives, takenWith}
@@ -65,66 +66,66 @@ module _ (f : ℕ → ℕ → Fed → FedOn) (o : Left) (a count : ℕ) (x : Fed
   taken-none (Refused n) e = refl
 
 -- a step that took no word changed nothing
-untaken : (x : Fed) → FedReady x
-    → (next : Incoming) {o : Left} → o ≡ vifStep (x .unit) (x .path2) next (x .used) (x .memories)
+untaken : (which : VifUnit) (x : Fed) → FedReady which x
+    → (next : Incoming) {o : Left} → o ≡ vifStep which (x .unit) (x .path2) next (x .used) (x .memories)
     → wordsTaken (o .answer) ≡ 0 → o .memories ≡ x .memories
-untaken x r next {o} e = go (o .answer) refl
+untaken which x r next {o} e = go (o .answer) refl
   where
     go : (b : VifAnswer) → o .answer ≡ b → wordsTaken b ≡ 0 → o .memories ≡ x .memories
     go (Word i) q z = absurd (omega arith)
     go (Quadword i) q z = absurd (omega arith)
     go (Refused n) q z =
-        let k = step-kept (x .unit) (x .path2) (x .used) (x .memories) (log-fits (x .memories .log) (x .used) (r .gif .logged) .holds) next in
+        let k = step-kept which (x .unit) (x .path2) (x .used) (x .memories) (log-fits (x .memories .log) (x .used) (r .fit .logged) .holds) next in
         ap (λ (y : Left). y .memories) (e ∙ k .same n (ap (λ (y : Left). y .answer) (sym e) ∙ q))
 
 -- ---- a turn
 
-module _ (main : List ℕ) (a count : ℕ) (x : Fed) where
-  feeds-out : (n : ℕ) → n ≡ 0 → feedsOf main n a count x ≡ fedOn x 0 0 false
+module _ (which : VifUnit) (main : List ℕ) (a count : ℕ) (x : Fed) where
+  feeds-out : (n : ℕ) → n ≡ 0 → feedsOf which main n a count x ≡ fedOn x 0 0 false
   unfolding feedsOf
   feeds-out n z = rw z
 
-  feeds-none : (n : ℕ) → count ≡ 0 → feedsOf main n a count x ≡ fedOn x 0 0 false
+  feeds-none : (n : ℕ) → count ≡ 0 → feedsOf which main n a count x ≡ fedOn x 0 0 false
   unfolding feedsOf if
   feeds-none zero z = refl
   feeds-none (suc n) z = rw z
 
-  one-turn : (n n′ : ℕ) → n ≡ suc n′ → (count ≡ 0 → ⊥) → {o : Left} → o ≡ vifStep (x .unit) (x .path2) (incomingAt main a) (x .used) (x .memories)
-      → feedsOf main n a count x ≡ onWord (feedsOf main n′) o a count x
+  one-turn : (n n′ : ℕ) → n ≡ suc n′ → (count ≡ 0 → ⊥) → {o : Left} → o ≡ vifStep which (x .unit) (x .path2) (incomingAt main a) (x .used) (x .memories)
+      → feedsOf which main n a count x ≡ onWord (feedsOf which main n′) o a count x
   unfolding feedsOf if
   one-turn n n′ z h e = rw (z, ne-eqb count 0 h, ← e)
 
 -- ---- steps one after another
 
-pub leads-none : {main : List ℕ} {a : ℕ} {x : Fed} → Leads main a 0 0 x x
-leads-none {main} {a} {x} =
+pub leads-none : {which : VifUnit} {main : List ℕ} {a : ℕ} {x : Fed} → Leads which main a 0 0 x x
+leads-none {which} {main} {a} {x} =
     record {
-      goes = λ l c. rw (zero-add l, zero-add c, add-zero a, zero-add (feedsOf main l a c x .words), zero-add (feedsOf main l a c x .steps));
+      goes = λ l c. rw (zero-add l, zero-add c, add-zero a, zero-add (feedsOf which main l a c x .words), zero-add (feedsOf which main l a c x .steps));
       stays = λ r. r;
     }
 
 -- a step
-pub leads-one : {main : List ℕ} {a k : ℕ} {x : Fed} {o : Left} → o ≡ vifStep (x .unit) (x .path2) (incomingAt main a) (x .used) (x .memories)
-    → k ≡ wordsTaken (o .answer) → (k ≡ 0 → ⊥) → interruptIn (o .answer) ≡ false → Leads main a k 1 x (fedTo o)
-leads-one {main} {a} {k} {x} {o} e t z q =
+pub leads-one : {which : VifUnit} {main : List ℕ} {a k : ℕ} {x : Fed} {o : Left} → o ≡ vifStep which (x .unit) (x .path2) (incomingAt main a) (x .used) (x .memories)
+    → k ≡ wordsTaken (o .answer) → (k ≡ 0 → ⊥) → interruptIn (o .answer) ≡ false → Leads which main a k 1 x (fedTo o)
+leads-one {which} {main} {a} {k} {x} {o} e t z q =
     record {
       goes =
           λ l c.
           let d : k + c - k ≡ c = omega arith in
-          one-turn main a (k + c) x (1 + l) l (omega arith) (λ y. z (omega arith)) e
-          ∙ taken-goes (feedsOf main l) o a (k + c) x (o .answer) t z q
-          ∙ rw (d, one-add (feedsOf main l (a + 4 * k) c (fedTo o) .steps));
-      stays = λ r. step-ready (x .unit) (x .path2) (x .used) (x .memories) r (incomingAt main a) o e;
+          one-turn which main a (k + c) x (1 + l) l (omega arith) (λ y. z (omega arith)) e
+          ∙ taken-goes (feedsOf which main l) o a (k + c) x (o .answer) t z q
+          ∙ rw (d, one-add (feedsOf which main l (a + 4 * k) c (fedTo o) .steps));
+      stays = λ r. step-ready which (x .unit) (x .path2) (x .used) (x .memories) r (incomingAt main a) o e;
     }
 
 -- steps, and then more of them
-pub leads-then : {main : List ℕ} {a k n j m : ℕ} {x y z : Fed} → Leads main a k n x y → Leads main (a + 4 * k) j m y z → Leads main a (k + j) (n + m) x z
-leads-then {main} {a} {k} {n} {j} {m} {x} {y} {z} p q =
+pub leads-then : {which : VifUnit} {main : List ℕ} {a k n j m : ℕ} {x y z : Fed} → Leads which main a k n x y → Leads which main (a + 4 * k) j m y z → Leads which main a (k + j) (n + m) x z
+leads-then {which} {main} {a} {k} {n} {j} {m} {x} {y} {z} p q =
     record {
       goes =
           λ l c.
           let b : a + 4 * k + 4 * j ≡ a + 4 * (k + j) = omega arith in
-          let r = feedsOf main l (a + 4 * (k + j)) c z in
+          let r = feedsOf which main l (a + 4 * (k + j)) c z in
           rw (add-assoc n m l, add-assoc k j c)
           (p .goes (m + l) (j + c) ∙ ap (plus k n) (q .goes l c) ∙ rw (b, add-assoc k j (r .words), add-assoc n m (r .steps)));
       stays = λ r. q .stays (p .stays r);
@@ -132,51 +133,51 @@ leads-then {main} {a} {k} {n} {j} {m} {x} {y} {z} p q =
 
 -- ---- what is left, with the words and steps of s taken
 
-module _ (main : List ℕ) (limit a count : ℕ) (s : WordsResult) (m : Lent) where
+module _ (which : VifUnit) (main : List ℕ) (limit a count : ℕ) (s : WordsResult) (m : Lent) where
   -- no step or no word is left
-  pub rest-out : s .interrupt ≡ false → limit ≤ s .steps → restOf main limit a count s m ≡ fedOnBy s m
+  pub rest-out : s .interrupt ≡ false → limit ≤ s .steps → restOf which main limit a count s m ≡ fedOnBy s m
   rest-out q l =
       let z : limit - s .steps ≡ 0 = omega arith in
-      ap (plus (s .words) (s .steps)) (feeds-out main (a + 4 * s .words) (count - s .words) (fedIn s m) (limit - s .steps) z)
+      ap (plus (s .words) (s .steps)) (feeds-out which main (a + 4 * s .words) (count - s .words) (fedIn s m) (limit - s .steps) z)
       ∙ plus-none (s .words) (s .steps) (fedIn s m)
       ∙ rw q
 
-  pub rest-used : s .interrupt ≡ false → count ≤ s .words → restOf main limit a count s m ≡ fedOnBy s m
+  pub rest-used : s .interrupt ≡ false → count ≤ s .words → restOf which main limit a count s m ≡ fedOnBy s m
   rest-used q l =
       let z : count - s .words ≡ 0 = omega arith in
-      ap (plus (s .words) (s .steps)) (feeds-none main (a + 4 * s .words) (count - s .words) (fedIn s m) (limit - s .steps) z)
+      ap (plus (s .words) (s .steps)) (feeds-none which main (a + 4 * s .words) (count - s .words) (fedIn s m) (limit - s .steps) z)
       ∙ plus-none (s .words) (s .steps) (fedIn s m)
       ∙ rw q
 
   -- steps at once
-  pub rest-leads : {k n : ℕ} {y : Fed} → Leads main (a + 4 * s .words) k n (fedIn s m) y → k < count - s .words → n < limit - s .steps
-      → (i : Bool) → restOf main limit a count s m ≡ restOf main limit a count (takenWith (y .unit) (y .path2) (y .used) (s .words + k) (s .steps + n) i) (y .memories)
+  pub rest-leads : {k n : ℕ} {y : Fed} → Leads which main (a + 4 * s .words) k n (fedIn s m) y → k < count - s .words → n < limit - s .steps
+      → (i : Bool) → restOf which main limit a count s m ≡ restOf which main limit a count (takenWith (y .unit) (y .path2) (y .used) (s .words + k) (s .steps + n) i) (y .memories)
   rest-leads {k} {n} {y} p h l i =
       let c : count - s .words ≡ k + (count - (s .words + k)) = omega arith in
       let d : limit - s .steps ≡ n + (limit - (s .steps + n)) = omega arith in
       let b : a + 4 * s .words + 4 * k ≡ a + 4 * (s .words + k) = omega arith in
-      let r = feedsOf main (limit - (s .steps + n)) (a + 4 * (s .words + k)) (count - (s .words + k)) y in
+      let r = feedsOf which main (limit - (s .steps + n)) (a + 4 * (s .words + k)) (count - (s .words + k)) y in
       rw (c, d) (ap (plus (s .words) (s .steps)) (p .goes (limit - (s .steps + n)) (count - (s .words + k))) ∙ rw (b, add-assoc (s .words) k (r .words), add-assoc (s .steps) n (r .steps)))
 
   -- one step
-  module _ (g : Going limit a count s) {o : Left} (e : o ≡ vifStep (s .unit) (s .path2) (incomingAt main (a + 4 * s .words)) (s .used) m) where
-    turns : restOf main limit a count s m
-        ≡ plus (s .words) (s .steps) (onWord (feedsOf main (limit - (s .steps + 1))) o (a + 4 * s .words) (count - s .words) (fedIn s m))
+  module _ (g : Going limit a count s) {o : Left} (e : o ≡ vifStep which (s .unit) (s .path2) (incomingAt main (a + 4 * s .words)) (s .used) m) where
+    turns : restOf which main limit a count s m
+        ≡ plus (s .words) (s .steps) (onWord (feedsOf which main (limit - (s .steps + 1))) o (a + 4 * s .words) (count - s .words) (fedIn s m))
     turns =
         let l = g .few-steps in
         let h = g .few-words in
         ap (plus (s .words) (s .steps))
-        (one-turn main (a + 4 * s .words) (count - s .words) (fedIn s m) (limit - s .steps) (limit - (s .steps + 1)) (omega arith) (λ z. omega arith) e)
+        (one-turn which main (a + 4 * s .words) (count - s .words) (fedIn s m) (limit - s .steps) (limit - (s .steps + 1)) (omega arith) (λ z. omega arith) e)
 
     pub rest-goes : {k : ℕ} → k ≡ wordsTaken (o .answer) → (k ≡ 0 → ⊥) → interruptIn (o .answer) ≡ false
-        → (i : Bool) → restOf main limit a count s m ≡ restOf main limit a count (takenWith (o .unit) (o .path2) (o .used) (s .words + k) (s .steps + 1) i) (o .memories)
+        → (i : Bool) → restOf which main limit a count s m ≡ restOf which main limit a count (takenWith (o .unit) (o .path2) (o .used) (s .words + k) (s .steps + 1) i) (o .memories)
     rest-goes {k} t z q i =
-        let j = taken-goes (feedsOf main (limit - (s .steps + 1))) o (a + 4 * s .words) (count - s .words) (fedIn s m) (o .answer) t z q in
+        let j = taken-goes (feedsOf which main (limit - (s .steps + 1))) o (a + 4 * s .words) (count - s .words) (fedIn s m) (o .answer) t z q in
         let c : a + 4 * s .words + 4 * k ≡ a + 4 * (s .words + k) = omega arith in
         let d : count - s .words - k ≡ count - (s .words + k) = omega arith in
         turns
         ∙ ap (plus (s .words) (s .steps)) j
-        ∙ rw (c, d) (more-after (feedsOf main (limit - (s .steps + 1)) (a + 4 * (s .words + k)) (count - (s .words + k)) (fedTo o)))
+        ∙ rw (c, d) (more-after (feedsOf which main (limit - (s .steps + 1)) (a + 4 * (s .words + k)) (count - (s .words + k)) (fedTo o)))
       where
         more-after : (r : FedOn) → plus (s .words) (s .steps) (stepMore k r) ≡ plus (s .words + k) (s .steps + 1) r
         more-after r =
@@ -185,58 +186,58 @@ module _ (main : List ℕ) (limit a count : ℕ) (s : WordsResult) (m : Lent) wh
             rw (p, q)
 
     pub rest-interrupts : {k : ℕ} → k ≡ wordsTaken (o .answer) → interruptIn (o .answer) ≡ true
-        → restOf main limit a count s m ≡ fedOn (fedTo o) (s .words + k) (s .steps + 1) true
+        → restOf which main limit a count s m ≡ fedOn (fedTo o) (s .words + k) (s .steps + 1) true
     rest-interrupts t q =
-        turns ∙ ap (plus (s .words) (s .steps)) (taken-interrupts (feedsOf main (limit - (s .steps + 1))) o (a + 4 * s .words) (count - s .words) (fedIn s m) (o .answer) t q)
+        turns ∙ ap (plus (s .words) (s .steps)) (taken-interrupts (feedsOf which main (limit - (s .steps + 1))) o (a + 4 * s .words) (count - s .words) (fedIn s m) (o .answer) t q)
 
-    pub rest-refused : wordsTaken (o .answer) ≡ 0 → FedReady (fedIn s m) → restOf main limit a count s m ≡ fedOnBy s (o .memories)
+    pub rest-refused : wordsTaken (o .answer) ≡ 0 → FedReady which (fedIn s m) → restOf which main limit a count s m ≡ fedOnBy s (o .memories)
     rest-refused z r =
-        rw (untaken (fedIn s m) r (incomingAt main (a + 4 * s .words)) e z, g .quiet)
+        rw (untaken which (fedIn s m) r (incomingAt main (a + 4 * s .words)) e z, g .quiet)
         (turns
-        ∙ ap (plus (s .words) (s .steps)) (taken-none (feedsOf main (limit - (s .steps + 1))) o (a + 4 * s .words) (count - s .words) (fedIn s m) (o .answer) z)
+        ∙ ap (plus (s .words) (s .steps)) (taken-none (feedsOf which main (limit - (s .steps + 1))) o (a + 4 * s .words) (count - s .words) (fedIn s m) (o .answer) z)
         ∙ plus-none (s .words) (s .steps) (fedIn s m))
 
 -- a step given to the unit
-module _ (main : List ℕ) (a : ℕ) (s : WordsResult) (m : Lent) (r : FedReady (fedIn s m)) {next : Incoming} (g : next ≡ incomingAt main (a + 4 * s .words))
-    {o : Left} (e : o ≡ vifStep (s .unit) (s .path2) next (s .used) m) where
-  given : o ≡ vifStep (s .unit) (s .path2) (incomingAt main (a + 4 * s .words)) (s .used) m
+module _ (which : VifUnit) (main : List ℕ) (a : ℕ) (s : WordsResult) (m : Lent) (r : FedReady which (fedIn s m)) {next : Incoming} (g : next ≡ incomingAt main (a + 4 * s .words))
+    {o : Left} (e : o ≡ vifStep which (s .unit) (s .path2) next (s .used) m) where
+  given : o ≡ vifStep which (s .unit) (s .path2) (incomingAt main (a + 4 * s .words)) (s .used) m
   given = rw g at e
 
   pub gives-taken : {b : VifAnswer} {k : ℕ} {i : Bool} {t : WordsResult} → o .answer ≡ b → wordsTaken b ≡ k → interruptIn b ≡ i → 1 ≤ k
-      → t ≡ takenWith (o .unit) (o .path2) (o .used) (s .words + k) (s .steps + 1) i → Gives main a s m t (o .memories)
+      → t ≡ takenWith (o .unit) (o .path2) (o .used) (s .words + k) (s .steps + 1) i → Gives which main a s m t (o .memories)
   gives-taken {b} {k} {i} q w j l f =
       let t : k ≡ wordsTaken (o .answer) = rw q (sym w) in
       let n : interruptIn (o .answer) ≡ i = rw q j in
       rw f
       (record {
-        ready = step-ready (s .unit) (s .path2) (s .used) m r next o e;
+        ready = step-ready which (s .unit) (s .path2) (s .used) m r next o e;
         later = omega arith;
-        goes = λ limit count c z. rest-goes main limit a count s m c given t (λ y. omega arith) (n ∙ z) i;
-        stops = λ limit count c z. rest-interrupts main limit a count s m c given t (n ∙ z) ∙ rw z;
+        goes = λ limit count c z. rest-goes which main limit a count s m c given t (λ y. omega arith) (n ∙ z) i;
+        stops = λ limit count c z. rest-interrupts which main limit a count s m c given t (n ∙ z) ∙ rw z;
         refuses = λ limit count c z. absurd (omega arith);
       })
 
-  pub gives-refused : {n : ℕ} → o .answer ≡ Refused n → Gives main a s m s (o .memories)
+  pub gives-refused : {n : ℕ} → o .answer ≡ Refused n → Gives which main a s m s (o .memories)
   gives-refused q =
       let z : wordsTaken (o .answer) ≡ 0 = rw q in
-      let u : o .memories ≡ m = untaken (fedIn s m) r next e z in
+      let u : o .memories ≡ m = untaken which (fedIn s m) r next e z in
       record {
         ready = rw u r;
         later = omega arith;
         goes = λ limit count c y. rw u;
         stops = λ limit count c y. absurd (let h : _≡_ {A = ℕ} 0 1 = cc (c .quiet) in omega arith);
-        refuses = λ limit count c y. rest-refused main limit a count s m c given z r;
+        refuses = λ limit count c y. rest-refused which main limit a count s m c given z r;
       }
 
 -- before the first word all of them are left
-pub rest-begins : (main : List ℕ) (limit a count : ℕ) (s : WordsResult) (m : Lent) → s .words ≡ 0 → s .steps ≡ 0
-    → restOf main limit a count s m ≡ feedsOf main limit a count (fedIn s m)
-rest-begins main limit a count s m h l = rw (h, l, sub-zero limit, sub-zero count, add-zero a, zero-add (feedsOf main limit a count (fedIn s m) .words), zero-add (feedsOf main limit a count (fedIn s m) .steps))
+pub rest-begins : (which : VifUnit) (main : List ℕ) (limit a count : ℕ) (s : WordsResult) (m : Lent) → s .words ≡ 0 → s .steps ≡ 0
+    → restOf which main limit a count s m ≡ feedsOf which main limit a count (fedIn s m)
+rest-begins which main limit a count s m h l = rw (h, l, sub-zero limit, sub-zero count, add-zero a, zero-add (feedsOf which main limit a count (fedIn s m) .words), zero-add (feedsOf which main limit a count (fedIn s m) .steps))
 
 -- where all of them end
-pub rest-ends : (main : List ℕ) (limit a count : ℕ) (m : Lent) {used : ℕ} {v : Vif} {p : Path} {s : WordsResult} {w y : FedOn} → s ≡ takenWith v p used 0 0 false
-    → w ≡ feedsOf main limit a count (fedIn s m) → w ≡ y → y ≡ feedsOf main limit a count (fed v p used m)
-rest-ends main limit a count m e i h = sym h ∙ i ∙ rw e
+pub rest-ends : (which : VifUnit) (main : List ℕ) (limit a count : ℕ) (m : Lent) {used : ℕ} {v : Vif} {p : Path} {s : WordsResult} {w y : FedOn} → s ≡ takenWith v p used 0 0 false
+    → w ≡ feedsOf which main limit a count (fedIn s m) → w ≡ y → y ≡ feedsOf which main limit a count (fed v p used m)
+rest-ends which main limit a count m e i h = sym h ∙ i ∙ rw e
 
 -- ---- the tests
 
@@ -244,20 +245,13 @@ pub words-few : (main : List ℕ) (a count : ℕ) → wordsInside main a count �
 unfolding wordsInside
 words-few main a count h = inside-most main a (4 * count) (and-left _ _ h)
 
-pub takes-ready : (x : Fed) → takesSteps x ≡ true
-    → FedReady x
+pub takes-ready : (which : VifUnit) (x : Fed) → takesSteps which x ≡ true → FedReady which x
 unfolding takesSteps
-takes-ready x h =
-    let l = and-left _ _ h in
-    let t = and-right (eqb (length (x .memories .mem)) 4096 && eqb (length (x .memories .code)) 16384) _ h in
-    let s = and-right (not (logRefused (x .memories .log) (x .used))) _ t in
+takes-ready which x h =
+    let n = lengthsRefusal which (x .memories) (x .used) in
+    let t = and-right (eqb n 0) _ h in
     record {
-      long = eqb-true (length (x .memories .mem)) 4096 (and-left _ _ l);
-      wide = eqb-true (length (x .memories .code)) 16384 (and-right (eqb (length (x .memories .mem)) 4096) _ l);
-      gif = record { logged = not-true _ (and-left _ _ t); ranged = and-right (unitInRange (x .unit)) _ s };
-      ranged = and-left _ _ s;
+      fit = lengths-fit which (x .memories) (x .used) (eqb-true n 0 (and-left _ _ h));
+      path-ranged = and-right (unitInRange which (x .unit)) _ t;
+      ranged = and-left _ _ t;
     }
-  where
-    not-true : (b : Bool) → not b ≡ true → b ≡ false
-    not-true true e = sym e
-    not-true false e = refl

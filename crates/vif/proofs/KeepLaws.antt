@@ -9,6 +9,7 @@ use lib.ListN.{length}
 use lib.Seq.{length-sets}
 use lib.Dec.{eqb, ltb}
 use Rattle.fields.specs.Fields.{if}
+use Rattle.fields.specs.Refusals.{cycleWrong, modeWrong, directUnaligned, logFull}
 use Rattle.fields.proofs.ChoiceLaws.{if-ind, if-ind-by, or-left, or-right}
 use Rattle.gif.specs.declared.Path.{Path}
 use Rattle.gif.specs.declared.GifAnswer.{GifAnswer}
@@ -17,6 +18,9 @@ use Rattle.gif.specs.Log.{entry, lacksRoom, logRefused}
 use Rattle.gif.specs.Step.{Left as GifLeft}
 use Rattle.gif.proofs.LogLaws.{logged-length}
 use Rattle.gif.proofs.StepLaws.{Wrote, step-wrote}
+use Rattle.memories.specs.declared.VifUnit.{VifUnit}
+use Rattle.memories.specs.Units.{quadwords, instructions}
+use Rattle.memories.specs.Lengths.{Lent}
 use Rattle.unpack.specs.Write.{written}
 use Rattle.unpack.proofs.LengthLaws.{word-length}
 use Rattle.vif.specs.declared.Code.{Code}
@@ -33,7 +37,7 @@ use Rattle.vif.specs.declared.Vif.{Vif}
 use Rattle.vif.specs.Codes.{interruptOf, decodeOf}
 use Rattle.vif.specs.Execute.{Executed, executed, codeResult, resultWith, startProgram, setMode, beginMpg, beginUnpack, executeOf, decodedStep}
 use Rattle.vif.specs.Payload.{mpgStored, bytesOf, wordPlace, writeRegisters}
-use Rattle.vif.specs.Step.{Lent, Left, leaves, refused, wordIn, afterCode, afterGif, giveQuadword, directStep, unpackStep, codeStep, stepBy, vifStep}
+use Rattle.vif.specs.Step.{Left, leaves, refused, wordIn, afterCode, afterGif, giveQuadword, directStep, unpackStep, codeStep, stepBy, vifStep}
 
 -- what a step does to the log: entries more, by which `used` grows
 pub record LogGrows (used : ℕ) (log : List ℕ) (used′ : ℕ) (log′ : List ℕ) : Type 0 where
@@ -58,7 +62,7 @@ no-word e = let z : _≡_ {A = ℕ} 0 1 = cc in omega arith
 no-quadword : {i : Bool} {n : ℕ} → Quadword i ≡ Refused n → ⊥
 no-quadword e = let z : _≡_ {A = ℕ} 0 1 = cc in omega arith
 
-module _ (v : Vif) (used : ℕ) (log : List ℕ) (h : 2 * used ≤ length log) where
+module _ (which : VifUnit) (v : Vif) (used : ℕ) (log : List ℕ) (h : 2 * used ≤ length log) where
   stays : LogGrows used log used log
   stays = record { same-length = refl; room = h }
 
@@ -68,10 +72,10 @@ module _ (v : Vif) (used : ℕ) (log : List ℕ) (h : 2 * used ≤ length log) w
   does-refused : (k : ℕ) → Does v used log (executed (Refused k) v used log)
   does-refused k = record { same = λ n e. let q : k ≡ n = cc in ap (λ (j : ℕ). executed (Refused j) v used log) q; log-grows = stays }
 
-  does-start : (r x : ℕ) (i : Bool) → Does v used log (startProgram r x v i used log)
+  does-start : (r x : ℕ) (i : Bool) → Does v used log (startProgram which r x v i used log)
   unfolding startProgram lacksRoom
   does-start r x i =
-      if-ind-by (Does v used log) (ltb (length log) (2 * (used + 1))) (λ e. does-refused 31)
+      if-ind-by (Does v used log) (ltb (length log) (2 * (used + 1))) (λ e. does-refused logFull)
       (λ e.
       record {
         same = λ n q. absurd (no-word q);
@@ -85,14 +89,14 @@ module _ (v : Vif) (used : ℕ) (log : List ℕ) (h : 2 * used ≤ length log) w
   does-choice : (b : Bool) (k : ℕ) (r : CodeResult) → Does v used log (resultWith r log) → Does v used log (resultWith (if b (codeResult (Refused k) v used) r) log)
   does-choice b k r d = if-ind (λ (r : CodeResult). Does v used log (resultWith r log)) b (does-refused k) d
 
-  does : (c : Code) (i : Bool) → Does v used log (executeOf c v i used log)
+  does : (c : Code) (i : Bool) → Does v used log (executeOf which c v i used log)
   unfolding setMode beginMpg beginUnpack
   does Nop i = does-word i _
   does (Stcycl cl wl) i = does-word i _
   does (Offset x) i = does-word i _
   does (Base x) i = does-word i _
   does (Itop x) i = does-word i _
-  does (Stmod m) i = does-choice _ 23 _ (does-word i _)
+  does (Stmod m) i = does-choice _ modeWrong _ (does-word i _)
   does (Mskpath3 b) i = does-word i _
   does (Mark x) i = does-word i _
   does Flushe i = does-word i _
@@ -107,13 +111,13 @@ module _ (v : Vif) (used : ℕ) (log : List ℕ) (h : 2 * used ≤ length log) w
   does (Mpg a num) i = does-word false _
   does (Direct n) i = does-word false _
   does (Directhl n) i = does-word false _
-  does (Unpack f u) i = does-choice _ 22 _ (does-word false _)
+  does (Unpack f u) i = does-choice _ cycleWrong _ (does-word false _)
 
-  does-decoded : (d : Decoded) (i : Bool) → Does v used log (decodedStep d v i used log)
+  does-decoded : (d : Decoded) (i : Bool) → Does v used log (decodedStep which d v i used log)
   does-decoded (Known c) i = does c i
   does-decoded (Unknown n) i = does-refused n
 
-module _ (v : Vif) (p : Path) (used : ℕ) (m : Lent) (h : 2 * used ≤ length (m .log)) where
+module _ (which : VifUnit) (v : Vif) (p : Path) (used : ℕ) (m : Lent) (h : 2 * used ≤ length (m .log)) where
   kept-word : (i : Bool) (u : Vif) → Kept v p used m (leaves (Word i) u p used m)
   kept-word i u =
       record {
@@ -132,10 +136,10 @@ module _ (v : Vif) (p : Path) (used : ℕ) (m : Lent) (h : 2 * used ≤ length (
         log-grows = record { same-length = refl; room = h };
       }
 
-  kept-code : (word : ℕ) → Kept v p used m (codeStep v p word used m)
+  kept-code : (word : ℕ) → Kept v p used m (codeStep which v p word used m)
   unfolding codeStep
   kept-code word =
-      let d = does-decoded v used (m .log) h (decodeOf word) (interruptOf word) in
+      let d = does-decoded which v used (m .log) h (decodeOf which word) (interruptOf word) in
       record {
         same = λ n e. ap (λ (x : Executed). afterCode x p m) (d .same n e);
         mem-length = refl;
@@ -157,11 +161,11 @@ module _ (v : Vif) (p : Path) (used : ℕ) (m : Lent) (h : 2 * used ≤ length (
   kept-direct : (n : Incoming) (due : ℕ) (i : Bool) (w : Waiting) → Kept v p used m (directStep n v p due i w used m)
   unfolding giveQuadword
   kept-direct (Word0 a b c d) due i w = kept-gif _ _ refl (step-wrote p used (m .log) h _) due i w
-  kept-direct (Word1 a) due i w = kept-refused 24
-  kept-direct (Word2 a) due i w = kept-refused 24
-  kept-direct (Word3 a) due i w = kept-refused 24
+  kept-direct (Word1 a) due i w = kept-refused directUnaligned
+  kept-direct (Word2 a) due i w = kept-refused directUnaligned
+  kept-direct (Word3 a) due i w = kept-refused directUnaligned
 
-  kept-by : (w : Waiting) (n : Incoming) → Kept v p used m (stepBy w v p n used m)
+  kept-by : (w : Waiting) (n : Incoming) → Kept v p used m (stepBy which w v p n used m)
   unfolding unpackStep mpgStored
   kept-by Nothing n = kept-code _
   kept-by (MaskDue i) n = kept-word i _
@@ -171,7 +175,7 @@ module _ (v : Vif) (p : Path) (used : ℕ) (m : Lent) (h : 2 * used ≤ length (
       record {
         same = λ n e. absurd (no-word e);
         mem-length = refl;
-        code-length = length-sets (m .code) (wordPlace 2048 a (k + k - due)) (bytesOf (wordIn n));
+        code-length = length-sets (m .code) (wordPlace (instructions which) a (k + k - due)) (bytesOf (wordIn n));
         log-grows = record { same-length = refl; room = h };
       }
   kept-by (DirectDue due i) n = kept-direct n due i _
@@ -179,13 +183,13 @@ module _ (v : Vif) (p : Path) (used : ℕ) (m : Lent) (h : 2 * used ≤ length (
   kept-by (UnpackDue f u) n =
       record {
         same = λ n e. absurd (no-word e);
-        mem-length = word-length 1024 f u (writeRegisters v) (wordIn n) (written (v .row) (m .mem));
+        mem-length = word-length (quadwords which) f u (writeRegisters v) (wordIn n) (written (v .row) (m .mem));
         code-length = refl;
         log-grows = record { same-length = refl; room = h };
       }
 
   -- a step's law: a refusal changes nothing, lengths are kept, and the log has room for the entries used
-  pub step-kept : (n : Incoming) → Kept v p used m (vifStep v p n used m)
+  pub step-kept : (n : Incoming) → Kept v p used m (vifStep which v p n used m)
   unfolding vifStep
   step-kept n = kept-by (v .waiting) n
 

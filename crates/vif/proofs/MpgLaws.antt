@@ -3,6 +3,7 @@ use mathlib.Core.Path.{_≡_, refl, _∙_}
 use mathlib.Core.Bool.{Bool, true, false, _&&_}
 use mathlib.Core.List.{List, [], _∷_}
 use Prim.Native.Nat.{ℕ, suc, _+_, _*_, _-_, _/_, _%_, _^_, _≤_, _<_}
+use native.Mathlib.Nat.{mod-lt}
 use native.Mathlib.Omega.{arith}
 use borrow.Author.Tests.{le-leb, lt-ltb}
 use lib.ListN.{set, getD, length}
@@ -13,13 +14,16 @@ use Rattle.gif.specs.declared.Path.{Path}
 use Rattle.gif.specs.declared.GifAnswer.{GifAnswer}
 use Rattle.gif.specs.declared.GifAnswer.the-variants.{Taken, Refused as GifRefused}
 use Rattle.gif.specs.Step.{Left as GifLeft, gifStep}
+use Rattle.memories.specs.declared.VifUnit.{VifUnit}
+use Rattle.memories.specs.Units.{instructions}
+use Rattle.memories.specs.Lengths.{Lent}
 use Rattle.vif.specs.declared.Incoming.{Incoming}
 use Rattle.vif.specs.declared.Incoming.the-variants.{Word0, Word1, Word2, Word3}
 use Rattle.vif.specs.declared.Waiting.{Waiting}
 use Rattle.vif.specs.declared.Waiting.the-variants.{Nothing, MaskDue, RowDue, ColDue, MpgDue, DirectDue, DirecthlDue, UnpackDue}
 use Rattle.vif.specs.declared.Vif.{Vif}
-use Rattle.vif.specs.Payload.{instructions, bytesOf, wordPlace, mpgStored}
-use Rattle.vif.specs.Step.{Lent, wordIn, afterGif, giveQuadword, directStep, unpackStep, codeStep, stepBy, vifStep}
+use Rattle.vif.specs.Payload.{bytesOf, wordPlace, mpgStored}
+use Rattle.vif.specs.Step.{wordIn, afterGif, giveQuadword, directStep, unpackStep, codeStep, stepBy, vifStep}
 
 -- a word is four stores
 pub four-stores : (code : List ℕ) (at word : ℕ)
@@ -30,6 +34,11 @@ four-stores code at word =
     let b : at + 2 ≡ suc (suc at) = omega arith in
     let c : at + 3 ≡ suc (suc (suc at)) = omega arith in
     rw (a, b, c)
+
+-- a word's place lies inside, once over the memory's size
+pub place-inside : (size a k : ℕ) → 1 ≤ size → wordPlace size a k + 4 ≤ 8 * size
+unfolding wordPlace
+place-inside size a k h = let m = mod-lt (a + k / 2) h in omega arith
 
 -- stores one after another leave every other place as it was
 sets-outside : (vs l : List ℕ) (at j d : ℕ) → (at ≤ j → j < at + length vs → ⊥) → getD (sets l at vs) j d ≡ getD l j d
@@ -48,15 +57,15 @@ stored-outside size a n due word code j d h = sets-outside (bytesOf word) code (
 -- ---- code memory after a step
 
 -- whether byte j of code memory is one of the four that the waiting code's next word goes to: none but MPG has any
-abbrev pub storesAt : Waiting → ℕ → Bool
-storesAt Nothing j = false
-storesAt (MaskDue i) j = false
-storesAt (RowDue due i) j = false
-storesAt (ColDue due i) j = false
-storesAt (MpgDue a n due i) j = leb (wordPlace instructions a (n + n - due)) j && ltb j (wordPlace instructions a (n + n - due) + 4)
-storesAt (DirectDue due i) j = false
-storesAt (DirecthlDue due i) j = false
-storesAt (UnpackDue f u) j = false
+abbrev pub storesAt : VifUnit → Waiting → ℕ → Bool
+storesAt which Nothing j = false
+storesAt which (MaskDue i) j = false
+storesAt which (RowDue due i) j = false
+storesAt which (ColDue due i) j = false
+storesAt which (MpgDue a n due i) j = leb (wordPlace (instructions which) a (n + n - due)) j && ltb j (wordPlace (instructions which) a (n + n - due) + 4)
+storesAt which (DirectDue due i) j = false
+storesAt which (DirecthlDue due i) j = false
+storesAt which (UnpackDue f u) j = false
 
 not-between : (at j : ℕ) → (leb at j && ltb j (at + 4)) ≡ false → at ≤ j → j < at + 4 → ⊥
 not-between at j h a b =
@@ -64,7 +73,7 @@ not-between at j h a b =
     let z : _≡_ {A = ℕ} 0 1 = cc in
     omega arith
 
-module _ (v : Vif) (p : Path) (used : ℕ) (m : Lent) where
+module _ (which : VifUnit) (v : Vif) (p : Path) (used : ℕ) (m : Lent) where
   gif-code : (a : GifAnswer) (o : GifLeft) (due : ℕ) (i : Bool) (w : Waiting) → afterGif a o v p due i w used m .memories .code ≡ m .code
   gif-code Taken o due i w = refl
   gif-code (GifRefused n) o due i w = refl
@@ -78,18 +87,18 @@ module _ (v : Vif) (p : Path) (used : ℕ) (m : Lent) where
   direct-code (Word2 a) due i w = refl
   direct-code (Word3 a) due i w = refl
 
-  outside-by : (w : Waiting) (n : Incoming) (j d : ℕ) → storesAt w j ≡ false → getD (stepBy w v p n used m .memories .code) j d ≡ getD (m .code) j d
+  outside-by : (w : Waiting) (n : Incoming) (j d : ℕ) → storesAt which w j ≡ false → getD (stepBy which w v p n used m .memories .code) j d ≡ getD (m .code) j d
   unfolding codeStep unpackStep
   outside-by Nothing n j d h = refl
   outside-by (MaskDue i) n j d h = refl
   outside-by (RowDue due i) n j d h = refl
   outside-by (ColDue due i) n j d h = refl
-  outside-by (MpgDue a k due i) n j d h = stored-outside instructions a k due (wordIn n) (m .code) j d (not-between _ j h)
+  outside-by (MpgDue a k due i) n j d h = stored-outside (instructions which) a k due (wordIn n) (m .code) j d (not-between _ j h)
   outside-by (DirectDue due i) n j d h = rw (direct-code n due i (DirectDue (due - 1) i))
   outside-by (DirecthlDue due i) n j d h = rw (direct-code n due i (DirecthlDue (due - 1) i))
   outside-by (UnpackDue f u) n j d h = refl
 
   -- a step changes code memory only where MPG waits, and there only the four bytes of the word taken
-  pub code-outside : (n : Incoming) (j d : ℕ) → storesAt (v .waiting) j ≡ false → getD (vifStep v p n used m .memories .code) j d ≡ getD (m .code) j d
+  pub code-outside : (n : Incoming) (j d : ℕ) → storesAt which (v .waiting) j ≡ false → getD (vifStep which v p n used m .memories .code) j d ≡ getD (m .code) j d
   unfolding vifStep
   code-outside n j d h = outside-by (v .waiting) n j d h

@@ -4,7 +4,7 @@ use mathlib.Core.Bool.{Bool, true, false, not}
 use mathlib.Core.List.{List}
 use Prim.Native.Nat.{ℕ, _+_, _*_, _-_, _^_, _<_, _≤_}
 use native.Mathlib.Omega.{arith}
-use borrow.Author.Tests.{leb-true, le-leb, eqb-false}
+use borrow.Author.Tests.{leb-true, le-leb, eqb-true, eqb-false}
 use lib.Dec.{eqb, leb}
 use Rattle.fields.specs.Fields.{bits, quadword}
 use Rattle.fields.specs.Refusals.{cmdUnlisted, formatMissing}
@@ -17,9 +17,13 @@ use Rattle.gif.specs.Range.{pathInRange}
 use Rattle.gif.specs.Step.{Left as GifLeft, gifStep}
 use Rattle.gif.proofs.RangeLaws.{log-fits}
 use Rattle.gif.proofs.StepLaws.{step-ranged}
+use Rattle.memories.specs.declared.VifUnit.{VifUnit}
+use Rattle.memories.specs.declared.VifUnit.the-variants.{Vif1}
+use Rattle.memories.specs.Lengths.{Lent}
 use Rattle.unpack.specs.declared.NamedFormat.{NamedFormat}
 use Rattle.unpack.specs.declared.NamedFormat.the-variants.{Named, Missing}
 use Rattle.unpack.specs.Formats.{formatNamed}
+use Rattle.unpack.specs.Position.{addressMost}
 use Rattle.unpack.specs.Range.{cycleRefused, cycleInRange}
 use Rattle.unpack.specs.Step.{countOf, holds, unpackingOf}
 use Rattle.unpack.proofs.StepLaws.{count-range, accepted-cycle, unpacking-fits, fits-unpacking, begun-fits}
@@ -35,13 +39,13 @@ use Rattle.vif.specs.declared.Waiting.{Waiting}
 use Rattle.vif.specs.declared.Waiting.the-variants.{Nothing, MaskDue, RowDue, ColDue, MpgDue, DirectDue, DirecthlDue, UnpackDue}
 use Rattle.vif.specs.declared.Vif.{Vif}
 use Rattle.vif.specs.Setters.{withWaiting}
-use Rattle.vif.specs.Codes.{immOf, numOf, cmdOf, quadwordsOf, plainCode, unpackCode, unpackNumbers, codeOf, decodeOf}
+use Rattle.vif.specs.Codes.{immOf, numOf, cmdOf, quadwordsOf, mpgAddressMost, codeListed, plainCode, unpackCode, unpackNumbers, codeOf, decodeOf}
 use Rattle.vif.specs.Execute.{Executed, nextTops, started, startProgram, setMode, addressOf, beginMpg, beginUnpack, executeOf, decodedStep}
 use Rattle.vif.specs.Payload.{orNothing}
-use Rattle.vif.specs.Range.{registersInRange, waitingInRange, unitInRange}
+use Rattle.vif.specs.Range.{upTo, registersInRange, directInRange, waitingInRange, unitInRange}
 use Rattle.vif.specs.Inner.{StepReady}
-use Rattle.vif.specs.Step.{Lent, Left, afterGif, giveQuadword, directStep, unpackStep, codeStep, stepBy, vifStep}
-use Rattle.vif.proofs.RangeLaws.{fits-up-to, waiting-ranged, row-due, col-due, mpg-due, direct-due, directhl-due}
+use Rattle.vif.specs.Step.{Left, afterGif, giveQuadword, directStep, unpackStep, codeStep, stepBy, vifStep}
+use Rattle.vif.proofs.RangeLaws.{up-to-fits, fits-up-to, waiting-ranged, row-due, col-due, mpg-due}
 use Rattle.vif.proofs.KeepLaws.{step-kept, log-stays}
 
 -- ---- registers as facts
@@ -49,12 +53,12 @@ use Rattle.vif.proofs.KeepLaws.{step-kept, log-stays}
 pub record RegistersFit (v : Vif) : Type 0 where
   pub cl-fits : v .cl ≤ 255
   pub wl-fits : v .wl ≤ 255
-  pub ofst-fits : v .ofst ≤ 1023
-  pub base-fits : v .base ≤ 1023
-  pub tops-fits : v .tops ≤ 1023
-  pub top-fits : v .top ≤ 1023
-  pub itops-fits : v .itops ≤ 1023
-  pub itop-fits : v .itop ≤ 1023
+  pub ofst-fits : v .ofst ≤ addressMost
+  pub base-fits : v .base ≤ addressMost
+  pub tops-fits : v .tops ≤ addressMost
+  pub top-fits : v .top ≤ addressMost
+  pub itops-fits : v .itops ≤ addressMost
+  pub itop-fits : v .itop ≤ addressMost
   pub mode-fits : v .mode ≤ 2
   pub mark-fits : v .mark ≤ 65535
 
@@ -63,21 +67,21 @@ unfolding registersInRange
 registers-fit v h0 =
     let h1 = and-right (leb (v .cl) 255) _ h0 in
     let h2 = and-right (leb (v .wl) 255) _ h1 in
-    let h3 = and-right (leb (v .ofst) 1023) _ h2 in
-    let h4 = and-right (leb (v .base) 1023) _ h3 in
-    let h5 = and-right (leb (v .tops) 1023) _ h4 in
-    let h6 = and-right (leb (v .top) 1023) _ h5 in
-    let h7 = and-right (leb (v .itops) 1023) _ h6 in
-    let h8 = and-right (leb (v .itop) 1023) _ h7 in
+    let h3 = and-right (leb (v .ofst) addressMost) _ h2 in
+    let h4 = and-right (leb (v .base) addressMost) _ h3 in
+    let h5 = and-right (leb (v .tops) addressMost) _ h4 in
+    let h6 = and-right (leb (v .top) addressMost) _ h5 in
+    let h7 = and-right (leb (v .itops) addressMost) _ h6 in
+    let h8 = and-right (leb (v .itop) addressMost) _ h7 in
     record {
       cl-fits = leb-true (v .cl) 255 (and-left _ _ h0);
       wl-fits = leb-true (v .wl) 255 (and-left _ _ h1);
-      ofst-fits = leb-true (v .ofst) 1023 (and-left _ _ h2);
-      base-fits = leb-true (v .base) 1023 (and-left _ _ h3);
-      tops-fits = leb-true (v .tops) 1023 (and-left _ _ h4);
-      top-fits = leb-true (v .top) 1023 (and-left _ _ h5);
-      itops-fits = leb-true (v .itops) 1023 (and-left _ _ h6);
-      itop-fits = leb-true (v .itop) 1023 (and-left _ _ h7);
+      ofst-fits = leb-true (v .ofst) addressMost (and-left _ _ h2);
+      base-fits = leb-true (v .base) addressMost (and-left _ _ h3);
+      tops-fits = leb-true (v .tops) addressMost (and-left _ _ h4);
+      top-fits = leb-true (v .top) addressMost (and-left _ _ h5);
+      itops-fits = leb-true (v .itops) addressMost (and-left _ _ h6);
+      itop-fits = leb-true (v .itop) addressMost (and-left _ _ h7);
       mode-fits = leb-true (v .mode) 2 (and-left _ _ h8);
       mark-fits = leb-true (v .mark) 65535 (and-right (leb (v .mode) 2) _ h8);
     }
@@ -85,107 +89,112 @@ registers-fit v h0 =
 pub fit-registers : (v : Vif) → RegistersFit v → registersInRange v ≡ true
 unfolding registersInRange
 fit-registers v f =
-    rw (le-leb (v .cl) 255 (f .cl-fits), le-leb (v .wl) 255 (f .wl-fits), le-leb (v .ofst) 1023 (f .ofst-fits), le-leb (v .base) 1023 (f .base-fits), le-leb (v .tops) 1023 (f .tops-fits), le-leb (v .top) 1023 (f .top-fits), le-leb (v .itops) 1023 (f .itops-fits), le-leb (v .itop) 1023 (f .itop-fits), le-leb (v .mode) 2 (f .mode-fits), le-leb (v .mark) 65535 (f .mark-fits))
+    rw (le-leb (v .cl) 255 (f .cl-fits), le-leb (v .wl) 255 (f .wl-fits), le-leb (v .ofst) addressMost (f .ofst-fits), le-leb (v .base) addressMost (f .base-fits), le-leb (v .tops) addressMost (f .tops-fits), le-leb (v .top) addressMost (f .top-fits), le-leb (v .itops) addressMost (f .itops-fits), le-leb (v .itop) addressMost (f .itop-fits), le-leb (v .mode) 2 (f .mode-fits), le-leb (v .mark) 65535 (f .mark-fits))
 
-pub unit-registers : (v : Vif) → unitInRange v ≡ true → RegistersFit v
+pub unit-registers : (which : VifUnit) (v : Vif) → unitInRange which v ≡ true → RegistersFit v
 unfolding unitInRange
-unit-registers v h = registers-fit v (and-left _ _ h)
+unit-registers which v h = registers-fit v (and-left _ _ h)
 
-pub unit-ranged : (v : Vif) → RegistersFit v → waitingInRange (v .waiting) (v .cl) (v .wl) ≡ true → unitInRange v ≡ true
+pub unit-ranged : (which : VifUnit) (v : Vif) → RegistersFit v → waitingInRange which (v .waiting) (v .cl) (v .wl) ≡ true
+    → unitInRange which v ≡ true
 unfolding unitInRange
-unit-ranged v f h = rw (fit-registers v f) h
+unit-ranged which v f h = rw (fit-registers v f) h
 
 -- ---- decoded codes hold numbers of their fields
 
 data Any : Type 0 where
   any : Any
 
-abbrev CodeFits : Code → Type 0
-CodeFits Nop = Any
-CodeFits (Stcycl cl wl) = (cl ≤ 255) × (wl ≤ 255)
-CodeFits (Offset x) = x ≤ 1023
-CodeFits (Base x) = x ≤ 1023
-CodeFits (Itop x) = x ≤ 1023
-CodeFits (Stmod m) = m ≤ 3
-CodeFits (Mskpath3 b) = Any
-CodeFits (Mark x) = x ≤ 65535
-CodeFits Flushe = Any
-CodeFits Flush = Any
-CodeFits Flusha = Any
-CodeFits (Mscal x) = Any
-CodeFits (Mscalf x) = Any
-CodeFits Mscnt = Any
-CodeFits Stmask = Any
-CodeFits Strow = Any
-CodeFits Stcol = Any
-CodeFits (Mpg a num) = a ≤ 2047
-CodeFits (Direct n) = (1 ≤ n) × (n ≤ 65536)
-CodeFits (Directhl n) = (1 ≤ n) × (n ≤ 65536)
-CodeFits (Unpack f u) = Any
+abbrev CodeFits : VifUnit → Code → Type 0
+CodeFits which Nop = Any
+CodeFits which (Stcycl cl wl) = (cl ≤ 255) × (wl ≤ 255)
+CodeFits which (Offset x) = x ≤ addressMost
+CodeFits which (Base x) = x ≤ addressMost
+CodeFits which (Itop x) = x ≤ addressMost
+CodeFits which (Stmod m) = m ≤ 3
+CodeFits which (Mskpath3 b) = Any
+CodeFits which (Mark x) = x ≤ 65535
+CodeFits which Flushe = Any
+CodeFits which Flush = Any
+CodeFits which Flusha = Any
+CodeFits which (Mscal x) = Any
+CodeFits which (Mscalf x) = Any
+CodeFits which Mscnt = Any
+CodeFits which Stmask = Any
+CodeFits which Strow = Any
+CodeFits which Stcol = Any
+CodeFits which (Mpg a num) = a ≤ mpgAddressMost
+CodeFits which (Direct n) = directInRange which 0x50 n ≡ true
+CodeFits which (Directhl n) = directInRange which 0x51 n ≡ true
+CodeFits which (Unpack f u) = Any
 
-abbrev DecodedFits : Decoded → Type 0
-DecodedFits (Known c) = CodeFits c
-DecodedFits (Unknown n) = Any
+module _ (which : VifUnit) where
+  abbrev DecodedFits : Decoded → Type 0
+  DecodedFits (Known c) = CodeFits which c
+  DecodedFits (Unknown n) = Any
 
-record Fits (d : Decoded) : Type 0 where
-  fits : DecodedFits d
+  record Fits (d : Decoded) : Type 0 where
+    fits : DecodedFits d
 
-fine : (d : Decoded) → DecodedFits d → Fits d
-fine d h = record { fits = h }
+  fine : (d : Decoded) → DecodedFits d → Fits d
+  fine d h = record { fits = h }
 
-direct-fits : (imm : ℕ) → imm < 65536 → (1 ≤ quadwordsOf imm) × (quadwordsOf imm ≤ 65536)
-unfolding quadwordsOf
-direct-fits imm h =
-    if-ind-by (λ (n : ℕ). (1 ≤ n) × (n ≤ 65536)) (eqb imm 0) (λ e. (omega arith, omega arith))
-    (λ e. let z = eqb-false imm 0 e in (omega arith, omega arith))
+  direct-fits : (cmd k imm : ℕ) → imm < 65536 → codeListed which cmd ≡ true → eqb cmd k ≡ true → directInRange which k (quadwordsOf imm) ≡ true
+  unfolding directInRange quadwordsOf
+  direct-fits cmd k imm h l e =
+      rw (← eqb-true cmd k e, l)
+      (if-ind-by (λ (n : ℕ). upTo 65536 n ≡ true) (eqb imm 0) (λ z. fits-up-to 65536 65536 (omega arith) (omega arith))
+      (λ z. let y = eqb-false imm 0 z in fits-up-to 65536 imm (omega arith) (omega arith)))
 
-plain-fits : (cmd num imm : ℕ) → imm < 65536 → Fits (plainCode cmd num imm)
-unfolding plainCode
-plain-fits cmd num imm h =
-    if-ind Fits (eqb cmd 0) (fine (Known Nop) any)
-    (if-ind Fits (eqb cmd 1) (fine (Known (Stcycl _ _)) (ten 0 7 255 (bits-below imm 0 7), ten 8 15 255 (bits-below imm 8 15)))
-    (if-ind Fits (eqb cmd 2) (fine (Known (Offset _)) (ten 0 9 1023 (bits-below imm 0 9)))
-    (if-ind Fits (eqb cmd 3) (fine (Known (Base _)) (ten 0 9 1023 (bits-below imm 0 9)))
-    (if-ind Fits (eqb cmd 4) (fine (Known (Itop _)) (ten 0 9 1023 (bits-below imm 0 9)))
-    (if-ind Fits (eqb cmd 5) (fine (Known (Stmod _)) (ten 0 1 3 (bits-below imm 0 1)))
-    (if-ind Fits (eqb cmd 6) (fine (Known (Mskpath3 _)) any)
-    (if-ind Fits (eqb cmd 7) (fine (Known (Mark _)) (omega arith))
-    (if-ind Fits (eqb cmd 16) (fine (Known Flushe) any)
-    (if-ind Fits (eqb cmd 17) (fine (Known Flush) any)
-    (if-ind Fits (eqb cmd 19) (fine (Known Flusha) any)
-    (if-ind Fits (eqb cmd 20) (fine (Known (Mscal imm)) any)
-    (if-ind Fits (eqb cmd 21) (fine (Known (Mscalf imm)) any)
-    (if-ind Fits (eqb cmd 23) (fine (Known Mscnt) any)
-    (if-ind Fits (eqb cmd 32) (fine (Known Stmask) any)
-    (if-ind Fits (eqb cmd 48) (fine (Known Strow) any)
-    (if-ind Fits (eqb cmd 49) (fine (Known Stcol) any)
-    (if-ind Fits (eqb cmd 74) (fine (Known (Mpg _ num)) (ten 0 10 2047 (bits-below imm 0 10)))
-    (if-ind Fits (eqb cmd 80) (fine (Known (Direct _)) (direct-fits imm h))
-    (if-ind Fits (eqb cmd 81) (fine (Known (Directhl _)) (direct-fits imm h))
-    (fine (Unknown cmdUnlisted) any))))))))))))))))))))
-  where
-    ten : (from to n : ℕ) → bits imm from to < n + 1 → bits imm from to ≤ n
-    ten from to n l = omega arith
+  plain-fits : (cmd num imm : ℕ) → imm < 65536 → codeListed which cmd ≡ true → Fits (plainCode cmd num imm)
+  unfolding plainCode
+  plain-fits cmd num imm h l =
+      if-ind Fits (eqb cmd 0x00) (fine (Known Nop) any)
+      (if-ind Fits (eqb cmd 0x01) (fine (Known (Stcycl _ _)) (ten 0 7 255 (bits-below imm 0 7), ten 8 15 255 (bits-below imm 8 15)))
+      (if-ind Fits (eqb cmd 0x02) (fine (Known (Offset _)) (ten 0 9 addressMost (bits-below imm 0 9)))
+      (if-ind Fits (eqb cmd 0x03) (fine (Known (Base _)) (ten 0 9 addressMost (bits-below imm 0 9)))
+      (if-ind Fits (eqb cmd 0x04) (fine (Known (Itop _)) (ten 0 9 addressMost (bits-below imm 0 9)))
+      (if-ind Fits (eqb cmd 0x05) (fine (Known (Stmod _)) (ten 0 1 3 (bits-below imm 0 1)))
+      (if-ind Fits (eqb cmd 0x06) (fine (Known (Mskpath3 _)) any)
+      (if-ind Fits (eqb cmd 0x07) (fine (Known (Mark _)) (omega arith))
+      (if-ind Fits (eqb cmd 0x10) (fine (Known Flushe) any)
+      (if-ind Fits (eqb cmd 0x11) (fine (Known Flush) any)
+      (if-ind Fits (eqb cmd 0x13) (fine (Known Flusha) any)
+      (if-ind Fits (eqb cmd 0x14) (fine (Known (Mscal imm)) any)
+      (if-ind Fits (eqb cmd 0x15) (fine (Known (Mscalf imm)) any)
+      (if-ind Fits (eqb cmd 0x17) (fine (Known Mscnt) any)
+      (if-ind Fits (eqb cmd 0x20) (fine (Known Stmask) any)
+      (if-ind Fits (eqb cmd 0x30) (fine (Known Strow) any)
+      (if-ind Fits (eqb cmd 0x31) (fine (Known Stcol) any)
+      (if-ind Fits (eqb cmd 0x4A) (fine (Known (Mpg _ num)) (ten 0 10 mpgAddressMost (bits-below imm 0 10)))
+      (if-ind-by Fits (eqb cmd 0x50) (λ e. fine (Known (Direct _)) (direct-fits cmd 0x50 imm h l e))
+      (λ _. if-ind-by Fits (eqb cmd 0x51) (λ e. fine (Known (Directhl _)) (direct-fits cmd 0x51 imm h l e))
+      (λ _. fine (Unknown cmdUnlisted) any))))))))))))))))))))
+    where
+      ten : (from to n : ℕ) → bits imm from to < n + 1 → bits imm from to ≤ n
+      ten from to n l = omega arith
 
-unpack-code-fits : (format : NamedFormat) (u : UnpackCode) → Fits (unpackCode format u)
-unpack-code-fits (Named f) u = fine (Known (Unpack f u)) any
-unpack-code-fits Missing u = fine (Unknown formatMissing) any
+  unpack-code-fits : (format : NamedFormat) (u : UnpackCode) → Fits (unpackCode format u)
+  unpack-code-fits (Named f) u = fine (Known (Unpack f u)) any
+  unpack-code-fits Missing u = fine (Unknown formatMissing) any
 
-decode-fits : (word : ℕ) → Fits (decodeOf word)
-unfolding decodeOf codeOf
-decode-fits word =
-    if-ind Fits (leb 96 (cmdOf word))
-    (unpack-code-fits (formatNamed (bits (cmdOf word) 0 3)) (unpackNumbers (cmdOf word) (numOf word) (immOf word)))
-    (plain-fits (cmdOf word) (numOf word) (immOf word) (bits-below word 0 15))
+  decode-fits : (word : ℕ) → Fits (decodeOf which word)
+  unfolding decodeOf codeOf
+  decode-fits word =
+      if-ind Fits (leb 0x60 (cmdOf word))
+      (unpack-code-fits (formatNamed (bits (cmdOf word) 0 3)) (unpackNumbers (cmdOf word) (numOf word) (immOf word)))
+      (if-ind-by Fits (codeListed which (cmdOf word)) (plain-fits (cmdOf word) (numOf word) (immOf word) (bits-below word 0 15))
+      (λ _. fine (Unknown cmdUnlisted) any))
 
 -- ---- a code's own step
 
-idle-ranged : (v : Vif) → RegistersFit v → v .waiting ≡ Nothing → unitInRange v ≡ true
+idle-ranged : (which : VifUnit) (v : Vif) → RegistersFit v → v .waiting ≡ Nothing → unitInRange which v ≡ true
 unfolding waitingInRange
-idle-ranged v f q = unit-ranged v f (rw q refl)
+idle-ranged which v f q = unit-ranged which v f (rw q refl)
 
-waits-ranged : (v : Vif) (w : Waiting) → RegistersFit v → waitingInRange w (v .cl) (v .wl) ≡ true → unitInRange (withWaiting v w) ≡ true
-waits-ranged v w f h = unit-ranged (withWaiting v w) (same v w f) h
+waits-ranged : (which : VifUnit) (v : Vif) (w : Waiting) → RegistersFit v → waitingInRange which w (v .cl) (v .wl) ≡ true
+    → unitInRange which (withWaiting v w) ≡ true
+waits-ranged which v w f h = unit-ranged which (withWaiting v w) (same v w f) h
   where
     same : (v : Vif) (w : Waiting) → RegistersFit v → RegistersFit (withWaiting v w)
     same v w f =
@@ -203,23 +212,23 @@ waits-ranged v w f h = unit-ranged (withWaiting v w) (same v w f) h
         }
 
 -- the unit that a result leaves is in range
-record Ranged (v : Vif) : Type 0 where
-  held : unitInRange v ≡ true
+record Ranged (which : VifUnit) (v : Vif) : Type 0 where
+  held : unitInRange which v ≡ true
 
-module _ (v : Vif) (f : RegistersFit v) (q : v .waiting ≡ Nothing) where
-  idle : (u : Vif) → u .waiting ≡ v .waiting → RegistersFit u → Ranged u
-  idle u e g = record { held = idle-ranged u g (e ∙ q) }
+module _ (which : VifUnit) (v : Vif) (f : RegistersFit v) (q : v .waiting ≡ Nothing) where
+  idle : (u : Vif) → u .waiting ≡ v .waiting → RegistersFit u → Ranged which u
+  idle u e g = record { held = idle-ranged which u g (e ∙ q) }
 
-  unchanged : Ranged v
+  unchanged : Ranged which v
   unchanged = idle v refl f
 
-  tops-next : (dbf : Bool) → nextTops dbf v ≤ 1023
+  tops-next : (dbf : Bool) → nextTops dbf v ≤ addressMost
   unfolding nextTops
-  tops-next dbf = if-ind (λ (n : ℕ). n ≤ 1023) dbf (omega arith) (f .base-fits)
+  tops-next dbf = if-ind (λ (n : ℕ). n ≤ addressMost) dbf (omega arith) (f .base-fits)
 
   -- the registers, given one by one
-  fit : (u : Vif) → u .cl ≤ 255 → u .wl ≤ 255 → u .ofst ≤ 1023 → u .base ≤ 1023 → u .tops ≤ 1023 → u .top ≤ 1023 → u .itops ≤ 1023 → u .itop ≤ 1023
-      → u .mode ≤ 2 → u .mark ≤ 65535 → u .waiting ≡ v .waiting → Ranged u
+  fit : (u : Vif) → u .cl ≤ 255 → u .wl ≤ 255 → u .ofst ≤ addressMost → u .base ≤ addressMost → u .tops ≤ addressMost → u .top ≤ addressMost → u .itops ≤ addressMost → u .itop ≤ addressMost
+      → u .mode ≤ 2 → u .mark ≤ 65535 → u .waiting ≡ v .waiting → Ranged which u
   fit u a b c d e g h i j k w =
       idle u w
       (record {
@@ -235,20 +244,22 @@ module _ (v : Vif) (f : RegistersFit v) (q : v .waiting ≡ Nothing) where
         mark-fits = k;
       })
 
-  ranged-start : (r x : ℕ) (i : Bool) (used : ℕ) (log : List ℕ) → Ranged (startProgram r x v i used log .unit)
+  ranged-start : (r x : ℕ) (i : Bool) (used : ℕ) (log : List ℕ) → Ranged which (startProgram which r x v i used log .unit)
   unfolding startProgram
-  ranged-start r x i used log =
-      if-ind (λ (e : Executed). Ranged (e .unit)) _ unchanged
-      (fit (started v) (f .cl-fits) (f .wl-fits) (f .ofst-fits) (f .base-fits) (tops-next (not (v .dbf))) (f .tops-fits) (f .itops-fits) (f .itops-fits) (f .mode-fits) (f .mark-fits) refl)
+  ranged-start r x i used log = if-ind (λ (e : Executed). Ranged which (e .unit)) _ unchanged (moved which refl)
+    where
+      moved : (k : VifUnit) → which ≡ k → Ranged which (started k v)
+      moved Vif1 e =
+          fit (started Vif1 v) (f .cl-fits) (f .wl-fits) (f .ofst-fits) (f .base-fits) (tops-next (not (v .dbf))) (f .tops-fits) (f .itops-fits) (f .itops-fits) (f .mode-fits) (f .mark-fits) refl
 
-  ranged-waits : (w : Waiting) → waitingInRange w (v .cl) (v .wl) ≡ true → Ranged (withWaiting v w)
-  ranged-waits w h = record { held = waits-ranged v w f h }
+  ranged-waits : (w : Waiting) → waitingInRange which w (v .cl) (v .wl) ≡ true → Ranged which (withWaiting v w)
+  ranged-waits w h = record { held = waits-ranged which v w f h }
 
   -- what rule 22 leaves is in range
   cycle-ranged : cycleRefused (v .cl) (v .wl) ≡ false → cycleInRange (v .cl) (v .wl) ≡ true
   cycle-ranged h = accepted-cycle (v .cl) (v .wl) h (f .cl-fits) (f .wl-fits)
 
-  ranged : (c : Code) → CodeFits c → (i : Bool) (used : ℕ) (log : List ℕ) → Ranged (executeOf c v i used log .unit)
+  ranged : (c : Code) → CodeFits which c → (i : Bool) (used : ℕ) (log : List ℕ) → Ranged which (executeOf which c v i used log .unit)
   unfolding setMode beginMpg beginUnpack waitingInRange
   ranged Nop h i used log = unchanged
   ranged (Stcycl cl wl) h i used log = fit _ (h .0) (h .1) (f .ofst-fits) (f .base-fits) (f .tops-fits) (f .top-fits) (f .itops-fits) (f .itop-fits) (f .mode-fits) (f .mark-fits) refl
@@ -256,7 +267,7 @@ module _ (v : Vif) (f : RegistersFit v) (q : v .waiting ≡ Nothing) where
   ranged (Base x) h i used log = fit _ (f .cl-fits) (f .wl-fits) (f .ofst-fits) h (f .tops-fits) (f .top-fits) (f .itops-fits) (f .itop-fits) (f .mode-fits) (f .mark-fits) refl
   ranged (Itop x) h i used log = fit _ (f .cl-fits) (f .wl-fits) (f .ofst-fits) (f .base-fits) (f .tops-fits) (f .top-fits) h (f .itop-fits) (f .mode-fits) (f .mark-fits) refl
   ranged (Stmod m) h i used log =
-      if-ind-by (λ (r : CodeResult). Ranged (r .unit)) (eqb m 3) (λ e. unchanged)
+      if-ind-by (λ (r : CodeResult). Ranged which (r .unit)) (eqb m 3) (λ e. unchanged)
       (λ e.
       let z = eqb-false m 3 e in
       fit _ (f .cl-fits) (f .wl-fits) (f .ofst-fits) (f .base-fits) (f .tops-fits) (f .top-fits) (f .itops-fits) (f .itop-fits) (omega arith) (f .mark-fits) refl)
@@ -274,36 +285,38 @@ module _ (v : Vif) (f : RegistersFit v) (q : v .waiting ≡ Nothing) where
   ranged (Mpg a num) h i used log =
       let n = count-range num in
       ranged-waits (MpgDue a (countOf num) (countOf num + countOf num) i)
-      (rw (le-leb a 2047 h, fits-up-to 256 (countOf num) (n .0) (n .1)) (fits-up-to (countOf num + countOf num) (countOf num + countOf num) (omega arith) (omega arith)))
-  ranged (Direct n) h i used log = ranged-waits (DirectDue n i) (fits-up-to 65536 n (h .0) (h .1))
-  ranged (Directhl n) h i used log = ranged-waits (DirecthlDue n i) (fits-up-to 65536 n (h .0) (h .1))
+      (rw (le-leb a mpgAddressMost h, fits-up-to 256 (countOf num) (n .0) (n .1)) (fits-up-to (countOf num + countOf num) (countOf num + countOf num) (omega arith) (omega arith)))
+  ranged (Direct n) h i used log = ranged-waits (DirectDue n i) h
+  ranged (Directhl n) h i used log = ranged-waits (DirecthlDue n i) h
   ranged (Unpack g u) h i used log =
-      if-ind-by (λ (r : CodeResult). Ranged (r .unit)) (cycleRefused (v .cl) (v .wl)) (λ e. unchanged)
+      if-ind-by (λ (r : CodeResult). Ranged which (r .unit)) (cycleRefused (v .cl) (v .wl)) (λ e. unchanged)
       (λ e. ranged-waits (UnpackDue g (unpackingOf g (addressOf u (v .tops)) (u .num) (u .usn) (u .masked) i)) (rw (cycle-ranged e) (fits-unpacking g _ (begun-fits g _ _ _ _ _))))
 
-  ranged-decoded : (d : Decoded) → DecodedFits d → (i : Bool) (used : ℕ) (log : List ℕ) → Ranged (decodedStep d v i used log .unit)
+  ranged-decoded : (d : Decoded) → DecodedFits which d → (i : Bool) (used : ℕ) (log : List ℕ) → Ranged which (decodedStep which d v i used log .unit)
   ranged-decoded (Known c) h i used log = ranged c h i used log
   ranged-decoded (Unknown n) h i used log = unchanged
 
 -- ---- a payload word
 
-or-nothing-ranged : (due : ℕ) (w : Waiting) (cl wl : ℕ) → ((due ≡ 1 → ⊥) → waitingInRange w cl wl ≡ true) → waitingInRange (orNothing due w) cl wl ≡ true
+or-nothing-ranged : (which : VifUnit) (due : ℕ) (w : Waiting) (cl wl : ℕ) → ((due ≡ 1 → ⊥) → waitingInRange which w cl wl ≡ true)
+    → waitingInRange which (orNothing due w) cl wl ≡ true
 unfolding orNothing waitingInRange
-or-nothing-ranged due w cl wl h =
-    if-ind-by (λ (x : Waiting). waitingInRange x cl wl ≡ true) (eqb due 1) (λ e. refl) (λ e. h (eqb-false due 1 e))
+or-nothing-ranged which due w cl wl h =
+    if-ind-by (λ (x : Waiting). waitingInRange which x cl wl ≡ true) (eqb due 1) (λ e. refl) (λ e. h (eqb-false due 1 e))
 
 -- the unit and path 2 that a step leaves are in range
-pub record StaysRanged (o : Left) : Type 0 where
-  pub unit-held : unitInRange (o .unit) ≡ true
+pub record StaysRanged (which : VifUnit) (o : Left) : Type 0 where
+  pub unit-held : unitInRange which (o .unit) ≡ true
   pub path-held : pathInRange (o .path2) ≡ true
 
-module _ (v : Vif) (h : unitInRange v ≡ true) (p : Path) (g : pathInRange p ≡ true) (used : ℕ) (m : Lent) where
+module _ (which : VifUnit) (v : Vif) (h : unitInRange which v ≡ true) (p : Path) (g : pathInRange p ≡ true) (used : ℕ) (m : Lent) where
   -- a unit that differs in ROW, COL, MASK and what waits alone
-  payload : (u : Vif) → u .cl ≡ v .cl → u .wl ≡ v .wl → RegistersFit u → waitingInRange (u .waiting) (v .cl) (v .wl) ≡ true → unitInRange u ≡ true
-  payload u a b f w = unit-ranged u f (rw (a, b) w)
+  payload : (u : Vif) → u .cl ≡ v .cl → u .wl ≡ v .wl → RegistersFit u → waitingInRange which (u .waiting) (v .cl) (v .wl) ≡ true
+      → unitInRange which u ≡ true
+  payload u a b f w = unit-ranged which u f (rw (a, b) w)
 
   fits : RegistersFit v
-  fits = unit-registers v h
+  fits = unit-registers which v h
 
   -- the same registers in another unit
   again : (u : Vif) → u .cl ≡ v .cl → u .wl ≡ v .wl → u .ofst ≡ v .ofst → u .base ≡ v .base → u .tops ≡ v .tops → u .top ≡ v .top → u .itops ≡ v .itops
@@ -322,21 +335,21 @@ module _ (v : Vif) (h : unitInRange v ≡ true) (p : Path) (g : pathInRange p �
         mark-fits = rw n (fits .mark-fits);
       }
 
-  after : (u : Vif) → RegistersFit u → u .cl ≡ v .cl → u .wl ≡ v .wl → waitingInRange (u .waiting) (v .cl) (v .wl) ≡ true → (o : Left) → o .unit ≡ u → o .path2 ≡ p
-      → StaysRanged o
+  after : (u : Vif) → RegistersFit u → u .cl ≡ v .cl → u .wl ≡ v .wl → waitingInRange which (u .waiting) (v .cl) (v .wl) ≡ true → (o : Left) → o .unit ≡ u → o .path2 ≡ p
+      → StaysRanged which o
   after u f a b w o e d = record { unit-held = rw e (payload u a b f w); path-held = rw d g }
 
-  refused-ranged : (o : Left) → o .unit ≡ v → o .path2 ≡ p → StaysRanged o
+  refused-ranged : (o : Left) → o .unit ≡ v → o .path2 ≡ p → StaysRanged which o
   refused-ranged o e d = record { unit-held = rw e h; path-held = rw d g }
 
   gif-ranged : (a : GifAnswer) (o : GifLeft) → pathInRange (o .path) ≡ true → (due : ℕ) (i : Bool) (w : Waiting)
-      → waitingInRange (orNothing due w) (v .cl) (v .wl) ≡ true → StaysRanged (afterGif a o v p due i w used m)
+      → waitingInRange which (orNothing due w) (v .cl) (v .wl) ≡ true → StaysRanged which (afterGif a o v p due i w used m)
   gif-ranged Taken o r due i w k =
-      record { unit-held = waits-ranged v (orNothing due w) fits k; path-held = r }
+      record { unit-held = waits-ranged which v (orNothing due w) fits k; path-held = r }
   gif-ranged (GifRefused n) o r due i w k = refused-ranged _ refl refl
 
-  direct-ranged : (n : Incoming) (due : ℕ) (i : Bool) (w : Waiting) → waitingInRange (orNothing due w) (v .cl) (v .wl) ≡ true
-      → StaysRanged (directStep n v p due i w used m)
+  direct-ranged : (n : Incoming) (due : ℕ) (i : Bool) (w : Waiting) → waitingInRange which (orNothing due w) (v .cl) (v .wl) ≡ true
+      → StaysRanged which (directStep n v p due i w used m)
   unfolding giveQuadword
   direct-ranged (Word0 a b c d) due i w k =
       let quad = quadword (a + b * 2 ^ 32) (c + d * 2 ^ 32) in
@@ -345,45 +358,48 @@ module _ (v : Vif) (h : unitInRange v ≡ true) (p : Path) (g : pathInRange p �
   direct-ranged (Word2 a) due i w k = refused-ranged _ refl refl
   direct-ranged (Word3 a) due i w k = refused-ranged _ refl refl
 
-  ranged-by : (w : Waiting) → v .waiting ≡ w → (n : Incoming) → StaysRanged (stepBy w v p n used m)
+  -- with a quadword taken and not the last
+  fewer : (cmd due : ℕ) → directInRange which cmd due ≡ true → (due ≡ 1 → ⊥) → directInRange which cmd (due - 1) ≡ true
+  unfolding directInRange
+  fewer cmd due r z =
+      let d = up-to-fits 65536 due (and-right (codeListed which cmd) _ r) in
+      rw (and-left (codeListed which cmd) _ r) (fits-up-to 65536 (due - 1) (omega arith) (omega arith))
+
+  ranged-by : (w : Waiting) → v .waiting ≡ w → (n : Incoming) → StaysRanged which (stepBy which w v p n used m)
   unfolding codeStep unpackStep waitingInRange
-  ranged-by Nothing q n = record { unit-held = ranged-decoded v fits q (decodeOf _) (decode-fits _ .fits) _ used (m .log) .held; path-held = g }
+  ranged-by Nothing q n = record { unit-held = ranged-decoded which v fits q (decodeOf which _) (decode-fits which _ .fits) _ used (m .log) .held; path-held = g }
   ranged-by (MaskDue i) q n = after _ (again _ refl refl refl refl refl refl refl refl refl refl) refl refl refl _ refl refl
   ranged-by (RowDue due i) q n =
-      let d = row-due v h q in
+      let d = row-due which v h q in
       after _ (again _ refl refl refl refl refl refl refl refl refl refl) refl refl
-      (or-nothing-ranged due _ (v .cl) (v .wl) (λ z. fits-up-to 4 (due - 1) (omega arith) (omega arith)))
+      (or-nothing-ranged which due _ (v .cl) (v .wl) (λ z. fits-up-to 4 (due - 1) (omega arith) (omega arith)))
       _
       refl
       refl
   ranged-by (ColDue due i) q n =
-      let d = col-due v h q in
+      let d = col-due which v h q in
       after _ (again _ refl refl refl refl refl refl refl refl refl refl) refl refl
-      (or-nothing-ranged due _ (v .cl) (v .wl) (λ z. fits-up-to 4 (due - 1) (omega arith) (omega arith)))
+      (or-nothing-ranged which due _ (v .cl) (v .wl) (λ z. fits-up-to 4 (due - 1) (omega arith) (omega arith)))
       _
       refl
       refl
   ranged-by (MpgDue a k due i) q n =
-      let d = mpg-due v h q in
+      let d = mpg-due which v h q in
       after _ (again _ refl refl refl refl refl refl refl refl refl refl) refl refl
-      (or-nothing-ranged due _ (v .cl) (v .wl)
-      (λ z. rw (le-leb a 2047 (d .0), fits-up-to 256 k (d .4) (d .1)) (fits-up-to (k + k) (due - 1) (omega arith) (omega arith))))
+      (or-nothing-ranged which due _ (v .cl) (v .wl)
+      (λ z. rw (le-leb a mpgAddressMost (d .0), fits-up-to 256 k (d .4) (d .1)) (fits-up-to (k + k) (due - 1) (omega arith) (omega arith))))
       _
       refl
       refl
-  ranged-by (DirectDue due i) q n =
-      let d = direct-due v h q in
-      direct-ranged n due i _ (or-nothing-ranged due _ (v .cl) (v .wl) (λ z. fits-up-to 65536 (due - 1) (omega arith) (omega arith)))
-  ranged-by (DirecthlDue due i) q n =
-      let d = directhl-due v h q in
-      direct-ranged n due i _ (or-nothing-ranged due _ (v .cl) (v .wl) (λ z. fits-up-to 65536 (due - 1) (omega arith) (omega arith)))
+  ranged-by (DirectDue due i) q n = direct-ranged n due i _ (or-nothing-ranged which due _ (v .cl) (v .wl) (fewer 0x50 due (waiting-ranged which v h q)))
+  ranged-by (DirecthlDue due i) q n = direct-ranged n due i _ (or-nothing-ranged which due _ (v .cl) (v .wl) (fewer 0x51 due (waiting-ranged which v h q)))
   ranged-by (UnpackDue f u) q n =
-      let r = waiting-ranged v h q in
+      let r = waiting-ranged which v h q in
       let x = unpacking-fits f u (and-right (cycleInRange (v .cl) (v .wl)) _ r) in
       let l = x .left in
       let o = x .most in
       after _ (again _ refl refl refl refl refl refl refl refl refl refl) refl refl
-      (or-nothing-ranged (u .due) _ (v .cl) (v .wl)
+      (or-nothing-ranged which (u .due) _ (v .cl) (v .wl)
       (λ z.
       rw (and-left (cycleInRange (v .cl) (v .wl)) _ r)
       (fits-unpacking f (holds u _)
@@ -392,20 +408,24 @@ module _ (v : Vif) (h : unitInRange v ≡ true) (p : Path) (g : pathInRange p �
       refl
       refl
 
-  pub step-ranges : (n : Incoming) → StaysRanged (vifStep v p n used m)
+  pub step-ranges : (n : Incoming) → StaysRanged which (vifStep which v p n used m)
   unfolding vifStep
   step-ranges n = ranged-by (v .waiting) refl n
 
 -- what a step leaves passes the next step's tests
-pub step-ready : (v : Vif) (p : Path) (used : ℕ) (m : Lent) → StepReady v p used (m .mem) (m .code) (m .log) → (n : Incoming) (o : Left) → o ≡ vifStep v p n used m
-    → StepReady (o .unit) (o .path2) (o .used) (o .memories .mem) (o .memories .code) (o .memories .log)
-step-ready v p used m r n o e =
+pub step-ready : (which : VifUnit) (v : Vif) (p : Path) (used : ℕ) (m : Lent) → StepReady which v p used m → (n : Incoming) (o : Left)
+    → o ≡ vifStep which v p n used m → StepReady which (o .unit) (o .path2) (o .used) (o .memories)
+step-ready which v p used m r n o e =
     rw e
-    (let k = step-kept v p used m (log-fits (m .log) used (r .gif .logged) .holds) n in
-    let s = step-ranges v (r .ranged) p (r .gif .ranged) used m n in
+    (let k = step-kept which v p used m (log-fits (m .log) used (r .fit .logged) .holds) n in
+    let s = step-ranges which v (r .ranged) p (r .path-ranged) used m n in
     record {
-      long = k .mem-length ∙ r .long;
-      wide = k .code-length ∙ r .wide;
-      gif = record { logged = log-stays used _ (m .log) _ (r .gif .logged) (k .log-grows); ranged = s .path-held };
+      fit =
+          record {
+            long = k .mem-length ∙ r .fit .long;
+            wide = k .code-length ∙ r .fit .wide;
+            logged = log-stays used _ (m .log) _ (r .fit .logged) (k .log-grows);
+          };
+      path-ranged = s .path-held;
       ranged = s .unit-held;
     })

@@ -20,11 +20,16 @@ use Rattle.gif.specs.Step.{gifStep}
 use Rattle.gif.specs.Run.{sheetTag, addressData, addressDatas}
 use Rattle.gif.proofs.LogLaws.{logged-then, logged-length}
 use Rattle.gif.proofs.SheetLaws.{sheetPlace, took, sheet-tag, sheet-data}
+use Rattle.memories.specs.declared.VifUnit.{VifUnit}
+use Rattle.memories.specs.declared.VifUnit.the-variants.{Vif1}
+use Rattle.memories.specs.Units.{quadwords, instructions}
+use Rattle.memories.specs.Lengths.{Lent, lent}
 use Rattle.unpack.specs.declared.Format.{Format}
 use Rattle.unpack.specs.declared.Format.the-variants.{V4x32}
 use Rattle.unpack.specs.declared.Unpacking.{Unpacking}
 use Rattle.unpack.specs.Payload.{payloadWords, vectorBits}
 use Rattle.unpack.specs.Write.{Written, written}
+use Rattle.unpack.specs.Position.{addresses}
 use Rattle.unpack.specs.Range.{cycleRefused}
 use Rattle.unpack.specs.Step.{countOf, unpackingOf, holds, unpackWord}
 use Rattle.unpack.specs.Whole.{takeWords, heldAfter, copyVectors, fourWords}
@@ -45,48 +50,48 @@ use Rattle.vif.specs.declared.Waiting.{Waiting}
 use Rattle.vif.specs.declared.Waiting.the-variants.{Nothing, MpgDue, DirectDue, UnpackDue}
 use Rattle.vif.specs.declared.Vif.{Vif}
 use Rattle.vif.specs.Setters.{withCycle, withMode, withRow, withWaiting}
-use Rattle.vif.specs.Codes.{quadwordsOf, interruptOf, decodeOf, codeOf, plainCode, unpackNumbers}
+use Rattle.vif.specs.Codes.{interruptOf, quadwordsOf, mpgAddresses, codeListed, plainCode, unpackNumbers, codeOf, decodeOf}
 use Rattle.vif.specs.Execute.{started, startProgram, setMode, beginMpg, addressOf, beginUnpack, executeOf}
 use Rattle.vif.specs.Payload.{completes, orNothing, bytesOf, wordPlace, mpgStored, writeRegisters}
-use Rattle.vif.specs.Step.{Lent, lent, leaves, wordIn, afterCode, codeStep, giveQuadword, unpackStep, vifStep}
+use Rattle.vif.specs.Step.{leaves, wordIn, afterCode, codeStep, giveQuadword, unpackStep, vifStep}
 use Rattle.vif.specs.Feeds.{Fed, fed, Feeds, none, more, aWord, aQuadword, wordsIn, QuadwordsIn, no-quadword, one-quadword, Zeros, one-zero, storeInstruction, copyInstructions, unpackWaits, begunUnpack, unpackedFed}
 use Rattle.vif.proofs.StepLaws.{by-waiting}
 
 -- ---- steps one after another
 
 -- steps, and then more of them
-pub feeds-join : {a : VifAnswer} {x y z : Fed} {ns ms : List Incoming} → Feeds a x ns y → Feeds a y ms z → Feeds a x (ns ++ ms) z
+pub feeds-join : {which : VifUnit} {a : VifAnswer} {x y z : Fed} {ns ms : List Incoming} → Feeds which a x ns y → Feeds which a y ms z → Feeds which a x (ns ++ ms) z
 feeds-join none q = q
 feeds-join (more e p) q = more e (feeds-join p q)
 
 -- a list of incoming words by its first one
-pub feeds-cons : {x y : Fed} {a : ℕ} {ws : List ℕ} (ns : List Incoming) → wordsIn ns ≡ a ∷ ws
-    → ((n : Incoming) (ms : List Incoming) → wordIn n ≡ a → wordsIn ms ≡ ws → Feeds aWord x (n ∷ ms) y)
-    → Feeds aWord x ns y
+pub feeds-cons : {which : VifUnit} {x y : Fed} {a : ℕ} {ws : List ℕ} (ns : List Incoming) → wordsIn ns ≡ a ∷ ws
+    → ((n : Incoming) (ms : List Incoming) → wordIn n ≡ a → wordsIn ms ≡ ws → Feeds which aWord x (n ∷ ms) y)
+    → Feeds which aWord x ns y
 feeds-cons [] e k = absurd (let z : _≡_ {A = ℕ} 0 1 = cc in omega arith)
 feeds-cons (n ∷ ms) e k = k n ms (cc) (cc)
 
 -- what is left may be written in another way
-pub feeds-as : {a : VifAnswer} {x y z : Fed} {ns : List Incoming} → Feeds a x ns y → y ≡ z → Feeds a x ns z
+pub feeds-as : {which : VifUnit} {a : VifAnswer} {x y z : Fed} {ns : List Incoming} → Feeds which a x ns y → y ≡ z → Feeds which a x ns z
 feeds-as f e = rw (← e) f
 
 -- ---- a code's own step
 
 -- an idle unit reads the next word as a code
-pub code-taken : (v : Vif) (p : Path) (used : ℕ) (m : Lent) (n : Incoming) {w : ℕ} {c : Code} → v .waiting ≡ Nothing → wordIn n ≡ w → decodeOf w ≡ Known c
-    → interruptOf w ≡ false → vifStep v p n used m ≡ afterCode (executeOf c v false used (m .log)) p m
+pub code-taken : (which : VifUnit) (v : Vif) (p : Path) (used : ℕ) (m : Lent) (n : Incoming) {w : ℕ} {c : Code} → v .waiting ≡ Nothing → wordIn n ≡ w → decodeOf which w ≡ Known c
+    → interruptOf w ≡ false → vifStep which v p n used m ≡ afterCode (executeOf which c v false used (m .log)) p m
 unfolding vifStep codeStep
-code-taken v p used m n h e d i = sym (by-waiting h v p n used m (rw (e, d, i)))
+code-taken which v p used m n h e d i = sym (by-waiting which h v p n used m (rw (e, d, i)))
 
-nop-decoded : decodeOf 0 ≡ Known Nop
+nop-decoded : (which : VifUnit) → decodeOf which 0 ≡ Known Nop
 unfolding decodeOf codeOf plainCode bits if
-nop-decoded = refl
+nop-decoded Vif1 = refl
 
 -- a word 0 is taken and changes nothing
-pub feeds-nop : {v : Vif} {p : Path} {used : ℕ} {m : Lent} → v .waiting ≡ Nothing → {y : Fed} {n : Incoming} {ns : List Incoming} → wordIn n ≡ 0
-    → Feeds aWord (fed v p used m) ns y → Feeds aWord (fed v p used m) (n ∷ ns) y
+pub feeds-nop : {which : VifUnit} {v : Vif} {p : Path} {used : ℕ} {m : Lent} → v .waiting ≡ Nothing → {y : Fed} {n : Incoming} {ns : List Incoming} → wordIn n ≡ 0
+    → Feeds which aWord (fed v p used m) ns y → Feeds which aWord (fed v p used m) (n ∷ ns) y
 unfolding bits
-feeds-nop {v} {p} {used} {m} h {y} {n} e f = more (code-taken v p used m n h e nop-decoded refl) f
+feeds-nop {which} {v} {p} {used} {m} h {y} {n} e f = more (code-taken which v p used m n h e (nop-decoded which) refl) f
 
 -- ---- the payload of UNPACK
 
@@ -132,26 +137,26 @@ unpacks v row f u = withWaiting (withRow v row) (unpackWaits f u)
 abbrev unpackFed : Vif → Path → ℕ → List ℕ → List ℕ → Format → Unpacking → Written → Fed
 unpackFed v p used code log f u x = fed (unpacks v (x .row) f u) p used (lent (x .mem) code log)
 
-module _ (v : Vif) (p : Path) (used : ℕ) (code log : List ℕ) (f : Format) where
+module _ (which : VifUnit) (v : Vif) (p : Path) (used : ℕ) (code log : List ℕ) (f : Format) where
   -- a payload word's step
   unpack-word : (u : Unpacking) (n : Incoming) (x : Written) → u .interrupt ≡ false → 1 ≤ u .due
-      → vifStep (unpacks v (x .row) f u) p n used (lent (x .mem) code log)
-      ≡ leaves (Word false) (unpacks v (unpackWord 1024 f u (writeRegisters v) (wordIn n) x .row) f (holds u (wordIn n))) p used
-      (lent (unpackWord 1024 f u (writeRegisters v) (wordIn n) x .mem) code log)
+      → vifStep which (unpacks v (x .row) f u) p n used (lent (x .mem) code log)
+      ≡ leaves (Word false) (unpacks v (unpackWord (quadwords which) f u (writeRegisters v) (wordIn n) x .row) f (holds u (wordIn n))) p used
+      (lent (unpackWord (quadwords which) f u (writeRegisters v) (wordIn n) x .mem) code log)
   unfolding vifStep unpackStep
   unpack-word u n x i h =
-      sym (by-waiting (waits-on f u h) (unpacks v (x .row) f u) p n used (lent (x .mem) code log)
-      (same-left (withRow v (unpackWord 1024 f u (writeRegisters v) (wordIn n) x .row)) p used (lent (unpackWord 1024 f u (writeRegisters v) (wordIn n) x .mem) code log) (sym (ap (completes (u .due)) i ∙ quiet (u .due))) (sym (waits-next f u (wordIn n) h))))
+      sym (by-waiting which (waits-on f u h) (unpacks v (x .row) f u) p n used (lent (x .mem) code log)
+      (same-left (withRow v (unpackWord (quadwords which) f u (writeRegisters v) (wordIn n) x .row)) p used (lent (unpackWord (quadwords which) f u (writeRegisters v) (wordIn n) x .mem) code log) (sym (ap (completes (u .due)) i ∙ quiet (u .due))) (sym (waits-next f u (wordIn n) h))))
 
   -- payload words one after another
   unpack-feeds : (u : Unpacking) (ns : List Incoming) (x : Written) → u .interrupt ≡ false → length ns ≤ u .due
-      → Feeds aWord (unpackFed v p used code log f u x) ns
-      (unpackFed v p used code log f (heldAfter u (wordsIn ns)) (takeWords 1024 f u (writeRegisters v) (wordsIn ns) x))
+      → Feeds which aWord (unpackFed v p used code log f u x) ns
+      (unpackFed v p used code log f (heldAfter u (wordsIn ns)) (takeWords (quadwords which) f u (writeRegisters v) (wordsIn ns) x))
   unfolding takeWords heldAfter
   unpack-feeds u [] x i h = none
   unpack-feeds u (n ∷ ns) x i h =
       more (unpack-word u n x i (omega arith))
-      (unpack-feeds (holds u (wordIn n)) ns (unpackWord 1024 f u (writeRegisters v) (wordIn n) x) i (omega arith))
+      (unpack-feeds (holds u (wordIn n)) ns (unpackWord (quadwords which) f u (writeRegisters v) (wordIn n) x) i (omega arith))
 
 -- words as many as came
 words-length : (ns : List Incoming) → length (wordsIn ns) ≡ length ns
@@ -159,8 +164,8 @@ words-length [] = refl
 words-length (n ∷ ns) = ap suc (words-length ns)
 
 -- an idle unit with CL and WL that UNPACK accepts takes the code, and its payload is due
-module _ (v : Vif) (p : Path) (used : ℕ) (m : Lent) (n : Incoming) (f : Format) (u : UnpackCode) (h : v .waiting ≡ Nothing)
-    (c : cycleRefused (v .cl) (v .wl) ≡ false) (d : decodeOf (wordIn n) ≡ Known (Unpack f u)) (i : interruptOf (wordIn n) ≡ false) where
+module _ (which : VifUnit) (v : Vif) (p : Path) (used : ℕ) (m : Lent) (n : Incoming) (f : Format) (u : UnpackCode) (h : v .waiting ≡ Nothing)
+    (c : cycleRefused (v .cl) (v .wl) ≡ false) (d : decodeOf which (wordIn n) ≡ Known (Unpack f u)) (i : interruptOf (wordIn n) ≡ false) where
   begun-due : 1 ≤ begunUnpack f u v .due
   unfolding unpackingOf
   begun-due = payload-some f (countOf (u .num)) (count-range (u .num) .0)
@@ -174,24 +179,24 @@ module _ (v : Vif) (p : Path) (used : ℕ) (m : Lent) (n : Incoming) (f : Format
   begun-words = refl
 
   -- the code's own step
-  unpack-taken : vifStep v p n used m ≡ leaves (Word false) (unpacks v (v .row) f (begunUnpack f u v)) p used m
+  unpack-taken : vifStep which v p n used m ≡ leaves (Word false) (unpacks v (v .row) f (begunUnpack f u v)) p used m
   unfolding beginUnpack if
-  unpack-taken = code-taken v p used m n h refl d i ∙ rw (c, waits-on f (begunUnpack f u v) begun-due)
+  unpack-taken = code-taken which v p used m n h refl d i ∙ rw (c, waits-on f (begunUnpack f u v) begun-due)
 
   -- the code and payload words, step by step
   unpack-fed : (ns : List Incoming) → length ns ≤ payloadWords f (countOf (u .num))
-      → Feeds aWord (fed v p used m) (n ∷ ns)
+      → Feeds which aWord (fed v p used m) (n ∷ ns)
       (unpackFed v p used (m .code) (m .log) f (heldAfter (begunUnpack f u v) (wordsIn ns))
-      (takeWords 1024 f (begunUnpack f u v) (writeRegisters v) (wordsIn ns) (written (v .row) (m .mem))))
+      (takeWords (quadwords which) f (begunUnpack f u v) (writeRegisters v) (wordsIn ns) (written (v .row) (m .mem))))
   unpack-fed ns l =
       more unpack-taken
-      (unpack-feeds v p used (m .code) (m .log) f (begunUnpack f u v) ns (written (v .row) (m .mem)) begun-quiet (rw begun-words l))
+      (unpack-feeds which v p used (m .code) (m .log) f (begunUnpack f u v) ns (written (v .row) (m .mem)) begun-quiet (rw begun-words l))
 
   -- "After k payload words, exactly the vectors lying wholly in them have been written": the unit's ROW and data memory, all else as it was
   pub unit-payload : (ns : List Incoming) → Words (wordsIn ns) → length ns ≤ payloadWords f (countOf (u .num))
-      → Feeds aWord (fed v p used m) (n ∷ ns) (unpackedFed v p used m f u (wordsIn ns) (unpackWaits f (heldAfter (begunUnpack f u v) (wordsIn ns))))
+      → Feeds which aWord (fed v p used m) (n ∷ ns) (unpackedFed which v p used m f u (wordsIn ns) (unpackWaits f (heldAfter (begunUnpack f u v) (wordsIn ns))))
   unit-payload ns w l =
-      rw (← payload-theorem 1024 f (addressOf u (v .tops)) (u .num) (u .usn) (u .masked) false (writeRegisters v) (wordsIn ns) (written (v .row) (m .mem)) w (rw words-length l))
+      rw (← payload-theorem (quadwords which) f (addressOf u (v .tops)) (u .num) (u .usn) (u .masked) false (writeRegisters v) (wordsIn ns) (written (v .row) (m .mem)) w (rw words-length l))
       (unpack-fed ns l)
 
   -- the payload words that are left
@@ -200,14 +205,14 @@ module _ (v : Vif) (p : Path) (used : ℕ) (m : Lent) (n : Incoming) (f : Format
 
   -- the same of a whole payload, after which nothing waits
   pub unit-payload-whole : (ns : List Incoming) → Words (wordsIn ns) → length ns ≡ payloadWords f (countOf (u .num))
-      → Feeds aWord (fed v p used m) (n ∷ ns) (unpackedFed v p used m f u (wordsIn ns) Nothing)
+      → Feeds which aWord (fed v p used m) (n ∷ ns) (unpackedFed which v p used m f u (wordsIn ns) Nothing)
   unit-payload-whole ns w l =
       let e = due-left ns in
       rw (← waits-no-more f (heldAfter (begunUnpack f u v) (wordsIn ns)) (omega arith)) (unit-payload ns w (omega arith))
 
   -- and of a part of one, after which the UNPACK waits on
   pub unit-payload-part : (ns : List Incoming) → Words (wordsIn ns) → length ns < payloadWords f (countOf (u .num))
-      → Feeds aWord (fed v p used m) (n ∷ ns) (unpackedFed v p used m f u (wordsIn ns) (UnpackDue f (heldAfter (begunUnpack f u v) (wordsIn ns))))
+      → Feeds which aWord (fed v p used m) (n ∷ ns) (unpackedFed which v p used m f u (wordsIn ns) (UnpackDue f (heldAfter (begunUnpack f u v) (wordsIn ns))))
   unit-payload-part ns w l =
       let e = due-left ns in
       rw (← waits-on f (heldAfter (begunUnpack f u v) (wordsIn ns)) (omega arith)) (unit-payload ns w (omega arith))
@@ -229,14 +234,14 @@ v4-words n = omega arith
 abbrev dataCode : ℕ → ℕ → UnpackCode
 dataCode n a = record { address = a; num = n; usn = false; masked = false; tops = false }
 
-module _ (n a : ℕ) (some : 1 ≤ n) (few : n ≤ 255) (inside : a < 1024) where
-  data-decoded : decodeOf (1811939328 + n * 65536 + a) ≡ Known (Unpack V4x32 (dataCode n a))
+module _ (n a : ℕ) (some : 1 ≤ n) (few : n ≤ 255) (inside : a < addresses) where
+  data-decoded : (which : VifUnit) → decodeOf which (1811939328 + n * 65536 + a) ≡ Known (Unpack V4x32 (dataCode n a))
   unfolding decodeOf codeOf unpackNumbers bits if
-  data-decoded =
+  data-decoded which =
       let c : (1811939328 + n * 65536 + a) / 16777216 % 128 ≡ 108 = omega arith in
       let d : (1811939328 + n * 65536 + a) / 65536 % 256 ≡ n = omega arith in
       let e : (1811939328 + n * 65536 + a) / 1 % 65536 ≡ a = omega arith in
-      let x : a / 1 % 1024 ≡ a = omega arith in
+      let x : a / 1 % addresses ≡ a = omega arith in
       let y : a / 16384 % 2 ≡ 0 = omega arith in
       let z : a / 32768 % 2 ≡ 0 = omega arith in
       rw (c, d, e, x, y, z, named-number V4x32)
@@ -245,26 +250,26 @@ module _ (n a : ℕ) (some : 1 ≤ n) (few : n ≤ 255) (inside : a < 1024) wher
   unfolding bits
   data-quiet = ne-eqb ((1811939328 + n * 65536 + a) / 2147483648 % 2) 1 (λ e. omega arith)
 
-stcycl-decoded : decodeOf 16777473 ≡ Known (Stcycl 1 1)
+stcycl-decoded : (which : VifUnit) → decodeOf which 16777473 ≡ Known (Stcycl 1 1)
 unfolding decodeOf codeOf plainCode bits if
-stcycl-decoded = refl
+stcycl-decoded Vif1 = refl
 
-stmod-decoded : decodeOf 83886080 ≡ Known (Stmod 0)
+stmod-decoded : (which : VifUnit) → decodeOf which 83886080 ≡ Known (Stmod 0)
 unfolding decodeOf codeOf plainCode bits if
-stmod-decoded = refl
+stmod-decoded Vif1 = refl
 
 -- a unit for which nothing waits is idle
 idle-same : (v : Vif) → v .waiting ≡ Nothing → withWaiting v Nothing ≡ v
 idle-same v h = ap (withWaiting v) (sym h)
 
-module _ (v : Vif) (p : Path) (used : ℕ) (m : Lent) (h : v .waiting ≡ Nothing) where
-  stcycl-taken : (n : Incoming) → wordIn n ≡ 16777473 → vifStep v p n used m ≡ leaves (Word false) (withCycle v 1 1) p used m
+module _ (which : VifUnit) (v : Vif) (p : Path) (used : ℕ) (m : Lent) (h : v .waiting ≡ Nothing) where
+  stcycl-taken : (n : Incoming) → wordIn n ≡ 16777473 → vifStep which v p n used m ≡ leaves (Word false) (withCycle v 1 1) p used m
   unfolding bits
-  stcycl-taken n e = code-taken v p used m n h e stcycl-decoded refl
+  stcycl-taken n e = code-taken which v p used m n h e (stcycl-decoded which) refl
 
-  stmod-taken : (n : Incoming) → wordIn n ≡ 83886080 → vifStep v p n used m ≡ leaves (Word false) (withMode v 0) p used m
+  stmod-taken : (n : Incoming) → wordIn n ≡ 83886080 → vifStep which v p n used m ≡ leaves (Word false) (withMode v 0) p used m
   unfolding bits setMode if
-  stmod-taken n e = code-taken v p used m n h e stmod-decoded refl
+  stmod-taken n e = code-taken which v p used m n h e (stmod-decoded which) refl
 
 -- an UNPACK that is over, in a unit whose ROW is as it was
 unpacked-same : (v : Vif) (p : Path) (used : ℕ) (code log : List ℕ) {x : Written} {mem : List ℕ} {w : Waiting} → x ≡ written (v .row) mem → w ≡ v .waiting
@@ -272,40 +277,40 @@ unpacked-same : (v : Vif) (p : Path) (used : ℕ) (code log : List ℕ) {x : Wri
 unpacked-same v p used code log e q = rw (e, q)
 
 -- a whole V4-32 payload at CL = WL = 1 and MODE 0 is copied
-data-fed : (v : Vif) (p : Path) (used : ℕ) (m : Lent) (n a : ℕ) → v .waiting ≡ Nothing → v .cl ≡ 1 → v .wl ≡ 1 → v .mode ≡ 0 → length (v .row) ≡ 4
-    → 1 ≤ n → n ≤ 255 → a < 1024 → (k : Incoming) (ns : List Incoming) → wordIn k ≡ 1811939328 + n * 65536 + a → Words (wordsIn ns)
+data-fed : (which : VifUnit) (v : Vif) (p : Path) (used : ℕ) (m : Lent) (n a : ℕ) → v .waiting ≡ Nothing → v .cl ≡ 1 → v .wl ≡ 1 → v .mode ≡ 0 → length (v .row) ≡ 4
+    → 1 ≤ n → n ≤ 255 → a < addresses → (k : Incoming) (ns : List Incoming) → wordIn k ≡ 1811939328 + n * 65536 + a → Words (wordsIn ns)
     → length (wordsIn ns) ≡ 4 * n
-    → Feeds aWord (fed v p used m) (k ∷ ns) (fed v p used (lent (copyVectors 1024 a (fourWords (wordsIn ns)) n 0 (m .mem)) (m .code) (m .log)))
+    → Feeds which aWord (fed v p used m) (k ∷ ns) (fed v p used (lent (copyVectors (quadwords which) a (fourWords (wordsIn ns)) n 0 (m .mem)) (m .code) (m .log)))
 unfolding cycleRefused addressOf if
-data-fed v p used m n a h hc hw hm hr some few inside k ns e w l =
+data-fed which v p used m n a h hc hw hm hr some few inside k ns e w l =
     let c : cycleRefused (v .cl) (v .wl) ≡ false = rw (hc, hw) in
-    let d : decodeOf (wordIn k) ≡ Known (Unpack V4x32 (dataCode n a)) = rw e (data-decoded n a some few inside) in
+    let d : decodeOf which (wordIn k) ≡ Known (Unpack V4x32 (dataCode n a)) = rw e (data-decoded n a some few inside which) in
     let i : interruptOf (wordIn k) ≡ false = rw e (data-quiet n a some few inside) in
     let g : countOf n ≡ n = count-num n some few in
-    let b : a % 1024 ≡ a = omega arith in
+    let b : a % addresses ≡ a = omega arith in
     let t : length ns ≡ payloadWords V4x32 (countOf n) = rw (g, v4-words n, ← words-length ns) l in
-    let o = due-left v p used m k V4x32 (dataCode n a) h c d i ns in
-    feeds-as (unpack-fed v p used m k V4x32 (dataCode n a) h c d i ns (omega arith))
-    (unpacked-same v p used (m .code) (m .log) (v4-payload 1024 a n false false (writeRegisters v) (wordsIn ns) (written (v .row) (m .mem)) w (rw g l) hc hw hm hr ∙ rw (g, b)) (waits-no-more V4x32 _ (omega arith) ∙ sym h))
+    let o = due-left which v p used m k V4x32 (dataCode n a) h c d i ns in
+    feeds-as (unpack-fed which v p used m k V4x32 (dataCode n a) h c d i ns (omega arith))
+    (unpacked-same v p used (m .code) (m .log) (v4-payload (quadwords which) a n false false (writeRegisters v) (wordsIn ns) (written (v .row) (m .mem)) w (rw g l) hc hw hm hr ∙ rw (g, b)) (waits-no-more V4x32 _ (omega arith) ∙ sym h))
 
--- NOP, STCYCL 1 1, STMOD 0 and UNPACK V4-32 copy the payload: words 4j to 4j + 3 to quadword a + j modulo 1,024
-pub feeds-data : (v : Vif) (p : Path) (used : ℕ) (m : Lent) (n a : ℕ) (ws : List ℕ) (ns : List Incoming) → v .waiting ≡ Nothing → length (v .row) ≡ 4
-    → 1 ≤ n → n ≤ 255 → a < 1024 → wordsIn ns ≡ 0 ∷ 16777473 ∷ 83886080 ∷ (1811939328 + n * 65536 + a) ∷ ws → Words ws → length ws ≡ 4 * n
-    → Feeds aWord (fed v p used m) ns
-    (fed (withMode (withCycle v 1 1) 0) p used (lent (copyVectors 1024 a (fourWords ws) n 0 (m .mem)) (m .code) (m .log)))
-feeds-data v p used m n a ws ns h hr some few inside q w l =
+-- NOP, STCYCL 1 1, STMOD 0 and UNPACK V4-32 copy the payload: words 4j to 4j + 3 to quadword a + j modulo the memory's size
+pub feeds-data : (which : VifUnit) (v : Vif) (p : Path) (used : ℕ) (m : Lent) (n a : ℕ) (ws : List ℕ) (ns : List Incoming) → v .waiting ≡ Nothing → length (v .row) ≡ 4
+    → 1 ≤ n → n ≤ 255 → a < addresses → wordsIn ns ≡ 0 ∷ 16777473 ∷ 83886080 ∷ (1811939328 + n * 65536 + a) ∷ ws → Words ws → length ws ≡ 4 * n
+    → Feeds which aWord (fed v p used m) ns
+    (fed (withMode (withCycle v 1 1) 0) p used (lent (copyVectors (quadwords which) a (fourWords ws) n 0 (m .mem)) (m .code) (m .log)))
+feeds-data which v p used m n a ws ns h hr some few inside q w l =
     feeds-cons ns q
     (λ n0 ns0 e0 q0.
     feeds-nop h e0
     (feeds-cons ns0 q0
     (λ n1 ns1 e1 q1.
-    more (stcycl-taken v p used m h n1 e1)
+    more (stcycl-taken which v p used m h n1 e1)
     (feeds-cons ns1 q1
     (λ n2 ns2 e2 q2.
-    more (stmod-taken (withCycle v 1 1) p used m h n2 e2)
+    more (stmod-taken which (withCycle v 1 1) p used m h n2 e2)
     (feeds-cons ns2 q2
     (λ n3 ns3 e3 q3.
-    rw (← q3) (data-fed (withMode (withCycle v 1 1) 0) p used m n a h refl refl refl hr some few inside n3 ns3 e3 (rw q3 w) (rw q3 l)))))))))
+    rw (← q3) (data-fed which (withMode (withCycle v 1 1) 0) p used m n a h refl refl refl hr some few inside n3 ns3 e3 (rw q3 w) (rw q3 l)))))))))
 
 -- afterwards what waited before waits, and ROW is as it was
 pub data-unit : (v : Vif) → (withMode (withCycle v 1 1) 0 .waiting ≡ v .waiting) × (withMode (withCycle v 1 1) 0 .row ≡ v .row)
@@ -314,10 +319,10 @@ data-unit v = (refl, refl)
 -- ---- a program start: three NOPs, MSCAL
 
 -- three words 0 before a code
-after-nops : {v : Vif} {p : Path} {used : ℕ} {m : Lent} {y : Fed} {w : ℕ} {ws : List ℕ} → v .waiting ≡ Nothing → (ns : List Incoming)
+after-nops : {which : VifUnit} {v : Vif} {p : Path} {used : ℕ} {m : Lent} {y : Fed} {w : ℕ} {ws : List ℕ} → v .waiting ≡ Nothing → (ns : List Incoming)
     → wordsIn ns ≡ 0 ∷ 0 ∷ 0 ∷ w ∷ ws
-    → ((k : Incoming) (ms : List Incoming) → wordIn k ≡ w → wordsIn ms ≡ ws → Feeds aWord (fed v p used m) (k ∷ ms) y)
-    → Feeds aWord (fed v p used m) ns y
+    → ((k : Incoming) (ms : List Incoming) → wordIn k ≡ w → wordsIn ms ≡ ws → Feeds which aWord (fed v p used m) (k ∷ ms) y)
+    → Feeds which aWord (fed v p used m) ns y
 after-nops h ns q f =
     feeds-cons ns q
     (λ n0 ns0 e0 q0.
@@ -326,9 +331,9 @@ after-nops h ns q f =
     (λ n1 ns1 e1 q1. feeds-nop h e1 (feeds-cons ns1 q1 (λ n2 ns2 e2 q2. feeds-nop h e2 (feeds-cons ns2 q2 f))))))
 
 module _ (a : ℕ) (inside : a < 65536) where
-  start-decoded : decodeOf (335544320 + a) ≡ Known (Mscal a)
+  start-decoded : (which : VifUnit) → decodeOf which (335544320 + a) ≡ Known (Mscal a)
   unfolding decodeOf codeOf plainCode bits if
-  start-decoded =
+  start-decoded Vif1 =
       let c : (335544320 + a) / 16777216 % 128 ≡ 20 = omega arith in
       let e : (335544320 + a) / 1 % 65536 ≡ a = omega arith in
       rw (c, e)
@@ -338,32 +343,32 @@ module _ (a : ℕ) (inside : a < 65536) where
   start-quiet = ne-eqb ((335544320 + a) / 2147483648 % 2) 1 (λ e. omega arith)
 
 -- no word left
-no-words : {x : Fed} (ns : List Incoming) → wordsIn ns ≡ [] → Feeds aWord x ns x
+no-words : {which : VifUnit} {x : Fed} (ns : List Incoming) → wordsIn ns ≡ [] → Feeds which aWord x ns x
 no-words [] e = none
 no-words (n ∷ ns) e = absurd (let z : _≡_ {A = ℕ} 0 1 = cc in omega arith)
 
 -- three NOPs and MSCAL start the program at a, which is one log entry
-pub feeds-start : (v : Vif) (p : Path) (used : ℕ) (m : Lent) (a : ℕ) (ns : List Incoming) → v .waiting ≡ Nothing → a < 65536
+pub feeds-start : (which : VifUnit) (v : Vif) (p : Path) (used : ℕ) (m : Lent) (a : ℕ) (ns : List Incoming) → v .waiting ≡ Nothing → a < 65536
     → 2 * (used + 1) ≤ length (m .log) → wordsIn ns ≡ 0 ∷ 0 ∷ 0 ∷ (335544320 + a) ∷ []
-    → Feeds aWord (fed v p used m) ns (fed (started v) p (used + 1) (lent (m .mem) (m .code) (logged (m .log) used (entry 256 a ∷ []))))
+    → Feeds which aWord (fed v p used m) ns (fed (started which v) p (used + 1) (lent (m .mem) (m .code) (logged (m .log) used (entry 256 a ∷ []))))
 unfolding startProgram lacksRoom if
-feeds-start v p used m a ns h inside room q =
+feeds-start which v p used m a ns h inside room q =
     after-nops h ns q
     (λ k ms e q3.
-    more (code-taken v p used m k h e (start-decoded a inside) (start-quiet a inside) ∙ rw (le-ltb (length (m .log)) (2 * (used + 1)) room))
+    more (code-taken which v p used m k h e (start-decoded a inside which) (start-quiet a inside) ∙ rw (le-ltb (length (m .log)) (2 * (used + 1)) room))
     (no-words ms q3))
 
 -- a program start leaves alone what waits
-pub started-waiting : (v : Vif) → started v .waiting ≡ v .waiting
-started-waiting v = refl
+pub started-waiting : (which : VifUnit) (v : Vif) → started which v .waiting ≡ v .waiting
+started-waiting Vif1 v = refl
 
 -- ---- code: three NOPs, MPG, and words 0 after its payload
 
 -- words 0 change nothing
-pub feeds-zeros : (v : Vif) (p : Path) (used : ℕ) (m : Lent) (ns : List Incoming) → v .waiting ≡ Nothing → Zeros (wordsIn ns)
-    → Feeds aWord (fed v p used m) ns (fed v p used m)
-feeds-zeros v p used m [] h z = none
-feeds-zeros v p used m (n ∷ ns) h z = feeds-nop h (first z) (feeds-zeros v p used m ns h (rest z))
+pub feeds-zeros : (which : VifUnit) (v : Vif) (p : Path) (used : ℕ) (m : Lent) (ns : List Incoming) → v .waiting ≡ Nothing → Zeros (wordsIn ns)
+    → Feeds which aWord (fed v p used m) ns (fed v p used m)
+feeds-zeros which v p used m [] h z = none
+feeds-zeros which v p used m (n ∷ ns) h z = feeds-nop h (first z) (feeds-zeros which v p used m ns h (rest z))
   where
     first : {w : ℕ} {ws : List ℕ} → Zeros (w ∷ ws) → w ≡ 0
     first (one-zero z) = refl
@@ -381,14 +386,14 @@ words-split P (w ∷ ws) pad (n ∷ ns) e k =
     let q : wordIn n ≡ w = cc in
     words-split (λ (l : List Incoming). P (n ∷ l)) ws pad ns (cc) (λ xs ys s t. k (n ∷ xs) ys (rw (q, s)) t)
 
-module _ (n a : ℕ) (some : 1 ≤ n) (few : n ≤ 255) (inside : a < 2048) where
-  code-decoded : decodeOf (1241513984 + n * 65536 + a) ≡ Known (Mpg a n)
+module _ (n a : ℕ) (some : 1 ≤ n) (few : n ≤ 255) (inside : a < mpgAddresses) where
+  code-decoded : (which : VifUnit) → decodeOf which (1241513984 + n * 65536 + a) ≡ Known (Mpg a n)
   unfolding decodeOf codeOf plainCode bits if
-  code-decoded =
+  code-decoded Vif1 =
       let c : (1241513984 + n * 65536 + a) / 16777216 % 128 ≡ 74 = omega arith in
       let d : (1241513984 + n * 65536 + a) / 65536 % 256 ≡ n = omega arith in
       let e : (1241513984 + n * 65536 + a) / 1 % 65536 ≡ a = omega arith in
-      let x : a / 1 % 2048 ≡ a = omega arith in
+      let x : a / 1 % mpgAddresses ≡ a = omega arith in
       rw (c, d, e, x)
 
   code-quiet : interruptOf (1241513984 + n * 65536 + a) ≡ false
@@ -401,16 +406,16 @@ mpgWaits a n zero = Nothing
 mpgWaits a n (suc r) = MpgDue a n (suc r + suc r) false
 
 -- where the two words of instruction j go
-first-place : (a j : ℕ) → wordPlace 2048 a (j + j) ≡ 8 * ((a + j) % 2048)
+first-place : (size a j : ℕ) → wordPlace size a (j + j) ≡ 8 * ((a + j) % size)
 unfolding wordPlace
-first-place a j =
+first-place size a j =
     let e : (j + j) / 2 ≡ j = omega arith in
     let q : (j + j) % 2 ≡ 0 = omega arith in
     rw (e, q) (omega arith)
 
-second-place : (a j : ℕ) → wordPlace 2048 a (j + j + 1) ≡ 8 * ((a + j) % 2048) + 4
+second-place : (size a j : ℕ) → wordPlace size a (j + j + 1) ≡ 8 * ((a + j) % size) + 4
 unfolding wordPlace
-second-place a j =
+second-place size a j =
     let e : (j + j + 1) / 2 ≡ j = omega arith in
     let q : (j + j + 1) % 2 ≡ 1 = omega arith in
     rw (e, q) (omega arith)
@@ -435,11 +440,11 @@ second-waits a n (suc r) =
     let e : suc r + suc r + 1 - 1 ≡ suc r + suc r = omega arith in
     rw (ne-eqb (suc r + suc r + 1) 1 (λ z. omega arith), e)
 
-module _ (v : Vif) (p : Path) (used : ℕ) (mem log : List ℕ) (a n : ℕ) where
+module _ (which : VifUnit) (v : Vif) (p : Path) (used : ℕ) (mem log : List ℕ) (a n : ℕ) where
   -- a payload word's step
   mpg-word : (due at : ℕ) (k : Incoming) (code : List ℕ) {w : Waiting} → orNothing due (MpgDue a n (due - 1) false) ≡ w
-      → wordPlace 2048 a (n + n - due) ≡ at
-      → vifStep (withWaiting v (MpgDue a n due false)) p k used (lent mem code log)
+      → wordPlace (instructions which) a (n + n - due) ≡ at
+      → vifStep which (withWaiting v (MpgDue a n due false)) p k used (lent mem code log)
       ≡ leaves (Word false) (withWaiting v w) p used (lent mem (sets code at (bytesOf (wordIn k))) log)
   unfolding vifStep mpgStored
   mpg-word due at k code e q = rw (quiet due, e, q)
@@ -447,8 +452,8 @@ module _ (v : Vif) (p : Path) (used : ℕ) (mem log : List ℕ) (a n : ℕ) wher
   -- instructions one after another
   mpg-feeds : (ws : List ℕ) (r j : ℕ) (ns : List Incoming) (code : List ℕ) → j + r ≡ n → length ns ≡ 2 * r
       → ((i : ℕ) → getD ws (2 * j + i) 0 ≡ getD (wordsIn ns) i 0)
-      → Feeds aWord (fed (withWaiting v (mpgWaits a n r)) p used (lent mem code log)) ns
-      (fed (withWaiting v Nothing) p used (lent mem (copyInstructions 2048 a ws r j code) log))
+      → Feeds which aWord (fed (withWaiting v (mpgWaits a n r)) p used (lent mem code log)) ns
+      (fed (withWaiting v Nothing) p used (lent mem (copyInstructions (instructions which) a ws r j code) log))
   unfolding copyInstructions
   mpg-feeds ws zero j [] code e l g = none
   mpg-feeds ws zero j (x ∷ ns) code e l g = absurd (omega arith)
@@ -459,26 +464,26 @@ module _ (v : Vif) (p : Path) (used : ℕ) (mem log : List ℕ) (a n : ℕ) wher
       let d : n + n - (r + r + 1) ≡ j + j + 1 = omega arith in
       let s : getD ws (2 * j) 0 ≡ wordIn x = rw add-zero at (g 0) in
       let t : getD ws (2 * j + 1) 0 ≡ wordIn y = g 1 in
-      let q = (a + j) % 2048 in
+      let q = (a + j) % instructions which in
       rw (s, t, ← two-words code q (wordIn x) (wordIn y))
-      (more (mpg-word (suc r + suc r) (8 * q) x code (first-waits a n r) (rw c (first-place a j)))
-      (more (mpg-word (r + r + 1) (8 * q + 4) y (sets code (8 * q) (bytesOf (wordIn x))) (second-waits a n r) (rw d (second-place a j)))
+      (more (mpg-word (suc r + suc r) (8 * q) x code (first-waits a n r) (rw c (first-place (instructions which) a j)))
+      (more (mpg-word (r + r + 1) (8 * q + 4) y (sets code (8 * q) (bytesOf (wordIn x))) (second-waits a n r) (rw d (second-place (instructions which) a j)))
       (mpg-feeds ws r (suc j) ns (sets (sets code (8 * q) (bytesOf (wordIn x))) (8 * q + 4) (bytesOf (wordIn y))) (omega arith) (omega arith)
       (λ i. let z : 2 * suc j + i ≡ 2 * j + suc (suc i) = omega arith in rw z (g (suc (suc i)))))))
 
--- three NOPs, MPG with its payload and words 0 after it copy the instructions: instruction j to a + j modulo 2,048
-pub feeds-code : (v : Vif) (p : Path) (used : ℕ) (m : Lent) (n a : ℕ) (ws pad : List ℕ) (ns : List Incoming) → v .waiting ≡ Nothing → 1 ≤ n → n ≤ 255
-    → a < 2048 → wordsIn ns ≡ 0 ∷ 0 ∷ 0 ∷ (1241513984 + n * 65536 + a) ∷ ws ++ pad → length ws ≡ 2 * n → Zeros pad
-    → Feeds aWord (fed v p used m) ns (fed v p used (lent (m .mem) (copyInstructions 2048 a ws n 0 (m .code)) (m .log)))
+-- three NOPs, MPG with its payload and words 0 after it copy the instructions: instruction j to a + j modulo the memory's size
+pub feeds-code : (which : VifUnit) (v : Vif) (p : Path) (used : ℕ) (m : Lent) (n a : ℕ) (ws pad : List ℕ) (ns : List Incoming) → v .waiting ≡ Nothing → 1 ≤ n → n ≤ 255
+    → a < mpgAddresses → wordsIn ns ≡ 0 ∷ 0 ∷ 0 ∷ (1241513984 + n * 65536 + a) ∷ ws ++ pad → length ws ≡ 2 * n → Zeros pad
+    → Feeds which aWord (fed v p used m) ns (fed v p used (lent (m .mem) (copyInstructions (instructions which) a ws n 0 (m .code)) (m .log)))
 unfolding beginMpg
-feeds-code v p used m n a ws pad ns h some few inside q l z =
+feeds-code which v p used m n a ws pad ns h some few inside q l z =
     after-nops h ns q
     (λ k ms e q3.
-    words-split (λ (l : List Incoming). Feeds aWord (fed v p used m) (k ∷ l) (fed v p used (lent (m .mem) (copyInstructions 2048 a ws n 0 (m .code)) (m .log)))) ws pad ms q3
+    words-split (λ (l : List Incoming). Feeds which aWord (fed v p used m) (k ∷ l) (fed v p used (lent (m .mem) (copyInstructions (instructions which) a ws n 0 (m .code)) (m .log)))) ws pad ms q3
     (λ xs ys s t.
-    more (code-taken v p used m k h e (code-decoded n a some few inside) (code-quiet n a some few inside) ∙ rw (count-num n some few, begins n some))
-    (feeds-join (mpg-feeds v p used (m .mem) (m .log) a n ws n 0 xs (m .code) (omega arith) (sym (words-length xs) ∙ rw s l) (λ i. rw (zero-add, s)))
-    (rw (idle-same v h) (feeds-zeros v p used _ ys h (rw t z))))))
+    more (code-taken which v p used m k h e (code-decoded n a some few inside which) (code-quiet n a some few inside) ∙ rw (count-num n some few, begins n some))
+    (feeds-join (mpg-feeds which v p used (m .mem) (m .log) a n ws n 0 xs (m .code) (omega arith) (sym (words-length xs) ∙ rw s l) (λ i. rw (zero-add, s)))
+    (rw (idle-same v h) (feeds-zeros which v p used _ ys h (rw t z))))))
   where
     begins : (n : ℕ) → 1 ≤ n → MpgDue a n (n + n) false ≡ mpgWaits a n n
     begins zero l = absurd (omega arith)
@@ -487,12 +492,12 @@ feeds-code v p used m n a ws pad ns h some few inside q l z =
 -- ---- graphics: three NOPs, DIRECT, a GIF tag and its A+D quadwords
 
 module _ (n : ℕ) (few : n ≤ 255) where
-  direct-decoded : decodeOf (1342177280 + n + 1) ≡ Known (Direct (n + 1))
+  direct-decoded : (which : VifUnit) → codeListed which 0x50 ≡ true → decodeOf which (1342177280 + n + 1) ≡ Known (Direct (n + 1))
   unfolding decodeOf codeOf plainCode quadwordsOf bits if
-  direct-decoded =
+  direct-decoded which x =
       let c : (1342177280 + n + 1) / 16777216 % 128 ≡ 80 = omega arith in
       let e : (1342177280 + n + 1) / 1 % 65536 ≡ n + 1 = omega arith in
-      rw (c, e, ne-eqb (n + 1) 0 (λ z. omega arith))
+      rw (c, x, e, ne-eqb (n + 1) 0 (λ z. omega arith))
 
   direct-quiet : interruptOf (1342177280 + n + 1) ≡ false
   unfolding bits
@@ -510,11 +515,11 @@ direct-next (suc k) =
     let e : suc (suc k) - 1 ≡ suc k = omega arith in
     rw (ne-eqb (suc (suc k)) 1 (λ z. omega arith), e)
 
-module _ (v : Vif) (mem code : List ℕ) where
+module _ (which : VifUnit) (v : Vif) (mem code : List ℕ) where
   -- a quadword that the GIF takes
   direct-quadword : (k : ℕ) (p p′ : Path) (used used′ a b c d x : ℕ) (log log′ : List ℕ) → quadword (a + b * 2 ^ 32) (c + d * 2 ^ 32) ≡ x
       → gifStep p x used log ≡ took p′ used′ log′
-      → vifStep (withWaiting v (directWaits (suc k))) p (Word0 a b c d) used (lent mem code log)
+      → vifStep which (withWaiting v (directWaits (suc k))) p (Word0 a b c d) used (lent mem code log)
       ≡ leaves (Quadword false) (withWaiting v (directWaits k)) p′ used′ (lent mem code log′)
   unfolding vifStep giveQuadword
   direct-quadword k p p′ used used′ a b c d x log log′ e g = rw (e, g, quiet (suc k), direct-next k)
@@ -522,7 +527,7 @@ module _ (v : Vif) (mem code : List ℕ) where
   -- A+D quadwords one after another
   direct-feeds : (n : ℕ) → 0 < n → n < 32768 → (q used : ℕ) (log : List ℕ) {ns : List Incoming} {xs : List ℕ} → QuadwordsIn ns xs
       → 2 * (used + length xs) ≤ length log
-      → Feeds aQuadword (fed (withWaiting v (directWaits (length xs))) (pathOf q (sheetPlace n (length xs))) used (lent mem code log)) ns
+      → Feeds which aQuadword (fed (withWaiting v (directWaits (length xs))) (pathOf q (sheetPlace n (length xs))) used (lent mem code log)) ns
       (fed (withWaiting v Nothing) (pathOf q Idle) (used + length xs) (lent mem code (logged log used (addressDatas xs))))
   unfolding logged
   direct-feeds n some few q used log no-quadword h = rw add-zero none
@@ -533,19 +538,19 @@ module _ (v : Vif) (mem code : List ℕ) where
       (direct-feeds n some few q (used + 1) (logged log used (addressData x ∷ [])) r (rw (logged-length log used (addressData x ∷ [])) (omega arith))))
 
 -- three NOPs and DIRECT: quadwords are due
-pub feeds-direct : (v : Vif) (p : Path) (used : ℕ) (m : Lent) (n : ℕ) (ns : List Incoming) → v .waiting ≡ Nothing → n ≤ 255
+pub feeds-direct : (which : VifUnit) → codeListed which 0x50 ≡ true → (v : Vif) (p : Path) (used : ℕ) (m : Lent) (n : ℕ) (ns : List Incoming) → v .waiting ≡ Nothing → n ≤ 255
     → wordsIn ns ≡ 0 ∷ 0 ∷ 0 ∷ (1342177280 + n + 1) ∷ []
-    → Feeds aWord (fed v p used m) ns (fed (withWaiting v (directWaits (suc n))) p used m)
-feeds-direct v p used m n ns h few w =
+    → Feeds which aWord (fed v p used m) ns (fed (withWaiting v (directWaits (suc n))) p used m)
+feeds-direct which x v p used m n ns h few w =
     after-nops h ns w
-    (λ k ls f z. more (code-taken v p used m k h f (direct-decoded n few) (direct-quiet n few) ∙ rw (add-one n)) (no-words ls z))
+    (λ k ls f z. more (code-taken which v p used m k h f (direct-decoded n few which x) (direct-quiet n few) ∙ rw (add-one n)) (no-words ls z))
 
 -- a GIF tag and n A+D quadwords after them write n log entries, and path 2 is idle again
-pub feeds-entries : (v : Vif) (q used : ℕ) (m : Lent) (n : ℕ) (quads : List ℕ) (ms : List Incoming) → v .waiting ≡ Nothing → length quads ≡ n → 1 ≤ n
+pub feeds-entries : (which : VifUnit) (v : Vif) (q used : ℕ) (m : Lent) (n : ℕ) (quads : List ℕ) (ms : List Incoming) → v .waiting ≡ Nothing → length quads ≡ n → 1 ≤ n
     → n ≤ 255 → 2 * (used + n) ≤ length (m .log) → QuadwordsIn ms (sheetTag n ∷ quads)
-    → Feeds aQuadword (fed (withWaiting v (directWaits (suc n))) (pathOf q Idle) used m) ms
+    → Feeds which aQuadword (fed (withWaiting v (directWaits (suc n))) (pathOf q Idle) used m) ms
     (fed v (pathOf tagQ Idle) (used + n) (lent (m .mem) (m .code) (logged (m .log) used (addressDatas quads))))
-feeds-entries v q used m n quads ms h e some few room (one-quadword {a} {b} {c} {d} t r) =
+feeds-entries which v q used m n quads ms h e some few room (one-quadword {a} {b} {c} {d} t r) =
     more {z = fed v (pathOf tagQ Idle) (used + n) (lent (m .mem) (m .code) (logged (m .log) used (addressDatas quads)))}
-    (direct-quadword v (m .mem) (m .code) n _ _ used used a b c d _ (m .log) _ t (sheet-tag n some (omega arith) q used (m .log) (omega arith)))
-    (feeds-as (rw e at (direct-feeds v (m .mem) (m .code) n some (omega arith) tagQ used (m .log) r (rw e room))) (rw (idle-same v h)))
+    (direct-quadword which v (m .mem) (m .code) n _ _ used used a b c d _ (m .log) _ t (sheet-tag n some (omega arith) q used (m .log) (omega arith)))
+    (feeds-as (rw e at (direct-feeds which v (m .mem) (m .code) n some (omega arith) tagQ used (m .log) r (rw e room))) (rw (idle-same v h)))

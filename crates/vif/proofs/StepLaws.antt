@@ -1,18 +1,24 @@
 -- The step from what its parts give.
 use mathlib.Core.Path.{_≡_, sym, ap, _∙_}
-use mathlib.Core.Bool.{Bool}
+use mathlib.Core.Bool.{Bool, true, false, _&&_}
 use mathlib.Core.List.{List}
 use Prim.Native.Nat.{ℕ}
-use borrow.Author.Tests.{eq-eqb}
-use lib.ListN.{length}
+use borrow.Author.Tests.{ne-eqb}
 use Rattle.fields.specs.Fields.{if, quadword}
+use Rattle.fields.specs.Refusals.{outOfRange}
+use Rattle.fields.proofs.ChoiceLaws.{and-left, and-right}
 use Rattle.gif.specs.declared.Path.{Path}
 use Rattle.gif.specs.declared.GifAnswer.{GifAnswer}
 use Rattle.gif.specs.declared.GifAnswer.the-variants.{Refused as GifRefused}
 use Rattle.gif.specs.declared.GifResult.{GifResult}
+use Rattle.gif.specs.Range.{pathInRange}
 use Rattle.gif.specs.Step.{Left as GifLeft, left as gifLeft, gifStep, takeOf as gifTakeOf}
 use Rattle.gif.proofs.StepLaws.{tested, step-wrote}
 use Rattle.gif.proofs.RangeLaws.{log-fits}
+use Rattle.memories.specs.declared.VifUnit.{VifUnit}
+use Rattle.memories.specs.Units.{quadwords}
+use Rattle.memories.specs.Lengths.{Lent, lent, lengthsRefusal}
+use Rattle.memories.proofs.LengthLaws.{lengths-fit, fit-lengths}
 use Rattle.unpack.specs.declared.Format.{Format}
 use Rattle.unpack.specs.declared.Unpacking.{Unpacking}
 use Rattle.unpack.specs.declared.Registers.{Registers}
@@ -23,8 +29,9 @@ use Rattle.vif.specs.declared.VifAnswer.the-variants.{Word}
 use Rattle.vif.specs.declared.Waiting.{Waiting}
 use Rattle.vif.specs.declared.Vif.{Vif}
 use Rattle.vif.specs.Payload.{completes, writeRegisters, unpackUnit}
+use Rattle.vif.specs.Range.{unitInRange}
 use Rattle.vif.specs.Inner.{GifReady, UnpackReady, StepReady}
-use Rattle.vif.specs.Step.{Lent, lent, Left, left, answers, afterGif, afterQuadword, giveQuadword, directStep, unpackStep, stepBy, vifStep, takeOf}
+use Rattle.vif.specs.Step.{Left, left, refused, answers, afterGif, afterQuadword, giveQuadword, directStep, unpackStep, stepBy, vifStep, takeOf}
 
 -- what holds at the case that an arm knows holds at the value itself
 pub by-answer : {a b : GifAnswer} → a ≡ b → (o : GifLeft) (v : Vif) (p : Path) (due : ℕ) (i : Bool) (w : Waiting) (used : ℕ) (m : Lent) {x : Left}
@@ -35,9 +42,9 @@ pub by-incoming : {n k : Incoming} → n ≡ k → (v : Vif) (p : Path) (due : �
     → x ≡ directStep k v p due i w used m → x ≡ directStep n v p due i w used m
 by-incoming q v p due i w used m h = rw q h
 
-pub by-waiting : {w k : Waiting} → w ≡ k → (v : Vif) (p : Path) (n : Incoming) (used : ℕ) (m : Lent) {x : Left}
-    → x ≡ stepBy k v p n used m → x ≡ stepBy w v p n used m
-by-waiting q v p n used m h = rw q h
+pub by-waiting : (which : VifUnit) {w k : Waiting} → w ≡ k → (v : Vif) (p : Path) (n : Incoming) (used : ℕ) (m : Lent) {x : Left}
+    → x ≡ stepBy which k v p n used m → x ≡ stepBy which w v p n used m
+by-waiting which q v p n used m h = rw q h
 
 -- a quadword that the GIF tested
 pub gave : (quad : ℕ) (v : Vif) (p : Path) (due : ℕ) (i : Bool) (w : Waiting) (used : ℕ) (mem code log : List ℕ) → GifReady p used log
@@ -56,18 +63,34 @@ gif-kept p quad used log g {r} {l} e {n} q =
     ap (λ (o : GifLeft). o .log) (e′ ∙ w .same n (ap (λ (o : GifLeft). o .answer) (sym e′) ∙ q))
 
 -- an accepted payload word of UNPACK
-pub unpacked : (v : Vif) (p : Path) (f : Format) (u : Unpacking) (word used : ℕ) (mem code log : List ℕ) → UnpackReady v f u mem
-    → {r : Registers} {s : Rows} {m : List ℕ} {v′ : Vif} {b : Bool} → r ≡ writeRegisters v → unpackLeft s m ≡ unpackTakeOf 1024 f u r word (v .row) mem
+pub unpacked : (which : VifUnit) (v : Vif) (p : Path) (f : Format) (u : Unpacking) (word used : ℕ) (mem code log : List ℕ) → UnpackReady (quadwords which) v f u mem
+    → {r : Registers} {s : Rows} {m : List ℕ} {v′ : Vif} {b : Bool} → r ≡ writeRegisters v → unpackLeft s m ≡ unpackTakeOf (quadwords which) f u r word (v .row) mem
     → v′ ≡ unpackUnit v f u word (s .row) → b ≡ completes (u .due) (u .interrupt)
-    → left (answers (Word b) v′ p used) (lent m code log) ≡ unpackStep v p f u word used (lent mem code log)
+    → left (answers (Word b) v′ p used) (lent m code log) ≡ unpackStep which v p f u word used (lent mem code log)
 unfolding unpackStep unpackTakeOf if
-unpacked v p f u word used mem code log g er es ev eb =
+unpacked which v p f u word used mem code log g er es ev eb =
     let e = rw (er, g .accepted) at es in
     rw (eb, ev, ap (λ (o : UnpackLeft). o .row) e, ap (λ (o : UnpackLeft). o .mem) e)
 
--- input that passes the tests gets document 01's step
-pub vif-tested : (v : Vif) (p : Path) (n : Incoming) (used : ℕ) (m : Lent) → StepReady v p used (m .mem) (m .code) (m .log)
-    → takeOf v p n used m ≡ vifStep v p n used m
+-- ---- the public step by its tests
+
+module _ (which : VifUnit) (v : Vif) (p : Path) (used : ℕ) (m : Lent) {r : ℕ} (e : r ≡ lengthsRefusal which m used) where
+  pub tests-passed : {b : Bool} → r ≡ 0 → b ≡ (unitInRange which v && pathInRange p) → b ≡ true → StepReady which v p used m
+  tests-passed z q t =
+      let k = sym q ∙ t in
+      record { fit = lengths-fit which m used (sym e ∙ z); path-ranged = and-right (unitInRange which v) _ k; ranged = and-left _ _ k }
+
+  pub lengths-refused : (n : Incoming) → (r ≡ 0 → ⊥) → refused r v p used m ≡ takeOf which v p n used m
+  unfolding takeOf if
+  lengths-refused n h = rw (← e, ne-eqb r 0 h)
+
+  pub range-refused : (n : Incoming) {b : Bool} → r ≡ 0 → b ≡ (unitInRange which v && pathInRange p) → b ≡ false
+      → refused outOfRange v p used m ≡ takeOf which v p n used m
+  unfolding takeOf if
+  range-refused n z q t = rw (← e, z, ← q, t)
+
+-- input that passes them gets document 01's step
+pub vif-tested : (which : VifUnit) (v : Vif) (p : Path) (n : Incoming) (used : ℕ) (m : Lent) → StepReady which v p used m
+    → takeOf which v p n used m ≡ vifStep which v p n used m
 unfolding takeOf if
-vif-tested v p n used m r =
-    rw (eq-eqb (length (m .mem)) 4096 (r .long), eq-eqb (length (m .code)) 16384 (r .wide), r .gif .logged, r .ranged, r .gif .ranged)
+vif-tested which v p n used m r = rw (fit-lengths which m used (r .fit), r .ranged, r .path-ranged)

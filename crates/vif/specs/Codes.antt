@@ -1,10 +1,12 @@
 -- VIF codes: document 01's "Bits 0-15 IMM, 16-23 NUM, 24-30 CMD, 31 interrupt. Each word is decoded into one case of a closed list of codes, each case
 -- with its own numbers."
 use Prim.Native.Nat.{ℕ}
-use mathlib.Core.Bool.{Bool}
+use mathlib.Core.Bool.{Bool, true}
 use lib.Dec.{eqb, leb}
 use Rattle.fields.specs.Fields.{if, bits}
 use Rattle.fields.specs.Refusals.{cmdUnlisted, formatMissing}
+use Rattle.memories.specs.declared.VifUnit.{VifUnit}
+use Rattle.memories.specs.declared.VifUnit.the-variants.{Vif1}
 use Rattle.unpack.specs.declared.NamedFormat.{NamedFormat}
 use Rattle.unpack.specs.declared.NamedFormat.the-variants.{Named, Missing}
 use Rattle.unpack.specs.Formats.{formatNamed}
@@ -29,30 +31,36 @@ interruptOf word = eqb (bits word 31 31) 1
 unfoldable pub quadwordsOf : ℕ → ℕ
 quadwordsOf imm = if (eqb imm 0) 65536 imm
 
--- the codes below 60h; the document's numbers are hexadecimal: 10, 11, 13 are 16, 17, 19; 14, 15, 17 are 20, 21, 23; 20 is 32; 30, 31 are 48, 49; 4A is 74;
--- 50, 51 are 80, 81. MPG holds bits 0-10 of IMM, which give the same places as IMM
+-- MPG's address: bits 0-10 of IMM, which give the same places as IMM
+abbrev pub mpgAddresses : ℕ
+mpgAddresses = 2048
+
+abbrev pub mpgAddressMost : ℕ
+mpgAddressMost = 2047
+
+-- the codes below 60h
 unfoldable pub plainCode : ℕ → ℕ → ℕ → Decoded
 plainCode cmd num imm =
-    if (eqb cmd 0) (Known Nop)
-    (if (eqb cmd 1) (Known (Stcycl (bits imm 0 7) (bits imm 8 15)))
-    (if (eqb cmd 2) (Known (Offset (bits imm 0 9)))
-    (if (eqb cmd 3) (Known (Base (bits imm 0 9)))
-    (if (eqb cmd 4) (Known (Itop (bits imm 0 9)))
-    (if (eqb cmd 5) (Known (Stmod (bits imm 0 1)))
-    (if (eqb cmd 6) (Known (Mskpath3 (eqb (bits imm 15 15) 1)))
-    (if (eqb cmd 7) (Known (Mark imm))
-    (if (eqb cmd 16) (Known Flushe)
-    (if (eqb cmd 17) (Known Flush)
-    (if (eqb cmd 19) (Known Flusha)
-    (if (eqb cmd 20) (Known (Mscal imm))
-    (if (eqb cmd 21) (Known (Mscalf imm))
-    (if (eqb cmd 23) (Known Mscnt)
-    (if (eqb cmd 32) (Known Stmask)
-    (if (eqb cmd 48) (Known Strow)
-    (if (eqb cmd 49) (Known Stcol)
-    (if (eqb cmd 74) (Known (Mpg (bits imm 0 10) num))
-    (if (eqb cmd 80) (Known (Direct (quadwordsOf imm)))
-    (if (eqb cmd 81) (Known (Directhl (quadwordsOf imm)))
+    if (eqb cmd 0x00) (Known Nop)
+    (if (eqb cmd 0x01) (Known (Stcycl (bits imm 0 7) (bits imm 8 15)))
+    (if (eqb cmd 0x02) (Known (Offset (bits imm 0 9)))
+    (if (eqb cmd 0x03) (Known (Base (bits imm 0 9)))
+    (if (eqb cmd 0x04) (Known (Itop (bits imm 0 9)))
+    (if (eqb cmd 0x05) (Known (Stmod (bits imm 0 1)))
+    (if (eqb cmd 0x06) (Known (Mskpath3 (eqb (bits imm 15 15) 1)))
+    (if (eqb cmd 0x07) (Known (Mark imm))
+    (if (eqb cmd 0x10) (Known Flushe)
+    (if (eqb cmd 0x11) (Known Flush)
+    (if (eqb cmd 0x13) (Known Flusha)
+    (if (eqb cmd 0x14) (Known (Mscal imm))
+    (if (eqb cmd 0x15) (Known (Mscalf imm))
+    (if (eqb cmd 0x17) (Known Mscnt)
+    (if (eqb cmd 0x20) (Known Stmask)
+    (if (eqb cmd 0x30) (Known Strow)
+    (if (eqb cmd 0x31) (Known Stcol)
+    (if (eqb cmd 0x4A) (Known (Mpg (bits imm 0 10) num))
+    (if (eqb cmd 0x50) (Known (Direct (quadwordsOf imm)))
+    (if (eqb cmd 0x51) (Known (Directhl (quadwordsOf imm)))
     (Unknown cmdUnlisted))))))))))))))))))))
 
 -- "21 vl 3 with vn below 3"
@@ -71,9 +79,16 @@ unpackNumbers cmd num imm =
       tops = eqb (bits imm 15 15) 1;
     }
 
--- "60-7F UNPACK"; "CMD bits 0-1 vl, bits 2-3 vn", the number of the format
-unfoldable pub codeOf : ℕ → ℕ → ℕ → Decoded
-codeOf cmd num imm = if (leb 96 cmd) (unpackCode (formatNamed (bits cmd 0 3)) (unpackNumbers cmd num imm)) (plainCode cmd num imm)
+-- which of the codes below 60h a unit has: VIF1 all of them
+abbrev pub codeListed : VifUnit → ℕ → Bool
+codeListed Vif1 cmd = true
 
-unfoldable pub decodeOf : ℕ → Decoded
-decodeOf word = codeOf (cmdOf word) (numOf word) (immOf word)
+-- "60-7F UNPACK"; "CMD bits 0-1 vl, bits 2-3 vn", the number of the format; "20 CMD not listed"
+unfoldable pub codeOf : VifUnit → ℕ → ℕ → ℕ → Decoded
+codeOf which cmd num imm =
+    if (leb 0x60 cmd) (unpackCode (formatNamed (bits cmd 0 3)) (unpackNumbers cmd num imm))
+    (if (codeListed which cmd) (plainCode cmd num imm)
+    (Unknown cmdUnlisted))
+
+unfoldable pub decodeOf : VifUnit → ℕ → Decoded
+decodeOf which word = codeOf which (cmdOf word) (numOf word) (immOf word)

@@ -6,6 +6,8 @@ use lib.Dec.{eqb}
 use Rattle.fields.specs.Fields.{if}
 use Rattle.fields.specs.Refusals.{cycleWrong, modeWrong, logFull}
 use Rattle.gif.specs.Log.{entry, logged, lacksRoom}
+use Rattle.memories.specs.declared.VifUnit.{VifUnit}
+use Rattle.memories.specs.declared.VifUnit.the-variants.{Vif1}
 use Rattle.unpack.specs.declared.Format.{Format}
 use Rattle.unpack.specs.Position.{addresses}
 use Rattle.unpack.specs.Range.{cycleRefused}
@@ -45,14 +47,14 @@ unfoldable pub nextTops : Bool → Vif → ℕ
 nextTops dbf v = if dbf ((v .base + v .ofst) % addresses) (v .base)
 
 -- "Then ITOP = ITOPS, TOP = TOPS, DBF flips, and TOPS = ...": in this order, so TOP takes the old TOPS
-abbrev pub started : Vif → Vif
-started v = withStart v (v .itops) (v .tops) (not (v .dbf)) (nextTops (not (v .dbf)) v)
+abbrev pub started : VifUnit → Vif → Vif
+started Vif1 v = withStart v (v .itops) (v .tops) (not (v .dbf)) (nextTops (not (v .dbf)) v)
 
 -- "14 MSCAL, 15 MSCALF, 17 MSCNT: log entry 256, 257, 258 with value IMM, IMM, 0"; "31 log lacks room"
-unfoldable pub startProgram : ℕ → ℕ → Vif → Bool → ℕ → List ℕ → Executed
-startProgram r x v i used log =
+unfoldable pub startProgram : VifUnit → ℕ → ℕ → Vif → Bool → ℕ → List ℕ → Executed
+startProgram which r x v i used log =
     if (lacksRoom log used (entry r x ∷ [])) (executed (Refused logFull) v used log)
-    (executed (Word i) (started v) (used + 1) (logged log used (entry r x ∷ [])))
+    (executed (Word i) (started which v) (used + 1) (logged log used (entry r x ∷ [])))
 
 -- a code that waits for payload completes no interrupt in its own step
 abbrev pub waitsFor : Vif → Waiting → ℕ → CodeResult
@@ -71,36 +73,36 @@ unfoldable pub addressOf : UnpackCode → ℕ → ℕ
 addressOf u tops = if (u .tops) (u .address + tops) (u .address)
 
 -- "22 UNPACK with WL 0 or WL > CL"
-unfoldable pub beginUnpack : Format → UnpackCode → Vif → Bool → ℕ → CodeResult
-beginUnpack f u v i used =
+unfoldable pub beginUnpack : VifUnit → Format → UnpackCode → Vif → Bool → ℕ → CodeResult
+beginUnpack which f u v i used =
     if (cycleRefused (v .cl) (v .wl)) (codeResult (Refused cycleWrong) v used)
     (waitsFor v (UnpackDue f (unpackingOf f (addressOf u (v .tops)) (u .num) (u .usn) (u .masked) i)) used)
 
 -- a code's own step, with its interrupt bit
-abbrev pub executeOf : Code → Vif → Bool → ℕ → List ℕ → Executed
-executeOf Nop v i used log = executed (Word i) v used log
-executeOf (Stcycl cl wl) v i used log = executed (Word i) (withCycle v cl wl) used log
-executeOf (Offset x) v i used log = executed (Word i) (withOffset v x (v .base)) used log
-executeOf (Base x) v i used log = executed (Word i) (withBase v x) used log
-executeOf (Itop x) v i used log = executed (Word i) (withItops v x) used log
-executeOf (Stmod m) v i used log = resultWith (setMode m v i used) log
-executeOf (Mskpath3 b) v i used log = executed (Word i) (withMskpath3 v b) used log
-executeOf (Mark x) v i used log = executed (Word i) (withMark v x) used log
-executeOf Flushe v i used log = executed (Word i) v used log
-executeOf Flush v i used log = executed (Word i) v used log
-executeOf Flusha v i used log = executed (Word i) v used log
-executeOf (Mscal x) v i used log = startProgram 256 x v i used log
-executeOf (Mscalf x) v i used log = startProgram 257 x v i used log
-executeOf Mscnt v i used log = startProgram 258 0 v i used log
-executeOf Stmask v i used log = resultWith (waitsFor v (MaskDue i) used) log
-executeOf Strow v i used log = resultWith (waitsFor v (RowDue 4 i) used) log
-executeOf Stcol v i used log = resultWith (waitsFor v (ColDue 4 i) used) log
-executeOf (Mpg a num) v i used log = resultWith (beginMpg a num v i used) log
-executeOf (Direct n) v i used log = resultWith (waitsFor v (DirectDue n i) used) log
-executeOf (Directhl n) v i used log = resultWith (waitsFor v (DirecthlDue n i) used) log
-executeOf (Unpack f u) v i used log = resultWith (beginUnpack f u v i used) log
+abbrev pub executeOf : VifUnit → Code → Vif → Bool → ℕ → List ℕ → Executed
+executeOf which Nop v i used log = executed (Word i) v used log
+executeOf which (Stcycl cl wl) v i used log = executed (Word i) (withCycle v cl wl) used log
+executeOf which (Offset x) v i used log = executed (Word i) (withOffset v x (v .base)) used log
+executeOf which (Base x) v i used log = executed (Word i) (withBase v x) used log
+executeOf which (Itop x) v i used log = executed (Word i) (withItops v x) used log
+executeOf which (Stmod m) v i used log = resultWith (setMode m v i used) log
+executeOf which (Mskpath3 b) v i used log = executed (Word i) (withMskpath3 v b) used log
+executeOf which (Mark x) v i used log = executed (Word i) (withMark v x) used log
+executeOf which Flushe v i used log = executed (Word i) v used log
+executeOf which Flush v i used log = executed (Word i) v used log
+executeOf which Flusha v i used log = executed (Word i) v used log
+executeOf which (Mscal x) v i used log = startProgram which 256 x v i used log
+executeOf which (Mscalf x) v i used log = startProgram which 257 x v i used log
+executeOf which Mscnt v i used log = startProgram which 258 0 v i used log
+executeOf which Stmask v i used log = resultWith (waitsFor v (MaskDue i) used) log
+executeOf which Strow v i used log = resultWith (waitsFor v (RowDue 4 i) used) log
+executeOf which Stcol v i used log = resultWith (waitsFor v (ColDue 4 i) used) log
+executeOf which (Mpg a num) v i used log = resultWith (beginMpg a num v i used) log
+executeOf which (Direct n) v i used log = resultWith (waitsFor v (DirectDue n i) used) log
+executeOf which (Directhl n) v i used log = resultWith (waitsFor v (DirecthlDue n i) used) log
+executeOf which (Unpack f u) v i used log = resultWith (beginUnpack which f u v i used) log
 
 -- "20 CMD not listed; 21 vl 3 with vn below 3"
-abbrev pub decodedStep : Decoded → Vif → Bool → ℕ → List ℕ → Executed
-decodedStep (Known code) v i used log = executeOf code v i used log
-decodedStep (Unknown n) v i used log = executed (Refused n) v used log
+abbrev pub decodedStep : VifUnit → Decoded → Vif → Bool → ℕ → List ℕ → Executed
+decodedStep which (Known code) v i used log = executeOf which code v i used log
+decodedStep which (Unknown n) v i used log = executed (Refused n) v used log

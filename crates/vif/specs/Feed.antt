@@ -1,19 +1,19 @@
--- Words of main memory given to the unit one after another, until they are used up, one is refused or one completes a code with its interrupt bit.
+-- Words of main memory given to a unit one after another, until they are used up, one is refused or one completes a code with its interrupt bit.
 use Prim.Native.Nat.{ℕ, zero, suc, _+_, _*_, _-_, _/_, _%_}
-use mathlib.Core.Bool.{Bool, true, false, not, _&&_}
+use mathlib.Core.Bool.{Bool, true, false, _&&_}
 use mathlib.Core.List.{List}
-use lib.ListN.{length}
 use lib.Dec.{eqb}
 use Rattle.fields.specs.Fields.{if}
 use Rattle.fields.specs.Memory.{inside}
-use Rattle.gif.specs.Log.{logRefused}
 use Rattle.gif.specs.Range.{pathInRange}
+use Rattle.memories.specs.declared.VifUnit.{VifUnit}
+use Rattle.memories.specs.Lengths.{Lent, lengthsRefusal}
 use Rattle.vif.specs.declared.VifAnswer.{VifAnswer}
 use Rattle.vif.specs.declared.VifAnswer.the-variants.{Word, Quadword, Refused}
 use Rattle.vif.specs.declared.WordsResult.{WordsResult}
 use Rattle.vif.specs.Range.{unitInRange}
 use Rattle.vif.specs.Words.{incomingAt}
-use Rattle.vif.specs.Step.{Lent, Left, vifStep}
+use Rattle.vif.specs.Step.{Left, vifStep}
 use Rattle.vif.specs.Feeds.{Fed, fed}
 
 -- what they left, how many words and steps that took, and whether the last step completed an interrupt
@@ -49,22 +49,20 @@ abbrev pub onWord : (ℕ → ℕ → Fed → FedOn) → Left → ℕ → ℕ →
 onWord f o a count x = afterWord f (o .answer) o a count x
 
 -- at most n steps, with `count` words from address a on
-unfoldable pub feedsOf : List ℕ → ℕ → ℕ → ℕ → Fed → FedOn
-feedsOf main zero a count x = fedOn x 0 0 false
-feedsOf main (suc n) a count x =
+unfoldable pub feedsOf : VifUnit → List ℕ → ℕ → ℕ → ℕ → Fed → FedOn
+feedsOf which main zero a count x = fedOn x 0 0 false
+feedsOf which main (suc n) a count x =
     if (eqb count 0) (fedOn x 0 0 false)
-    (onWord (feedsOf main n) (vifStep (x .unit) (x .path2) (incomingAt main a) (x .used) (x .memories)) a count x)
+    (onWord (feedsOf which main n) (vifStep which (x .unit) (x .path2) (incomingAt main a) (x .used) (x .memories)) a count x)
 
 -- the words lie inside, start at a word and end with a quadword
 unfoldable pub wordsInside : List ℕ → ℕ → ℕ → Bool
 wordsInside main a count = inside main a (4 * count) && (eqb (a % 4) 0 && eqb ((a / 4 + count) % 4) 0)
 
--- the unit, path 2, the log and the memories' lengths are those that a step takes
-unfoldable pub takesSteps : Fed → Bool
-takesSteps x =
-    (eqb (length (x .memories .mem)) 4096 && eqb (length (x .memories .code)) 16384)
-    && (not (logRefused (x .memories .log) (x .used)) && (unitInRange (x .unit) && pathInRange (x .path2)))
+-- the memories' lengths, the log, the unit and path 2 are those that a step takes
+unfoldable pub takesSteps : VifUnit → Fed → Bool
+takesSteps which x = eqb (lengthsRefusal which (x .memories) (x .used)) 0 && (unitInRange which (x .unit) && pathInRange (x .path2))
 
 -- the public function, which tests its own input: none is taken where that is not so
-unfoldable pub feedOf : List ℕ → ℕ → ℕ → ℕ → Fed → FedOn
-feedOf main n a count x = if (wordsInside main a count && takesSteps x) (feedsOf main n a count x) (fedOn x 0 0 false)
+unfoldable pub feedOf : VifUnit → List ℕ → ℕ → ℕ → ℕ → Fed → FedOn
+feedOf which main n a count x = if (wordsInside main a count && takesSteps which x) (feedsOf which main n a count x) (fedOn x 0 0 false)

@@ -1,4 +1,4 @@
--- For proofs, but for Fed: words and quadwords given to the unit one after another, each with the same answer.
+-- For proofs, but for Fed: words and quadwords given to a unit one after another, each with the same answer.
 use Prim.Native.Nat.{ℕ, zero, suc, _+_, _*_, _%_, _^_}
 use mathlib.Core.Bool.{false}
 use mathlib.Core.List.{List, [], _∷_, _++_}
@@ -8,6 +8,9 @@ use lib.Seq.{sets}
 use lib.Dec.{eqb}
 use Rattle.fields.specs.Fields.{if, quadword}
 use Rattle.gif.specs.declared.Path.{Path}
+use Rattle.memories.specs.declared.VifUnit.{VifUnit}
+use Rattle.memories.specs.Units.{quadwords}
+use Rattle.memories.specs.Lengths.{Lent, lent}
 use Rattle.unpack.specs.declared.Format.{Format}
 use Rattle.unpack.specs.declared.Unpacking.{Unpacking}
 use Rattle.unpack.specs.Write.{Written, written}
@@ -23,8 +26,8 @@ use Rattle.vif.specs.declared.Waiting.the-variants.{Nothing, UnpackDue}
 use Rattle.vif.specs.declared.Vif.{Vif}
 use Rattle.vif.specs.Setters.{withRow, withWaiting}
 use Rattle.vif.specs.Execute.{addressOf}
-use Rattle.vif.specs.Payload.{quadwords, bytesOf, writeRegisters}
-use Rattle.vif.specs.Step.{Lent, lent, leaves, wordIn, vifStep}
+use Rattle.vif.specs.Payload.{bytesOf, writeRegisters}
+use Rattle.vif.specs.Step.{leaves, wordIn, vifStep}
 
 -- the unit, path 2, the entries used and the memories, between two steps
 pub record Fed : Type 0 where
@@ -37,12 +40,12 @@ abbrev pub fed : Vif → Path → ℕ → Lent → Fed
 fed v p used m = record { unit = v; path2 = p; used = used; memories = m }
 
 -- steps one after another with one and the same answer: each takes a word, or each takes a quadword, and none completes an interrupt
-pub data Feeds (a : VifAnswer) : Fed → List Incoming → Fed → Type 0 where
-  none : {x : Fed} → Feeds a x [] x
+pub data Feeds (which : VifUnit) (a : VifAnswer) : Fed → List Incoming → Fed → Type 0 where
+  none : {x : Fed} → Feeds which a x [] x
   more : {x y z : Fed} {n : Incoming} {ns : List Incoming}
-      → vifStep (x .unit) (x .path2) n (x .used) (x .memories) ≡ leaves a (y .unit) (y .path2) (y .used) (y .memories)
-      → Feeds a y ns z
-      → Feeds a x (n ∷ ns) z
+      → vifStep which (x .unit) (x .path2) n (x .used) (x .memories) ≡ leaves a (y .unit) (y .path2) (y .used) (y .memories)
+      → Feeds which a y ns z
+      → Feeds which a x (n ∷ ns) z
 
 abbrev pub aWord : VifAnswer
 aWord = Word false
@@ -85,10 +88,11 @@ abbrev pub begunUnpack : Format → UnpackCode → Vif → Unpacking
 begunUnpack f u v = unpackingOf f (addressOf u (v .tops)) (u .num) (u .usn) (u .masked) false
 
 -- ROW and data memory after payload words of it
-abbrev pub unpackedWith : Vif → List ℕ → Format → UnpackCode → List ℕ → Written
-unpackedWith v mem f u ws = unpackedBy quadwords f (begunUnpack f u v) (writeRegisters v) ws (written (v .row) mem)
+abbrev pub unpackedWith : VifUnit → Vif → List ℕ → Format → UnpackCode → List ℕ → Written
+unpackedWith which v mem f u ws = unpackedBy (quadwords which) f (begunUnpack f u v) (writeRegisters v) ws (written (v .row) mem)
 
 -- all else is as it was, but for what waits
-abbrev pub unpackedFed : Vif → Path → ℕ → Lent → Format → UnpackCode → List ℕ → Waiting → Fed
-unpackedFed v p used m f u ws w =
-    fed (withWaiting (withRow v (unpackedWith v (m .mem) f u ws .row)) w) p used (lent (unpackedWith v (m .mem) f u ws .mem) (m .code) (m .log))
+abbrev pub unpackedFed : VifUnit → Vif → Path → ℕ → Lent → Format → UnpackCode → List ℕ → Waiting → Fed
+unpackedFed which v p used m f u ws w =
+    fed (withWaiting (withRow v (unpackedWith which v (m .mem) f u ws .row)) w) p used
+    (lent (unpackedWith which v (m .mem) f u ws .mem) (m .code) (m .log))

@@ -8,6 +8,8 @@ use Rattle.gif.specs.declared.Path.{Path}
 use Rattle.gif.specs.declared.QuadwordsResult.{QuadwordsResult}
 use Rattle.gif.specs.Log.{logRefused}
 use Rattle.gif.specs.Range.{pathInRange}
+use Rattle.memories.specs.declared.VifUnit.{VifUnit}
+use Rattle.memories.specs.Lengths.{Lent, lent, LengthsFit}
 use Rattle.unpack.specs.declared.Format.{Format}
 use Rattle.unpack.specs.declared.Unpacking.{Unpacking}
 use Rattle.unpack.specs.Step.{acceptable}
@@ -16,9 +18,9 @@ use Rattle.vif.specs.declared.Waiting.the-variants.{DirectDue, DirecthlD
 use Rattle.vif.specs.declared.Vif.{Vif}
 use Rattle.vif.specs.declared.WordsResult.{WordsResult}
 use Rattle.vif.specs.Setters.{withWaiting}
+use Rattle.vif.specs.Codes.{mpgAddresses, mpgAddressMost}
 use Rattle.vif.specs.Payload.{writeRegisters}
 use Rattle.vif.specs.Range.{unitInRange}
-use Rattle.vif.specs.Step.{Lent, lent}
 use Rattle.vif.specs.Feeds.{Fed, fed}
 use Rattle.vif.specs.Feed.{FedOn, fedOn, fedOnBy, feedsOf}
 
@@ -27,30 +29,39 @@ pub record GifReady (p : Path) (used : ℕ) (log : List ℕ) : Type 0 where
   pub logged : logRefused log used ≡ false
   pub ranged : pathInRange p ≡ true
 
--- data memory and a waiting UNPACK pass UNPACK's tests
-pub record UnpackReady (v : Vif) (f : Format) (u : Unpacking) (mem : List ℕ) : Type 0 where
+-- a data memory of `size` quadwords and a waiting UNPACK pass UNPACK's tests
+pub record UnpackReady (size : ℕ) (v : Vif) (f : Format) (u : Unpacking) (mem : List ℕ) : Type 0 where
   pub some : 1 ≤ u .due
-  pub accepted : acceptable 1024 f u (writeRegisters v) mem ≡ true
+  pub accepted : acceptable size f u (writeRegisters v) mem ≡ true
+
+-- a code memory of `size` instructions, and a waiting MPG in range
+pub record MpgReady (size address count due : ℕ) (code : List ℕ) : Type 0 where
+  pub some : 1 ≤ size
+  pub most : size ≤ mpgAddresses
+  pub wide : length code ≡ 8 * size
+  pub inside : address ≤ mpgAddressMost
+  pub few : count ≤ 256
+  pub left : 1 ≤ due
+  pub due-most : due ≤ count + count
 
 -- everything passes the unit's tests
-pub record StepReady (v : Vif) (p : Path) (used : ℕ) (mem code log : List ℕ) : Type 0 where
-  pub long : length mem ≡ 4096
-  pub wide : length code ≡ 16384
-  pub gif : GifReady p used log
-  pub ranged : unitInRange v ≡ true
+pub record StepReady (which : VifUnit) (v : Vif) (p : Path) (used : ℕ) (m : Lent) : Type 0 where
+  pub fit : LengthsFit which m used
+  pub path-ranged : pathInRange p ≡ true
+  pub ranged : unitInRange which v ≡ true
 
 -- what words give, with k words and n steps before them
 abbrev pub plus : ℕ → ℕ → FedOn → FedOn
 plus k n r = fedOn (r .after) (k + r .words) (n + r .steps) (r .interrupt)
 
 -- everything passes the unit's tests, between two steps
-abbrev pub FedReady : Fed → Type 0
-FedReady x = StepReady (x .unit) (x .path2) (x .used) (x .memories .mem) (x .memories .code) (x .memories .log)
+abbrev pub FedReady : VifUnit → Fed → Type 0
+FedReady which x = StepReady which (x .unit) (x .path2) (x .used) (x .memories)
 
 -- n steps with the k words from address a on lead from x to y, whatever comes after them
-pub record Leads (main : List ℕ) (a k n : ℕ) (x y : Fed) : Type 0 where
-  pub goes : (l c : ℕ) → feedsOf main (n + l) a (k + c) x ≡ plus k n (feedsOf main l (a + 4 * k) c y)
-  pub stays : FedReady x → FedReady y
+pub record Leads (which : VifUnit) (main : List ℕ) (a k n : ℕ) (x y : Fed) : Type 0 where
+  pub goes : (l c : ℕ) → feedsOf which main (n + l) a (k + c) x ≡ plus k n (feedsOf which main l (a + 4 * k) c y)
+  pub stays : FedReady which x → FedReady which y
 
 -- a DIRECT that waits, or where `hl` says so a DIRECTHL
 abbrev pub directs : Bool → ℕ → Bool → Waiting
@@ -62,8 +73,8 @@ pub record Quadwords (main : List ℕ) (a due words steps : ℕ) (p : Path) (use
   pub few : r .taken < due
   pub few-words : 4 * r .taken < words
   pub few-steps : r .taken < steps
-  pub leads : (v : Vif) (mem code : List ℕ) (hl i : Bool)
-      → Leads main a (4 * r .taken) (r .taken) (fed (withWaiting v (directs hl due i)) p used (lent mem code log))
+  pub leads : (which : VifUnit) (v : Vif) (mem code : List ℕ) (hl i : Bool)
+      → Leads which main a (4 * r .taken) (r .taken) (fed (withWaiting v (directs hl due i)) p used (lent mem code log))
       (fed (withWaiting v (directs hl (due - r .taken) i)) (r .path) (r .used) (lent mem code log′))
 
 -- the unit, path 2, the entries used and the memories, with the words of s taken
@@ -71,9 +82,9 @@ abbrev pub fedIn : WordsResult → Lent → Fed
 fedIn s m = fed (s .unit) (s .path2) (s .used) m
 
 -- what `count` words from address a on give in at most `limit` steps, where the words and steps of s are the first of them
-abbrev pub restOf : List ℕ → ℕ → ℕ → ℕ → WordsResult → Lent → FedOn
-restOf main limit a count s m =
-    plus (s .words) (s .steps) (feedsOf main (limit - s .steps) (a + 4 * s .words) (count - s .words) (fedIn s m))
+abbrev pub restOf : VifUnit → List ℕ → ℕ → ℕ → ℕ → WordsResult → Lent → FedOn
+restOf which main limit a count s m =
+    plus (s .words) (s .steps) (feedsOf which main (limit - s .steps) (a + 4 * s .words) (count - s .words) (fedIn s m))
 
 -- words and steps are left, and addresses and counts stay small
 pub record Going (limit a count : ℕ) (s : WordsResult) : Type 0 where
@@ -83,19 +94,19 @@ pub record Going (limit a count : ℕ) (s : WordsResult) : Type 0 where
   pub quiet : s .interrupt ≡ false
 
 -- from s to t, and at least one word and one step are left
-pub record Bursts (main : List ℕ) (limit a count : ℕ) (s : WordsResult) (m : Lent) (t : WordsResult) (m′ : Lent) : Type 0 where
-  pub same : restOf main limit a count s m ≡ restOf main limit a count t m′
-  pub stays : FedReady (fedIn s m) → FedReady (fedIn t m′)
+pub record Bursts (which : VifUnit) (main : List ℕ) (limit a count : ℕ) (s : WordsResult) (m : Lent) (t : WordsResult) (m′ : Lent) : Type 0 where
+  pub same : restOf which main limit a count s m ≡ restOf which main limit a count t m′
+  pub stays : FedReady which (fedIn s m) → FedReady which (fedIn t m′)
   pub later : s .steps ≤ t .steps
   pub going : Going limit a count t
 
 -- a step more, from s to t; one that is refused changes nothing
-pub record Gives (main : List ℕ) (a : ℕ) (s : WordsResult) (m : Lent) (t : WordsResult) (m′ : Lent) : Type 0 where
-  pub ready : FedReady (fedIn t m′)
+pub record Gives (which : VifUnit) (main : List ℕ) (a : ℕ) (s : WordsResult) (m : Lent) (t : WordsResult) (m′ : Lent) : Type 0 where
+  pub ready : FedReady which (fedIn t m′)
   pub later : s .steps ≤ t .steps
-  pub goes : (limit count : ℕ) → Going limit a count s → t .interrupt ≡ false → restOf main limit a count s m ≡ restOf main limit a count t m′
-  pub stops : (limit count : ℕ) → Going limit a count s → t .interrupt ≡ true → restOf main limit a count s m ≡ fedOnBy t m′
-  pub refuses : (limit count : ℕ) → Going limit a count s → t .steps ≡ s .steps → restOf main limit a count s m ≡ fedOnBy t m′
+  pub goes : (limit count : ℕ) → Going limit a count s → t .interrupt ≡ false → restOf which main limit a count s m ≡ restOf which main limit a count t m′
+  pub stops : (limit count : ℕ) → Going limit a count s → t .interrupt ≡ true → restOf which main limit a count s m ≡ fedOnBy t m′
+  pub refuses : (limit count : ℕ) → Going limit a count s → t .steps ≡ s .steps → restOf which main limit a count s m ≡ fedOnBy t m′
 
 abbrev pub takenWith : Vif → Path → ℕ → ℕ → ℕ → Bool → WordsResult
 takenWith v p used k n i = record { unit = v; path2 = p; used = used; words = k; steps = n; interrupt = i }

@@ -1,4 +1,4 @@
--- The VIF1 unit, as document 01's chapter "VIF codes" has it, read top to bottom.
+-- A VIF unit, as document 01's chapter "VIF codes" has it, read top to bottom.
 pub mod Setters
 pub mod Codes
 pub mod Execute

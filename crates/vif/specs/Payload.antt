@@ -6,6 +6,8 @@ use lib.ListN.{set}
 use lib.Seq.{sets}
 use lib.Dec.{eqb}
 use Rattle.fields.specs.Fields.{if}
+use Rattle.memories.specs.declared.VifUnit.{VifUnit}
+use Rattle.memories.specs.Units.{quadwords}
 use Rattle.unpack.specs.declared.Format.{Format}
 use Rattle.unpack.specs.declared.Unpacking.{Unpacking}
 use Rattle.unpack.specs.declared.Registers.{Registers}
@@ -15,13 +17,6 @@ use Rattle.vif.specs.declared.Waiting.{Waiting}
 use Rattle.vif.specs.declared.Waiting.the-variants.{Nothing, RowDue, ColDue, MpgDue, UnpackDue}
 use Rattle.vif.specs.declared.Vif.{Vif}
 use Rattle.vif.specs.Setters.{withMask, withRow, withCol, withWaiting}
-
--- the memory sizes of VIF1: "modulo 1,024" quadwords of data, "modulo 2,048" instructions
-abbrev pub quadwords : ℕ
-quadwords = 1024
-
-abbrev pub instructions : ℕ
-instructions = 2048
 
 -- the last unit of the payload completes the code, with its interrupt bit
 unfoldable pub completes : ℕ → Bool → Bool
@@ -46,7 +41,8 @@ maskWord v word = withWaiting (withMask v word) Nothing
 abbrev pub bytesOf : ℕ → List ℕ
 bytesOf word = word % 256 ∷ word / 256 % 256 ∷ word / 65536 % 256 ∷ word / 16777216 ∷ []
 
--- "MPG: NUM instructions of two words (0 means 256), instruction j to (IMM+j) modulo 2,048. A word is stored as it comes": where word k of the payload goes, in bytes
+-- "MPG: NUM instructions of two words (0 means 256), instruction j to (IMM+j) modulo 2,048. A word is stored as it comes": where word k of the payload goes, in
+-- bytes, once over the instructions that the memory has
 unfoldable pub wordPlace : ℕ → ℕ → ℕ → ℕ
 wordPlace size a k = 8 * ((a + k / 2) % size) + 4 * (k % 2)
 
@@ -61,8 +57,8 @@ abbrev pub writeRegisters : Vif → Registers
 writeRegisters v = record { cl = v .cl; wl = v .wl; mode = v .mode; mask = v .mask; col = v .col }
 
 -- ROW and data memory after a payload word
-abbrev pub unpackWritten : Vif → Format → Unpacking → ℕ → List ℕ → Written
-unpackWritten v f u word mem = unpackWord quadwords f u (writeRegisters v) word (written (v .row) mem)
+abbrev pub unpackWritten : VifUnit → Vif → Format → Unpacking → ℕ → List ℕ → Written
+unpackWritten which v f u word mem = unpackWord (quadwords which) f u (writeRegisters v) word (written (v .row) mem)
 
 abbrev pub unpackUnit : Vif → Format → Unpacking → ℕ → List ℕ → Vif
 unpackUnit v f u word row = withWaiting (withRow v row) (orNothing (u .due) (UnpackDue f (holds u word)))

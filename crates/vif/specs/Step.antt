@@ -1,17 +1,17 @@
--- One word taken by VIF1, or one quadword inside DIRECT: a step of document 01.
+-- One word taken by a VIF unit, or one quadword inside DIRECT: a step of document 01.
 use Prim.Native.Nat.{ℕ, _+_, _*_, _-_, _^_}
 use mathlib.Core.Bool.{Bool, not, _&&_}
-use mathlib.Core.List.{List}
-use lib.ListN.{length}
 use lib.Dec.{eqb}
 use Rattle.fields.specs.Fields.{if, quadword}
-use Rattle.fields.specs.Refusals.{directUnaligned}
+use Rattle.fields.specs.Refusals.{outOfRange, directUnaligned}
 use Rattle.gif.specs.declared.Path.{Path}
 use Rattle.gif.specs.declared.GifAnswer.{GifAnswer}
 use Rattle.gif.specs.declared.GifAnswer.the-variants.{Taken, Refused as GifRefused}
-use Rattle.gif.specs.Log.{logRefused}
 use Rattle.gif.specs.Range.{pathInRange}
 use Rattle.gif.specs.Step.{Left as GifLeft, gifStep}
+use Rattle.memories.specs.declared.VifUnit.{VifUnit}
+use Rattle.memories.specs.Units.{instructions}
+use Rattle.memories.specs.Lengths.{Lent, lent, lengthsRefusal}
 use Rattle.unpack.specs.declared.Format.{Format}
 use Rattle.unpack.specs.declared.Unpacking.{Unpacking}
 use Rattle.unpack.specs.Write.{Written}
@@ -26,17 +26,8 @@ use Rattle.vif.specs.declared.Vif.{Vif}
 use Rattle.vif.specs.Setters.{withWaiting}
 use Rattle.vif.specs.Codes.{interruptOf, decodeOf}
 use Rattle.vif.specs.Execute.{Executed, decodedStep}
-use Rattle.vif.specs.Payload.{instructions, completes, orNothing, rowWord, colWord, maskWord, mpgStored, mpgWord, unpackWritten, unpackUnit}
+use Rattle.vif.specs.Payload.{completes, orNothing, rowWord, colWord, maskWord, mpgStored, mpgWord, unpackWritten, unpackUnit}
 use Rattle.vif.specs.Range.{unitInRange}
-
--- the memories that a step is lent: data memory by words, code memory by bytes, the log by numbers
-pub record Lent : Type 0 where
-  pub mem : List ℕ
-  pub code : List ℕ
-  pub log : List ℕ
-
-abbrev pub lent : List ℕ → List ℕ → List ℕ → Lent
-lent mem code log = record { mem = mem; code = code; log = log }
 
 -- the number of an answer: 0 taken, else document 01's refusal number
 abbrev pub numberOf : VifAnswer → ℕ
@@ -83,8 +74,8 @@ refused n v p used m = leaves (Refused n) v p used m
 abbrev pub afterCode : Executed → Path → Lent → Left
 afterCode e p m = leaves (e .answer) (e .unit) p (e .used) (lent (m .mem) (m .code) (e .log))
 
-unfoldable pub codeStep : Vif → Path → ℕ → ℕ → Lent → Left
-codeStep v p word used m = afterCode (decodedStep (decodeOf word) v (interruptOf word) used (m .log)) p m
+unfoldable pub codeStep : VifUnit → Vif → Path → ℕ → ℕ → Lent → Left
+codeStep which v p word used m = afterCode (decodedStep which (decodeOf which word) v (interruptOf word) used (m .log)) p m
 
 -- a quadword of DIRECT, by what the GIF made of it
 abbrev pub afterGif : GifAnswer → GifLeft → Vif → Path → ℕ → Bool → Waiting → ℕ → Lent → Left
@@ -110,30 +101,28 @@ abbrev pub afterUnpack : Written → Vif → Path → Format → Unpacking → �
 afterUnpack x v p f u word used m =
     leaves (Word (completes (u .due) (u .interrupt))) (unpackUnit v f u word (x .row)) p used (lent (x .mem) (m .code) (m .log))
 
-unfoldable pub unpackStep : Vif → Path → Format → Unpacking → ℕ → ℕ → Lent → Left
-unpackStep v p f u word used m = afterUnpack (unpackWritten v f u word (m .mem)) v p f u word used m
+unfoldable pub unpackStep : VifUnit → Vif → Path → Format → Unpacking → ℕ → ℕ → Lent → Left
+unpackStep which v p f u word used m = afterUnpack (unpackWritten which v f u word (m .mem)) v p f u word used m
 
 -- by the code that waits
-abbrev pub stepBy : Waiting → Vif → Path → Incoming → ℕ → Lent → Left
-stepBy Nothing v p n used m = codeStep v p (wordIn n) used m
-stepBy (MaskDue i) v p n used m = leaves (Word i) (maskWord v (wordIn n)) p used m
-stepBy (RowDue due i) v p n used m = leaves (Word (completes due i)) (rowWord v due i (wordIn n)) p used m
-stepBy (ColDue due i) v p n used m = leaves (Word (completes due i)) (colWord v due i (wordIn n)) p used m
-stepBy (MpgDue a k due i) v p n used m =
-    leaves (Word (completes due i)) (mpgWord v a k due i) p used (lent (m .mem) (mpgStored instructions a k due (wordIn n) (m .code)) (m .log))
-stepBy (DirectDue due i) v p n used m = directStep n v p due i (DirectDue (due - 1) i) used m
-stepBy (DirecthlDue due i) v p n used m = directStep n v p due i (DirecthlDue (due - 1) i) used m
-stepBy (UnpackDue f u) v p n used m = unpackStep v p f u (wordIn n) used m
+abbrev pub stepBy : VifUnit → Waiting → Vif → Path → Incoming → ℕ → Lent → Left
+stepBy which Nothing v p n used m = codeStep which v p (wordIn n) used m
+stepBy which (MaskDue i) v p n used m = leaves (Word i) (maskWord v (wordIn n)) p used m
+stepBy which (RowDue due i) v p n used m = leaves (Word (completes due i)) (rowWord v due i (wordIn n)) p used m
+stepBy which (ColDue due i) v p n used m = leaves (Word (completes due i)) (colWord v due i (wordIn n)) p used m
+stepBy which (MpgDue a k due i) v p n used m =
+    leaves (Word (completes due i)) (mpgWord v a k due i) p used (lent (m .mem) (mpgStored (instructions which) a k due (wordIn n) (m .code)) (m .log))
+stepBy which (DirectDue due i) v p n used m = directStep n v p due i (DirectDue (due - 1) i) used m
+stepBy which (DirecthlDue due i) v p n used m = directStep n v p due i (DirecthlDue (due - 1) i) used m
+stepBy which (UnpackDue f u) v p n used m = unpackStep which v p f u (wordIn n) used m
 
--- document 01's step: the next word is given to VIF1
-unfoldable pub vifStep : Vif → Path → Incoming → ℕ → Lent → Left
-vifStep v p n used m = stepBy (v .waiting) v p n used m
+-- document 01's step: the next word is given to a unit
+unfoldable pub vifStep : VifUnit → Vif → Path → Incoming → ℕ → Lent → Left
+vifStep which v p n used m = stepBy which (v .waiting) v p n used m
 
 -- the public step, which tests its own input: 2, 3, 4, 5, else the step
-unfoldable pub takeOf : Vif → Path → Incoming → ℕ → Lent → Left
-takeOf v p n used m =
-    if (not (eqb (length (m .mem)) 4096)) (refused 2 v p used m)
-    (if (not (eqb (length (m .code)) 16384)) (refused 3 v p used m)
-    (if (logRefused (m .log) used) (refused 4 v p used m)
-    (if (not (unitInRange v && pathInRange p)) (refused 5 v p used m)
-    (vifStep v p n used m))))
+unfoldable pub takeOf : VifUnit → Vif → Path → Incoming → ℕ → Lent → Left
+takeOf which v p n used m =
+    if (not (eqb (lengthsRefusal which m used) 0)) (refused (lengthsRefusal which m used) v p used m)
+    (if (not (unitInRange which v && pathInRange p)) (refused outOfRange v p used m)
+    (vifStep which v p n used m))

@@ -12,6 +12,7 @@ use super::step::write_registers;
 use fields::word_at;
 use gif::Path;
 use gif::QuadwordsResult;
+use memories::VifUnit;
 use unpack::Format;
 use unpack::Unpacking;
 ghost use mathlib.Core.Path.{_≡_};
@@ -20,12 +21,13 @@ ghost use mathlib.Core.List.{List};
 ghost use Prim.Native.Nat.{ℕ, _+_, _*_, _-_, _%_, _^_, _<_, _≤_};
 ghost use lib.ListN.{length};
 ghost use Rattle.gif.specs.declared.Path.{Path as PathT};
+ghost use Rattle.memories.specs.Units.{quadwords, instructions, dataWords, codeBytes};
+ghost use Rattle.memories.specs.Lengths.{lent};
 ghost use Rattle.vif.specs.declared.Waiting.the-variants.{MpgDue, UnpackDue};
 ghost use Rattle.vif.specs.Setters.{withWaiting};
 ghost use Rattle.vif.specs.Range.{unitInRange};
-ghost use Rattle.vif.specs.Step.{lent};
 ghost use Rattle.vif.specs.Feeds.{fed};
-ghost use Rattle.vif.specs.Inner.{UnpackReady, Leads, Quadwords, Going, Bursts, takenWith};
+ghost use Rattle.vif.specs.Inner.{UnpackReady, MpgReady, Leads, Quadwords, Going, Bursts, takenWith};
 
 pub(crate) fn taken(
     unit: Vif,
@@ -78,6 +80,7 @@ fn quadwords_at_once(due: u32, a: u32, words: u32, steps: u64) -> u32
 
 // n payload words of UNPACK. Path 2 and the other memories are any.
 fn unpack_words(
+    which: VifUnit,
     unit: Vif,
     f: Format,
     u: Unpacking,
@@ -86,16 +89,19 @@ fn unpack_words(
     n: u32,
     data: &mut [u32],
 ) -> Vif
-    requires { ⌜ (unit .waiting ≡ UnpackDue f u) × UnpackReady unit f u (now «data») × (n < u .due) × (a + 4 * n ≤ 1048576) ⌝ }
-    ensures { λ r. ⌜ ((p : PathT) (used : ℕ) (code log : List ℕ) → Leads (now (main .entry)) a n n (fed unit p used (lent (now («data» .entry)) code log)) (fed r p used (lent (now («data» .exit)) code log))) ⌝ }
+    requires { ⌜ (unit .waiting ≡ UnpackDue f u) × UnpackReady (quadwords which) unit f u (now «data») × (n < u .due) × (a + 4 * n ≤ 1048576) ⌝ }
+    ensures { λ r. ⌜ ((p : PathT) (used : ℕ) (code log : List ℕ)
+        → Leads which (now (main .entry)) a n n (fed unit p used (lent (now («data» .entry)) code log))
+        (fed r p used (lent (now («data» .exit)) code log))) ⌝ }
 {
+    let size = memories::quadwords(which);
     let registers = write_registers(unit);
     let mut row = unit.row;
     let mut rest = u;
     let mut k: u32 = 0;
     while k < n {
         let word = word_at(main, a + 4 * k);
-        let r = unpack::take_word(1024, f, rest, registers, word, row, data);
+        let r = unpack::take_word(size, f, rest, registers, word, row, data);
         row = r.row;
         rest = held(rest, word);
         k += 1;
@@ -105,6 +111,7 @@ fn unpack_words(
 
 // n payload words of MPG. Path 2 and the other memories are any.
 fn mpg_words(
+    which: VifUnit,
     unit: Vif,
     address: u32,
     count: u32,
@@ -115,12 +122,17 @@ fn mpg_words(
     n: u32,
     code: &mut [u8],
 ) -> Vif
-    requires { ⌜ (unit .waiting ≡ MpgDue address count due interrupt) × (address ≤ 2047) × (count ≤ 256) × (due ≤ count + count) × (n < due) × (length (now code) ≡ 16384) × (a + 4 * n ≤ 1048576) ⌝ }
-    ensures { λ r. ⌜ ((p : PathT) (used : ℕ) (mem log : List ℕ) → Leads (now (main .entry)) a n n (fed unit p used (lent mem (now (code .entry)) log)) (fed r p used (lent mem (now (code .exit)) log))) ⌝ }
+    requires { ⌜ (unit .waiting ≡ MpgDue address count due interrupt) × MpgReady (instructions which) address count due (now code)
+        × (n < due) × (a + 4 * n ≤ 1048576) ⌝ }
+    ensures { λ r. ⌜ ((p : PathT) (used : ℕ) (mem log : List ℕ)
+        → Leads which (now (main .entry)) a n n (fed unit p used (lent mem (now (code .entry)) log))
+        (fed r p used (lent mem (now (code .exit)) log))) ⌝ }
 {
+    let size = memories::instructions(which);
     let mut k: u32 = 0;
     while k < n {
-        store_mpg(address, count, due - k, word_at(main, a + 4 * k), code);
+        let next = word_at(main, a + 4 * k);
+        store_mpg(size, address, count, due - k, next, code);
         k += 1;
     }
     with_waiting(
@@ -145,7 +157,8 @@ fn quadwords(
     log: &mut [u64],
 ) -> QuadwordsResult
     requires { ⌜ (1 ≤ due) × Going limit a count s ⌝ }
-    ensures { λ r. ⌜ Quadwords (now (main .entry)) (a + 4 * s .words) due (count - s .words) (limit - s .steps) (s .path2) (s .used) (now (log .entry)) r (now (log .exit)) ⌝ }
+    ensures { λ r. ⌜ Quadwords (now (main .entry)) (a + 4 * s .words) due (count - s .words) (limit - s .steps)
+        (s .path2) (s .used) (now (log .entry)) r (now (log .exit)) ⌝ }
 {
     let path2 = s.path2;
     let at = a + 4 * s.words;
@@ -156,7 +169,8 @@ fn quadwords(
 // The result of s with quadwords after it; `rest` is what waits then.
 fn with_quadwords(s: WordsResult, r: QuadwordsResult, rest: Waiting) -> WordsResult
     requires { ⌜ (s .words + 4 * r .taken < 2 ^ 32) × (s .steps + r .taken < 2 ^ 64) ⌝ }
-    ensures { λ t. ⌜ t ≡ takenWith (withWaiting (s .unit) rest) (r .path) (r .used) (s .words + 4 * r .taken) (s .steps + r .taken) (s .interrupt) ⌝ }
+    ensures { λ t. ⌜ t
+        ≡ takenWith (withWaiting (s .unit) rest) (r .path) (r .used) (s .words + 4 * r .taken) (s .steps + r .taken) (s .interrupt) ⌝ }
 {
     let unit = with_waiting(s.unit, rest);
     let words = s.words + 4 * r.taken;
@@ -175,6 +189,7 @@ fn with_words(s: WordsResult, unit: Vif, words: u32) -> WordsResult
 
 // Payload words of UNPACK.
 fn unpack_burst(
+    which: VifUnit,
     s: WordsResult,
     f: Format,
     u: Unpacking,
@@ -184,17 +199,19 @@ fn unpack_burst(
     limit: u64,
     data: &mut [u32],
 ) -> WordsResult
-    requires { ⌜ (s .unit .waiting ≡ UnpackDue f u) × UnpackReady (s .unit) f u (now «data») × Going limit a count s ⌝ }
-    ensures { λ r. ⌜ ((code log : List ℕ) → Bursts (now (main .entry)) limit a count s (lent (now («data» .entry)) code log) r (lent (now («data» .exit)) code log)) ⌝ }
+    requires { ⌜ (s .unit .waiting ≡ UnpackDue f u) × UnpackReady (quadwords which) (s .unit) f u (now «data») × Going limit a count s ⌝ }
+    ensures { λ r. ⌜ ((code log : List ℕ)
+        → Bursts which (now (main .entry)) limit a count s (lent (now («data» .entry)) code log) r (lent (now («data» .exit)) code log)) ⌝ }
 {
     let unit = s.unit;
     let n = at_once(u.due, count - s.words, limit - s.steps);
-    let after = unpack_words(unit, f, u, main, a + 4 * s.words, n, data);
+    let after = unpack_words(which, unit, f, u, main, a + 4 * s.words, n, data);
     with_words(s, after, n)
 }
 
 // Payload words of MPG.
 fn mpg_burst(
+    which: VifUnit,
     s: WordsResult,
     main: &[u8],
     a: u32,
@@ -202,8 +219,9 @@ fn mpg_burst(
     limit: u64,
     code: &mut [u8],
 ) -> WordsResult
-    requires { ⌜ (unitInRange (s .unit) ≡ true) × (length (now code) ≡ 16384) × Going limit a count s ⌝ }
-    ensures { λ r. ⌜ ((mem log : List ℕ) → Bursts (now (main .entry)) limit a count s (lent mem (now (code .entry)) log) r (lent mem (now (code .exit)) log)) ⌝ }
+    requires { ⌜ (unitInRange which (s .unit) ≡ true) × (length (now code) ≡ codeBytes which) × Going limit a count s ⌝ }
+    ensures { λ r. ⌜ ((mem log : List ℕ)
+        → Bursts which (now (main .entry)) limit a count s (lent mem (now (code .entry)) log) r (lent mem (now (code .exit)) log)) ⌝ }
 {
     let unit = s.unit;
     let waiting = unit.waiting;
@@ -218,12 +236,13 @@ fn mpg_burst(
     };
     let n = at_once(due, count - s.words, limit - s.steps);
     let at = a + 4 * s.words;
-    let after = mpg_words(unit, address, num, due, interrupt, main, at, n, code);
+    let after = mpg_words(which, unit, address, num, due, interrupt, main, at, n, code);
     with_words(s, after, n)
 }
 
 // Payload of the code that waits; at least one word and one step are left after it.
 pub(crate) fn burst(
+    which: VifUnit,
     s: WordsResult,
     main: &[u8],
     a: u32,
@@ -233,8 +252,10 @@ pub(crate) fn burst(
     code: &mut [u8],
     log: &mut [u64],
 ) -> WordsResult
-    requires { ⌜ (unitInRange (s .unit) ≡ true) × (length (now «data») ≡ 4096) × (length (now code) ≡ 16384) × Going limit a count s ⌝ }
-    ensures { λ r. ⌜ Bursts (now (main .entry)) limit a count s (lent (now («data» .entry)) (now (code .entry)) (now (log .entry))) r (lent (now («data» .exit)) (now (code .exit)) (now (log .exit))) ⌝ }
+    requires { ⌜ (unitInRange which (s .unit) ≡ true) × (length (now «data») ≡ dataWords which) × (length (now code) ≡ codeBytes which)
+        × Going limit a count s ⌝ }
+    ensures { λ r. ⌜ Bursts which (now (main .entry)) limit a count s (lent (now («data» .entry)) (now (code .entry)) (now (log .entry)))
+        r (lent (now («data» .exit)) (now (code .exit)) (now (log .exit))) ⌝ }
 {
     let unit = s.unit;
     let waiting = unit.waiting;
@@ -243,7 +264,7 @@ pub(crate) fn burst(
         Waiting::MaskDue(_) => s,
         Waiting::RowDue { .. } => s,
         Waiting::ColDue { .. } => s,
-        Waiting::MpgDue { .. } => mpg_burst(s, main, a, count, limit, code),
+        Waiting::MpgDue { .. } => mpg_burst(which, s, main, a, count, limit, code),
         Waiting::DirectDue { due, interrupt } => {
             let r = quadwords(s, due, main, a, count, limit, log);
             with_quadwords(s, r, direct_rest(due, r.taken, interrupt))
@@ -252,6 +273,6 @@ pub(crate) fn burst(
             let r = quadwords(s, due, main, a, count, limit, log);
             with_quadwords(s, r, directhl_rest(due, r.taken, interrupt))
         }
-        Waiting::UnpackDue(f, u) => unpack_burst(s, f, u, main, a, count, limit, data),
+        Waiting::UnpackDue(f, u) => unpack_burst(which, s, f, u, main, a, count, limit, data),
     }
 }

@@ -1,12 +1,14 @@
 // A word decoded into a code.
 use super::Code;
 use super::Decoded;
+use super::MPG_ADDRESSES;
 use super::UnpackCode;
 use fields::refusals;
+use memories::VifUnit;
 use unpack::ADDRESSES;
 use unpack::NamedFormat;
 ghost use mathlib.Core.Path.{_≡_};
-ghost use Rattle.vif.specs.Codes.{quadwordsOf, plainCode, unpackCode, unpackNumbers, codeOf, decodeOf};
+ghost use Rattle.vif.specs.Codes.{quadwordsOf, plainCode, unpackCode, unpackNumbers, codeListed, codeOf, decodeOf};
 
 fn quadwords_of(imm: u32) -> u32
     ensures { λ r. ⌜ r ≡ quadwordsOf imm ⌝ }
@@ -18,32 +20,32 @@ fn plain_code(cmd: u32, num: u32, imm: u32) -> Decoded
     ensures { λ r. ⌜ r ≡ plainCode cmd num imm ⌝ }
 {
     match cmd {
-        0 => Decoded::Known(Code::Nop),
-        1 => Decoded::Known(Code::Stcycl {
+        0x00 => Decoded::Known(Code::Nop),
+        0x01 => Decoded::Known(Code::Stcycl {
             cl: imm % 256,
             wl: imm / 256 % 256,
         }),
-        2 => Decoded::Known(Code::Offset(imm % ADDRESSES)),
-        3 => Decoded::Known(Code::Base(imm % ADDRESSES)),
-        4 => Decoded::Known(Code::Itop(imm % ADDRESSES)),
-        5 => Decoded::Known(Code::Stmod(imm % 4)),
-        6 => Decoded::Known(Code::Mskpath3(imm / 32768 % 2 == 1)),
-        7 => Decoded::Known(Code::Mark(imm)),
-        16 => Decoded::Known(Code::Flushe),
-        17 => Decoded::Known(Code::Flush),
-        19 => Decoded::Known(Code::Flusha),
-        20 => Decoded::Known(Code::Mscal(imm)),
-        21 => Decoded::Known(Code::Mscalf(imm)),
-        23 => Decoded::Known(Code::Mscnt),
-        32 => Decoded::Known(Code::Stmask),
-        48 => Decoded::Known(Code::Strow),
-        49 => Decoded::Known(Code::Stcol),
-        74 => Decoded::Known(Code::Mpg {
-            address: imm % 2048,
+        0x02 => Decoded::Known(Code::Offset(imm % ADDRESSES)),
+        0x03 => Decoded::Known(Code::Base(imm % ADDRESSES)),
+        0x04 => Decoded::Known(Code::Itop(imm % ADDRESSES)),
+        0x05 => Decoded::Known(Code::Stmod(imm % 4)),
+        0x06 => Decoded::Known(Code::Mskpath3(imm / 32768 % 2 == 1)),
+        0x07 => Decoded::Known(Code::Mark(imm)),
+        0x10 => Decoded::Known(Code::Flushe),
+        0x11 => Decoded::Known(Code::Flush),
+        0x13 => Decoded::Known(Code::Flusha),
+        0x14 => Decoded::Known(Code::Mscal(imm)),
+        0x15 => Decoded::Known(Code::Mscalf(imm)),
+        0x17 => Decoded::Known(Code::Mscnt),
+        0x20 => Decoded::Known(Code::Stmask),
+        0x30 => Decoded::Known(Code::Strow),
+        0x31 => Decoded::Known(Code::Stcol),
+        0x4a => Decoded::Known(Code::Mpg {
+            address: imm % MPG_ADDRESSES,
             num,
         }),
-        80 => Decoded::Known(Code::Direct(quadwords_of(imm))),
-        81 => Decoded::Known(Code::Directhl(quadwords_of(imm))),
+        0x50 => Decoded::Known(Code::Direct(quadwords_of(imm))),
+        0x51 => Decoded::Known(Code::Directhl(quadwords_of(imm))),
         _ => Decoded::Unknown(refusals::CMD_UNLISTED),
     }
 }
@@ -69,22 +71,38 @@ fn unpack_numbers(cmd: u32, num: u32, imm: u32) -> UnpackCode
     }
 }
 
-fn code_of(cmd: u32, num: u32, imm: u32) -> Decoded
-    ensures { λ r. ⌜ r ≡ codeOf cmd num imm ⌝ }
+// Whether a unit has a code below 60h.
+pub(crate) fn code_listed(which: VifUnit, cmd: u32) -> bool
+    ensures { λ r. ⌜ r ≡ codeListed which cmd ⌝ }
 {
-    if 96 <= cmd {
-        unpack_code(
-            unpack::format_named(cmd % 16),
-            unpack_numbers(cmd, num, imm),
-        )
-    } else {
-        plain_code(cmd, num, imm)
+    match which {
+        VifUnit::Vif1 => true,
     }
 }
 
-// A word as a code, or the refusal of one that is not listed.
-pub(crate) fn decode(word: u32) -> Decoded
-    ensures { λ r. ⌜ r ≡ decodeOf word ⌝ }
+fn code_of(which: VifUnit, cmd: u32, num: u32, imm: u32) -> Decoded
+    ensures { λ r. ⌜ r ≡ codeOf which cmd num imm ⌝ }
 {
-    code_of(word / 16777216 % 128, word / 65536 % 256, word % 65536)
+    if 0x60 <= cmd {
+        return unpack_code(
+            unpack::format_named(cmd % 16),
+            unpack_numbers(cmd, num, imm),
+        );
+    }
+    if code_listed(which, cmd) {
+        return plain_code(cmd, num, imm);
+    }
+    Decoded::Unknown(refusals::CMD_UNLISTED)
+}
+
+// A word as a code of a unit, or the refusal of one that is not listed.
+pub(crate) fn decode(which: VifUnit, word: u32) -> Decoded
+    ensures { λ r. ⌜ r ≡ decodeOf which word ⌝ }
+{
+    code_of(
+        which,
+        word / 16777216 % 128,
+        word / 65536 % 256,
+        word % 65536,
+    )
 }

@@ -15,7 +15,8 @@ ghost use mathlib.Core.Path.{_≡_};
 ghost use mathlib.Core.List.{List};
 ghost use Prim.Native.Nat.{ℕ, _+_, _*_, _^_};
 ghost use Rattle.fields.specs.Fields.{quadword};
-ghost use Rattle.vif.specs.Step.{left, lent, giveQuadword, directStep};
+ghost use Rattle.memories.specs.Lengths.{lent};
+ghost use Rattle.vif.specs.Step.{left, giveQuadword, directStep};
 ghost use Rattle.vif.specs.Inner.{GifReady};
 
 fn joined(low: u32, high: u32) -> u64
@@ -37,7 +38,8 @@ fn give(
     used: u64,
 ) -> VifResult
     requires { ⌜ GifReady path2 used (now log) ⌝ }
-    ensures { λ r. ⌜ ((mem code : List ℕ) → left r (lent mem code (now (log .exit))) ≡ giveQuadword (quadword low high) unit path2 due interrupt rest used (lent mem code (now (log .entry)))) ⌝ }
+    ensures { λ r. ⌜ ((mem code : List ℕ) → left r (lent mem code (now (log .exit)))
+        ≡ giveQuadword (quadword low high) unit path2 due interrupt rest used (lent mem code (now (log .entry)))) ⌝ }
 {
     let r = gif::take_quadword(path2, low, high, log, used);
     let answer = r.answer;
@@ -65,7 +67,8 @@ pub(crate) fn direct(
     used: u64,
 ) -> VifResult
     requires { ⌜ GifReady path2 used (now log) ⌝ }
-    ensures { λ r. ⌜ ((mem code : List ℕ) → left r (lent mem code (now (log .exit))) ≡ directStep next unit path2 due interrupt rest used (lent mem code (now (log .entry)))) ⌝ }
+    ensures { λ r. ⌜ ((mem code : List ℕ) → left r (lent mem code (now (log .exit)))
+        ≡ directStep next unit path2 due interrupt rest used (lent mem code (now (log .entry)))) ⌝ }
 {
     match next {
         Incoming::Word0(a, b, c, d) => give(

@@ -17,6 +17,7 @@ use super::registers::with_offset;
 use super::registers::with_start;
 use super::registers::with_waiting;
 use fields::refusals;
+use memories::VifUnit;
 use unpack::ADDRESSES;
 use unpack::Format;
 ghost use mathlib.Core.Path.{_≡_};
@@ -56,15 +57,20 @@ fn next_tops(dbf: bool, unit: Vif) -> u32
 }
 
 // The registers that a program start moves.
-fn start(unit: Vif) -> Vif
-    ensures { λ r. ⌜ r ≡ started unit ⌝ }
+fn start(which: VifUnit, unit: Vif) -> Vif
+    ensures { λ r. ⌜ r ≡ started which unit ⌝ }
 {
-    let dbf = !unit.dbf;
-    let tops = next_tops(dbf, unit);
-    with_start(unit, unit.itops, unit.tops, dbf, tops)
+    match which {
+        VifUnit::Vif1 => {
+            let dbf = !unit.dbf;
+            let tops = next_tops(dbf, unit);
+            with_start(unit, unit.itops, unit.tops, dbf, tops)
+        }
+    }
 }
 
 fn start_program(
+    which: VifUnit,
     register: u64,
     value: u32,
     unit: Vif,
@@ -72,10 +78,10 @@ fn start_program(
     log: &mut [u64],
     used: u64,
 ) -> CodeResult
-    ensures { λ r. ⌜ resultWith r (now (log .exit)) ≡ startProgram register value unit interrupt used (now (log .entry)) ⌝ }
+    ensures { λ r. ⌜ resultWith r (now (log .exit)) ≡ startProgram which register value unit interrupt used (now (log .entry)) ⌝ }
 {
     if gif::write_entry(log, used, register, value as u64) {
-        done(start(unit), interrupt, used + 1)
+        done(start(which, unit), interrupt, used + 1)
     } else {
         answered(VifAnswer::Refused(refusals::LOG_FULL), unit, used)
     }
@@ -102,8 +108,15 @@ fn address_of(u: UnpackCode, tops: u32) -> u32
     }
 }
 
-fn begin_unpack(f: Format, u: UnpackCode, unit: Vif, interrupt: bool, used: u64) -> CodeResult
-    ensures { λ r. ⌜ r ≡ beginUnpack f u unit interrupt used ⌝ }
+fn begin_unpack(
+    which: VifUnit,
+    f: Format,
+    u: UnpackCode,
+    unit: Vif,
+    interrupt: bool,
+    used: u64,
+) -> CodeResult
+    ensures { λ r. ⌜ r ≡ beginUnpack which f u unit interrupt used ⌝ }
 {
     if unpack::cycle_refused(unit.cl, unit.wl) {
         return answered(VifAnswer::Refused(refusals::CYCLE_WRONG), unit, used);
@@ -127,8 +140,15 @@ fn begin_mpg(address: u32, num: u32, unit: Vif, interrupt: bool, used: u64) -> C
 }
 
 // A code's own step.
-fn execute(code: Code, unit: Vif, interrupt: bool, log: &mut [u64], used: u64) -> CodeResult
-    ensures { λ r. ⌜ resultWith r (now (log .exit)) ≡ executeOf code unit interrupt used (now (log .entry)) ⌝ }
+fn execute(
+    which: VifUnit,
+    code: Code,
+    unit: Vif,
+    interrupt: bool,
+    log: &mut [u64],
+    used: u64,
+) -> CodeResult
+    ensures { λ r. ⌜ resultWith r (now (log .exit)) ≡ executeOf which code unit interrupt used (now (log .entry)) ⌝ }
 {
     match code {
         Code::Nop => done(unit, interrupt, used),
@@ -142,25 +162,32 @@ fn execute(code: Code, unit: Vif, interrupt: bool, log: &mut [u64], used: u64) -
         Code::Flushe => done(unit, interrupt, used),
         Code::Flush => done(unit, interrupt, used),
         Code::Flusha => done(unit, interrupt, used),
-        Code::Mscal(x) => start_program(256, x, unit, interrupt, log, used),
-        Code::Mscalf(x) => start_program(257, x, unit, interrupt, log, used),
-        Code::Mscnt => start_program(258, 0, unit, interrupt, log, used),
+        Code::Mscal(x) => start_program(which, 256, x, unit, interrupt, log, used),
+        Code::Mscalf(x) => start_program(which, 257, x, unit, interrupt, log, used),
+        Code::Mscnt => start_program(which, 258, 0, unit, interrupt, log, used),
         Code::Stmask => waits(unit, Waiting::MaskDue(interrupt), used),
         Code::Strow => waits(unit, Waiting::RowDue { due: 4, interrupt }, used),
         Code::Stcol => waits(unit, Waiting::ColDue { due: 4, interrupt }, used),
         Code::Mpg { address, num } => begin_mpg(address, num, unit, interrupt, used),
         Code::Direct(n) => waits(unit, Waiting::DirectDue { due: n, interrupt }, used),
         Code::Directhl(n) => waits(unit, Waiting::DirecthlDue { due: n, interrupt }, used),
-        Code::Unpack(f, u) => begin_unpack(f, u, unit, interrupt, used),
+        Code::Unpack(f, u) => begin_unpack(which, f, u, unit, interrupt, used),
     }
 }
 
 // A word that comes while nothing waits.
-pub(crate) fn take_code(word: u32, unit: Vif, log: &mut [u64], used: u64) -> CodeResult
-    ensures { λ r. ⌜ resultWith r (now (log .exit)) ≡ decodedStep (decodeOf word) unit (interruptOf word) used (now (log .entry)) ⌝ }
+pub(crate) fn take_code(
+    which: VifUnit,
+    word: u32,
+    unit: Vif,
+    log: &mut [u64],
+    used: u64,
+) -> CodeResult
+    ensures { λ r. ⌜ resultWith r (now (log .exit))
+        ≡ decodedStep which (decodeOf which word) unit (interruptOf word) used (now (log .entry)) ⌝ }
 {
-    match decode(word) {
-        Decoded::Known(code) => execute(code, unit, word / 2147483648 == 1, log, used),
+    match decode(which, word) {
+        Decoded::Known(code) => execute(which, code, unit, word / 2147483648 == 1, log, used),
         Decoded::Unknown(n) => answered(VifAnswer::Refused(n), unit, used),
     }
 }

@@ -1,4 +1,4 @@
-// Words of main memory given to the unit one after another.
+// Words of main memory given to a unit one after another.
 use super::Vif;
 use super::VifAnswer;
 use super::WordsResult;
@@ -9,15 +9,18 @@ use super::step::step;
 use super::words::incoming_at;
 use fields::lies_inside;
 use gif::Path;
+use memories::VifUnit;
+use memories::lengths_refusal;
 ghost use mathlib.Core.Path.{_≡_};
 ghost use Prim.Native.Nat.{_+_, _*_, _^_, _<_, _≤_};
-ghost use Rattle.vif.specs.Step.{lent};
+ghost use Rattle.memories.specs.Lengths.{lent};
 ghost use Rattle.vif.specs.Feeds.{fed};
 ghost use Rattle.vif.specs.Feed.{fedOnBy, feedsOf, wordsInside, takesSteps, feedOf};
 ghost use Rattle.vif.specs.Inner.{StepReady, FedReady, fedIn, Gives};
 
 // One step more; one that is refused leaves all as it was.
 fn give_word(
+    which: VifUnit,
     s: WordsResult,
     main: &[u8],
     a: u32,
@@ -25,13 +28,14 @@ fn give_word(
     code: &mut [u8],
     log: &mut [u64],
 ) -> WordsResult
-    requires { ⌜ FedReady (fedIn s (lent (now «data») (now code) (now log))) × (a + 4 * s .words ≤ 1048576) × (s .steps + 1 < 2 ^ 64) ⌝ }
-    ensures { λ r. ⌜ Gives (now (main .entry)) a s (lent (now («data» .entry)) (now (code .entry)) (now (log .entry))) r (lent (now («data» .exit)) (now (code .exit)) (now (log .exit))) ⌝ }
+    requires { ⌜ FedReady which (fedIn s (lent (now «data») (now code) (now log))) × (a + 4 * s .words ≤ 1048576) × (s .steps + 1 < 2 ^ 64) ⌝ }
+    ensures { λ r. ⌜ Gives which (now (main .entry)) a s (lent (now («data» .entry)) (now (code .entry)) (now (log .entry)))
+        r (lent (now («data» .exit)) (now (code .exit)) (now (log .exit))) ⌝ }
 {
     let unit = s.unit;
     let path2 = s.path2;
     let next = incoming_at(main, a + 4 * s.words);
-    let r = step(unit, path2, next, data, code, log, s.used);
+    let r = step(which, unit, path2, next, data, code, log, s.used);
     let answer = r.answer;
     let after = r.unit;
     let path = r.path2;
@@ -44,6 +48,7 @@ fn give_word(
 
 // The words, where all was tested.
 fn give_words(
+    which: VifUnit,
     unit: Vif,
     path2: Path,
     main: &[u8],
@@ -55,8 +60,10 @@ fn give_words(
     log: &mut [u64],
     used: u64,
 ) -> WordsResult
-    requires { ⌜ StepReady unit path2 used (now «data») (now code) (now log) × (a + 4 * count ≤ 1048576) ⌝ }
-    ensures { λ r. ⌜ fedOnBy r (lent (now («data» .exit)) (now (code .exit)) (now (log .exit))) ≡ feedsOf (now (main .entry)) limit a count (fed unit path2 used (lent (now («data» .entry)) (now (code .entry)) (now (log .entry)))) ⌝ }
+    requires { ⌜ StepReady which unit path2 used (lent (now «data») (now code) (now log)) × (a + 4 * count ≤ 1048576) ⌝ }
+    ensures { λ r. ⌜ fedOnBy r (lent (now («data» .exit)) (now (code .exit)) (now (log .exit)))
+        ≡ feedsOf which (now (main .entry)) limit a count
+        (fed unit path2 used (lent (now («data» .entry)) (now (code .entry)) (now (log .entry)))) ⌝ }
 {
     let mut s = taken(unit, path2, used, 0, 0, false);
     loop {
@@ -66,8 +73,8 @@ fn give_words(
         if s.words >= count {
             return s;
         }
-        let b = burst(s, main, a, count, limit, data, code, log);
-        s = give_word(b, main, a, data, code, log);
+        let b = burst(which, s, main, a, count, limit, data, code, log);
+        s = give_word(which, b, main, a, data, code, log);
         if s.interrupt {
             return s;
         }
@@ -90,23 +97,27 @@ fn words_inside(main: &[u8], a: u32, count: u32) -> bool
     false
 }
 
-fn takes_steps(unit: Vif, path2: Path, data: &[u32], code: &[u8], log: &[u64], used: u64) -> bool
-    ensures { λ r. ⌜ r ≡ takesSteps (fed unit path2 used (lent (now («data» .entry)) (now (code .entry)) (now (log .entry)))) ⌝ }
+fn takes_steps(
+    which: VifUnit,
+    unit: Vif,
+    path2: Path,
+    data: &[u32],
+    code: &[u8],
+    log: &[u64],
+    used: u64,
+) -> bool
+    ensures { λ r. ⌜ r
+        ≡ takesSteps which (fed unit path2 used (lent (now («data» .entry)) (now (code .entry)) (now (log .entry)))) ⌝ }
 {
-    if data.len() != 4096 {
+    if lengths_refusal(which, data, code, log, used) != 0 {
         return false;
     }
-    if code.len() != 16384 {
-        return false;
-    }
-    if gif::log_refused(log, used) {
-        return false;
-    }
-    in_range(unit, path2)
+    in_range(which, unit, path2)
 }
 
 // At most `limit` steps with `count` words of main memory from address `a` on, on any input at all.
 pub fn take_words(
+    which: VifUnit,
     unit: Vif,
     path2: Path,
     main: &[u8],
@@ -118,11 +129,25 @@ pub fn take_words(
     log: &mut [u64],
     used: u64,
 ) -> WordsResult
-    ensures { λ r. ⌜ fedOnBy r (lent (now («data» .exit)) (now (code .exit)) (now (log .exit))) ≡ feedOf (now (main .entry)) limit a count (fed unit path2 used (lent (now («data» .entry)) (now (code .entry)) (now (log .entry)))) ⌝ }
+    ensures { λ r. ⌜ fedOnBy r (lent (now («data» .exit)) (now (code .exit)) (now (log .exit)))
+        ≡ feedOf which (now (main .entry)) limit a count
+        (fed unit path2 used (lent (now («data» .entry)) (now (code .entry)) (now (log .entry)))) ⌝ }
 {
     if words_inside(main, a, count) {
-        if takes_steps(unit, path2, data, code, log, used) {
-            return give_words(unit, path2, main, a, count, limit, data, code, log, used);
+        if takes_steps(which, unit, path2, data, code, log, used) {
+            return give_words(
+                which,
+                unit,
+                path2,
+                main,
+                a,
+                count,
+                limit,
+                data,
+                code,
+                log,
+                used,
+            );
         }
     }
     WordsResult {

@@ -1,4 +1,4 @@
-// The VIF1 unit: codes, registers, payload, and DIRECT into the GIF's path 2. What each function means is said by the definitions of specs/.
+// A VIF unit: codes, registers, payload, and DIRECT into the GIF's path 2. What each function means is said by the definitions of specs/.
 mod bursts;
 mod decode;
 mod direct;
@@ -15,6 +15,11 @@ pub use feed::take_words;
 pub use range::unit_in_range;
 pub use step::take;
 pub use words::incoming_at;
+
+// MPG's addresses have eleven bits.
+pub(crate) const MPG_ADDRESSES: u32 = 2048;
+
+pub(crate) const MPG_ADDRESS_MOST: u32 = 2047;
 
 // The numbers of an UNPACK code.
 pub struct UnpackCode {

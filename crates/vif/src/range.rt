@@ -1,12 +1,17 @@
-// The range of the unit.
+// The range of a unit.
+use super::MPG_ADDRESS_MOST;
 use super::Vif;
 use super::Waiting;
+use super::decode::code_listed;
+use memories::VifUnit;
+use unpack::ADDRESS_MOST;
 ghost use mathlib.Core.Path.{_≡_};
 ghost use mathlib.Core.Bool.{_&&_};
 ghost use Prim.Native.Nat.{_+_};
 ghost use lib.Dec.{leb};
 ghost use Rattle.unpack.specs.Range.{cycleInRange, unpackingInRange};
-ghost use Rattle.vif.specs.Range.{upTo, registersInRange, waitingInRange, unitInRange};
+ghost use Rattle.vif.specs.Codes.{mpgAddressMost};
+ghost use Rattle.vif.specs.Range.{upTo, registersInRange, directInRange, waitingInRange, unitInRange};
 
 // A number from 1 to n.
 fn up_to(n: u32, x: u32) -> bool
@@ -27,22 +32,22 @@ fn registers_in_range(unit: Vif) -> bool
     if 255 < unit.wl {
         return false;
     }
-    if 1023 < unit.ofst {
+    if ADDRESS_MOST < unit.ofst {
         return false;
     }
-    if 1023 < unit.base {
+    if ADDRESS_MOST < unit.base {
         return false;
     }
-    if 1023 < unit.tops {
+    if ADDRESS_MOST < unit.tops {
         return false;
     }
-    if 1023 < unit.top {
+    if ADDRESS_MOST < unit.top {
         return false;
     }
-    if 1023 < unit.itops {
+    if ADDRESS_MOST < unit.itops {
         return false;
     }
-    if 1023 < unit.itop {
+    if ADDRESS_MOST < unit.itop {
         return false;
     }
     if 2 < unit.mode {
@@ -52,9 +57,9 @@ fn registers_in_range(unit: Vif) -> bool
 }
 
 fn mpg_in_range(address: u32, count: u32, due: u32) -> bool
-    ensures { λ r. ⌜ r ≡ (leb address 2047 && (upTo 256 count && upTo (count + count) due)) ⌝ }
+    ensures { λ r. ⌜ r ≡ (leb address mpgAddressMost && (upTo 256 count && upTo (count + count) due)) ⌝ }
 {
-    if 2047 < address {
+    if MPG_ADDRESS_MOST < address {
         return false;
     }
     if up_to(256, count) {
@@ -63,8 +68,18 @@ fn mpg_in_range(address: u32, count: u32, due: u32) -> bool
     false
 }
 
-fn waiting_in_range(waiting: Waiting, cl: u32, wl: u32) -> bool
-    ensures { λ r. ⌜ r ≡ waitingInRange waiting cl wl ⌝ }
+// A DIRECT or DIRECTHL, by its CMD.
+fn direct_in_range(which: VifUnit, cmd: u32, due: u32) -> bool
+    ensures { λ r. ⌜ r ≡ directInRange which cmd due ⌝ }
+{
+    if code_listed(which, cmd) {
+        return up_to(65536, due);
+    }
+    false
+}
+
+fn waiting_in_range(which: VifUnit, waiting: Waiting, cl: u32, wl: u32) -> bool
+    ensures { λ r. ⌜ r ≡ waitingInRange which waiting cl wl ⌝ }
 {
     match waiting {
         Waiting::Nothing => true,
@@ -77,8 +92,8 @@ fn waiting_in_range(waiting: Waiting, cl: u32, wl: u32) -> bool
             due,
             interrupt: _,
         } => mpg_in_range(address, count, due),
-        Waiting::DirectDue { due, interrupt: _ } => up_to(65536, due),
-        Waiting::DirecthlDue { due, interrupt: _ } => up_to(65536, due),
+        Waiting::DirectDue { due, interrupt: _ } => direct_in_range(which, 0x50, due),
+        Waiting::DirecthlDue { due, interrupt: _ } => direct_in_range(which, 0x51, due),
         Waiting::UnpackDue(f, u) => unpack_in_range(cl, wl, f, u),
     }
 }
@@ -93,12 +108,12 @@ fn unpack_in_range(cl: u32, wl: u32, f: unpack::Format, u: unpack::Unpacking) ->
 }
 
 // Whether a unit is in its range.
-pub fn unit_in_range(unit: Vif) -> bool
-    ensures { λ r. ⌜ r ≡ unitInRange unit ⌝ }
+pub fn unit_in_range(which: VifUnit, unit: Vif) -> bool
+    ensures { λ r. ⌜ r ≡ unitInRange which unit ⌝ }
 {
     if registers_in_range(unit) {
         let waiting = unit.waiting;
-        return waiting_in_range(waiting, unit.cl, unit.wl);
+        return waiting_in_range(which, waiting, unit.cl, unit.wl);
     }
     false
 }

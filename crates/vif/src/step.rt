@@ -16,23 +16,29 @@ use super::payload::row_word;
 use super::range::unit_in_range;
 use super::registers::with_row;
 use super::registers::with_waiting;
+use fields::refusals;
 use gif::Path;
+use memories::VifUnit;
+use memories::instructions;
+use memories::lengths_refusal;
+use memories::quadwords;
 use unpack::Format;
 use unpack::Registers;
 use unpack::Unpacking;
 ghost use mathlib.Core.Path.{_≡_};
 ghost use mathlib.Core.List.{List};
 ghost use mathlib.Core.Bool.{_&&_};
-ghost use Prim.Native.Nat.{ℕ, _+_, _-_, _≤_};
-ghost use lib.ListN.{length};
+ghost use Prim.Native.Nat.{ℕ, _-_, _≤_};
 ghost use Rattle.gif.specs.Range.{pathInRange};
+ghost use Rattle.memories.specs.Units.{quadwords, instructions};
+ghost use Rattle.memories.specs.Lengths.{lent};
 ghost use Rattle.vif.specs.Range.{unitInRange};
 ghost use Rattle.unpack.specs.Step.{holds};
 ghost use Rattle.vif.specs.declared.VifAnswer.the-variants.{Word};
 ghost use Rattle.vif.specs.declared.Waiting.the-variants.{DirectDue, DirecthlDue};
 ghost use Rattle.vif.specs.Payload.{completes, rowWord, colWord, mpgStored, mpgWord, writeRegisters, unpackUnit};
-ghost use Rattle.vif.specs.Step.{answers, left, lent, wordIn, codeStep, unpackStep, vifStep, takeOf};
-ghost use Rattle.vif.specs.Inner.{UnpackReady, StepReady};
+ghost use Rattle.vif.specs.Step.{answers, left, wordIn, codeStep, unpackStep, vifStep, takeOf};
+ghost use Rattle.vif.specs.Inner.{UnpackReady, MpgReady, StepReady};
 
 fn word_in(next: Incoming) -> u32
     ensures { λ r. ⌜ r ≡ wordIn next ⌝ }
@@ -46,10 +52,18 @@ fn word_in(next: Incoming) -> u32
 }
 
 // A word that comes while nothing waits.
-fn code_word(word: u32, unit: Vif, path2: Path, log: &mut [u64], used: u64) -> VifResult
-    ensures { λ r. ⌜ ((mem code : List ℕ) → left r (lent mem code (now (log .exit))) ≡ codeStep unit path2 word used (lent mem code (now (log .entry)))) ⌝ }
+fn code_word(
+    which: VifUnit,
+    word: u32,
+    unit: Vif,
+    path2: Path,
+    log: &mut [u64],
+    used: u64,
+) -> VifResult
+    ensures { λ r. ⌜ ((mem code : List ℕ) → left r (lent mem code (now (log .exit)))
+        ≡ codeStep which unit path2 word used (lent mem code (now (log .entry)))) ⌝ }
 {
-    let r = take_code(word, unit, log, used);
+    let r = take_code(which, word, unit, log, used);
     let answer = r.answer;
     let after = r.unit;
     answered(answer, after, path2, r.used)
@@ -95,6 +109,7 @@ fn unpack_unit(unit: Vif, f: Format, u: Unpacking, word: u32, row: [u32; 4]) -> 
 
 // A payload word of UNPACK.
 fn unpack_word(
+    which: VifUnit,
     f: Format,
     u: Unpacking,
     word: u32,
@@ -103,12 +118,14 @@ fn unpack_word(
     data: &mut [u32],
     used: u64,
 ) -> VifResult
-    requires { ⌜ UnpackReady unit f u (now «data») ⌝ }
-    ensures { λ r. ⌜ ((code log : List ℕ) → left r (lent (now («data» .exit)) code log) ≡ unpackStep unit path2 f u word used (lent (now («data» .entry)) code log)) ⌝ }
+    requires { ⌜ UnpackReady (quadwords which) unit f u (now «data») ⌝ }
+    ensures { λ r. ⌜ ((code log : List ℕ) → left r (lent (now («data» .exit)) code log)
+        ≡ unpackStep which unit path2 f u word used (lent (now («data» .entry)) code log)) ⌝ }
 {
     let registers = write_registers(unit);
     let row = unit.row;
-    let r = unpack::take_word(1024, f, u, registers, word, row, data);
+    let size = quadwords(which);
+    let r = unpack::take_word(size, f, u, registers, word, row, data);
     let rows = r.row;
     let after = unpack_unit(unit, f, u, word, rows);
     answered(
@@ -162,6 +179,7 @@ fn col_step(word: u32, due: u32, interrupt: bool, unit: Vif, path2: Path, used: 
 
 // A payload word of MPG.
 fn mpg_step(
+    which: VifUnit,
     address: u32,
     count: u32,
     due: u32,
@@ -172,10 +190,12 @@ fn mpg_step(
     code: &mut [u8],
     used: u64,
 ) -> VifResult
-    requires { ⌜ (address ≤ 2047) × (count ≤ 256) × (due ≤ count + count) × (1 ≤ due) × (length (now code) ≡ 16384) ⌝ }
-    ensures { λ r. ⌜ (r ≡ answers (Word (completes due interrupt)) (mpgWord unit address count due interrupt) path2 used) × (now (code .exit) ≡ mpgStored 2048 address count due word (now (code .entry))) ⌝ }
+    requires { ⌜ MpgReady (instructions which) address count due (now code) ⌝ }
+    ensures { λ r. ⌜ (r ≡ answers (Word (completes due interrupt)) (mpgWord unit address count due interrupt) path2 used)
+        × (now (code .exit) ≡ mpgStored (instructions which) address count due word (now (code .entry))) ⌝ }
 {
-    store_mpg(address, count, due, word, code);
+    let size = instructions(which);
+    store_mpg(size, address, count, due, word, code);
     let after = mpg_unit(unit, address, count, due, interrupt);
     answered(
         VifAnswer::Word(completed(due, interrupt)),
@@ -209,6 +229,7 @@ pub(crate) fn directhl_rest(due: u32, n: u32, interrupt: bool) -> Waiting
 
 // Document 01's step, where all was tested.
 pub(crate) fn step(
+    which: VifUnit,
     unit: Vif,
     path2: Path,
     next: Incoming,
@@ -217,13 +238,14 @@ pub(crate) fn step(
     log: &mut [u64],
     used: u64,
 ) -> VifResult
-    requires { ⌜ StepReady unit path2 used (now «data») (now code) (now log) ⌝ }
-    ensures { λ r. ⌜ left r (lent (now («data» .exit)) (now (code .exit)) (now (log .exit))) ≡ vifStep unit path2 next used (lent (now («data» .entry)) (now (code .entry)) (now (log .entry))) ⌝ }
+    requires { ⌜ StepReady which unit path2 used (lent (now «data») (now code) (now log)) ⌝ }
+    ensures { λ r. ⌜ left r (lent (now («data» .exit)) (now (code .exit)) (now (log .exit)))
+        ≡ vifStep which unit path2 next used (lent (now («data» .entry)) (now (code .entry)) (now (log .entry))) ⌝ }
 {
     let word = word_in(next);
     let waiting = unit.waiting;
     match waiting {
-        Waiting::Nothing => code_word(word, unit, path2, log, used),
+        Waiting::Nothing => code_word(which, word, unit, path2, log, used),
         Waiting::MaskDue(i) => answered(VifAnswer::Word(i), mask_word(unit, word), path2, used),
         Waiting::RowDue { due, interrupt } => row_step(word, due, interrupt, unit, path2, used),
         Waiting::ColDue { due, interrupt } => col_step(word, due, interrupt, unit, path2, used),
@@ -232,7 +254,7 @@ pub(crate) fn step(
             count,
             due,
             interrupt: i,
-        } => mpg_step(address, count, due, i, word, unit, path2, code, used),
+        } => mpg_step(which, address, count, due, i, word, unit, path2, code, used),
         Waiting::DirectDue { due, interrupt: i } => {
             direct(next, unit, path2, due, i, direct_rest(due, 1, i), log, used)
         }
@@ -248,21 +270,22 @@ pub(crate) fn step(
                 used,
             )
         }
-        Waiting::UnpackDue(f, u) => unpack_word(f, u, word, unit, path2, data, used),
+        Waiting::UnpackDue(f, u) => unpack_word(which, f, u, word, unit, path2, data, used),
     }
 }
 
-pub(crate) fn in_range(unit: Vif, path2: Path) -> bool
-    ensures { λ r. ⌜ r ≡ (unitInRange unit && pathInRange path2) ⌝ }
+pub(crate) fn in_range(which: VifUnit, unit: Vif, path2: Path) -> bool
+    ensures { λ r. ⌜ r ≡ (unitInRange which unit && pathInRange path2) ⌝ }
 {
-    if unit_in_range(unit) {
+    if unit_in_range(which, unit) {
         return gif::path_in_range(path2);
     }
     false
 }
 
-// The next word given to the unit, on any input at all.
+// The next word given to a unit, on any input at all.
 pub fn take(
+    which: VifUnit,
     unit: Vif,
     path2: Path,
     next: Incoming,
@@ -271,20 +294,21 @@ pub fn take(
     log: &mut [u64],
     used: u64,
 ) -> VifResult
-    ensures { λ r. ⌜ left r (lent (now («data» .exit)) (now (code .exit)) (now (log .exit))) ≡ takeOf unit path2 next used (lent (now («data» .entry)) (now (code .entry)) (now (log .entry))) ⌝ }
+    ensures { λ r. ⌜ left r (lent (now («data» .exit)) (now (code .exit)) (now (log .exit)))
+        ≡ takeOf which unit path2 next used (lent (now («data» .entry)) (now (code .entry)) (now (log .entry))) ⌝ }
 {
-    if data.len() != 4096 {
-        return answered(VifAnswer::Refused(2), unit, path2, used);
+    let refusal = lengths_refusal(which, data, code, log, used);
+    if refusal != 0 {
+        return answered(VifAnswer::Refused(refusal), unit, path2, used);
     }
-    if code.len() != 16384 {
-        return answered(VifAnswer::Refused(3), unit, path2, used);
-    }
-    if gif::log_refused(log, used) {
-        return answered(VifAnswer::Refused(4), unit, path2, used);
-    }
-    if in_range(unit, path2) {
-        step(unit, path2, next, data, code, log, used)
+    if in_range(which, unit, path2) {
+        step(which, unit, path2, next, data, code, log, used)
     } else {
-        answered(VifAnswer::Refused(5), unit, path2, used)
+        answered(
+            VifAnswer::Refused(refusals::OUT_OF_RANGE),
+            unit,
+            path2,
+            used,
+        )
     }
 }

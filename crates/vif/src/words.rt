@@ -10,7 +10,8 @@ ghost use Rattle.vif.specs.Words.{incomingAt};
 // A whole quadword.
 fn quadword_at(main: &[u8], a: u32) -> Incoming
     requires { ⌜ a / 4 % 4 ≡ 0 ⌝ }
-    ensures { λ r. ⌜ r ≡ Word0 (wordAt (now (main .entry)) a) (wordAt (now (main .entry)) (a + 4)) (wordAt (now (main .entry)) (a + 8)) (wordAt (now (main .entry)) (a + 12)) ⌝ }
+    ensures { λ r. ⌜ r
+        ≡ Word0 (wordAt (now (main .entry)) a) (wordAt (now (main .entry)) (a + 4)) (wordAt (now (main .entry)) (a + 8)) (wordAt (now (main .entry)) (a + 12)) ⌝ }
 {
     Incoming::Word0(
         word_at(main, a),

@@ -1,18 +1,24 @@
 use native.Mathlib.Omega.{arith}
-use Rattle.vif.proofs.BurstLaws.{burst-leads}
 use borrow.Author.Needs.{needs}
+use Rattle.vif.proofs.BurstLaws.{burst-leads}
 use Rattle.vif.proofs.bursts.unpack_burst.Statement.{statement}
 use Rattle.vif.proofs.bursts.unpack_burst.Tie as tie
 
 with-words-requires : tie.Need-with-words-requires
 with-words-requires c κs =
-    let n = c .before .before .before .before .before .at-once .ensures in
-    let g = c .before .before .before .before .before .before .before .before .before .before .before .pre .2 in
-    let l = c .before .before .before .before .before .before .before .before .before .before .before .fits .limit in
+    let counted = c .before .before .before .before .before in
+    let start = counted .before .before .before .before .before .before in
+    let n = counted .at-once .ensures in
+    let g = start .pre .2 in
+    let l = start .fits .limit in
     (omega arith, omega arith)
 
 returns : tie.Need-returns
-returns c = λ code log. burst-leads (c .before .before .before .before .before .before .before .before .before .before .before .before .pre .2) (c .before .before .before .before .before .before .at-once .ensures .1) (c .before .before .before .before .before .before .at-once .ensures .2) (c .before .before .before .unpack-words .ensures _ _ code log) (c .with-words .ensures)
+returns c =
+    λ code log.
+    let counted = c .before .before .before .before .before .before in
+    let n = counted .at-once .ensures in
+    burst-leads (counted .before .before .before .before .before .before .pre .2) (n .1) (n .2) (c .before .before .before .unpack-words .ensures _ _ code log) (c .with-words .ensures)
 
 pub unpack-burst-spec : {M : Type 1} → statement M
 unpack-burst-spec =

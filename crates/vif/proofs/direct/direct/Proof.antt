@@ -3,9 +3,6 @@ use borrow.Author.Needs.{needs}
 use Rattle.vif.proofs.direct.direct.Statement.{statement}
 use Rattle.vif.proofs.direct.direct.Tie as tie
 
-enum-told : tie.Need-enum-told
-enum-told c = search needs
-
 returns : tie.Need-returns
 returns c = λ mem code. by-incoming (c .before .before .before .before .before .before .before .next .given .1) _ _ _ _ _ _ _ (rw (← c .before .before .before .before .before .joined .ensures, ← c .before .before .before .before .joined2 .ensures) (c .before .before .give .ensures mem code))
 
@@ -26,7 +23,7 @@ direct-spec =
     (λ c κs. search needs)
     (λ c κs. search needs)
     (λ c κs. search needs)
-    enum-told
+    (λ c. search needs)
     (λ c κs. search needs)
     (λ c. search needs)
     (λ c κs. search needs)

@@ -3,9 +3,6 @@ use borrow.Author.Needs.{needs}
 use Rattle.vif.proofs.direct.give.Statement.{statement}
 use Rattle.vif.proofs.direct.give.Tie as tie
 
-enum-told : tie.Need-enum-told
-enum-told c = search needs
-
 returns : tie.Need-returns
 returns c = λ mem code. gave _ _ _ _ _ _ _ _ _ _ (c .before .before .before .before .before .before .before .before .before .before .before .before .pre) (c .before .before .before .before .before .before .before .before .before .take-quadword .ensures) (by-answer (c .before .before .before .before .enum-told .given .1) _ _ _ _ _ _ _ _ (rw (c .answered .ensures, c .before .with-waiting .ensures, c .before .before .or-nothing .ensures, c .before .before .before .completed .ensures)))
 
@@ -17,7 +14,7 @@ give-spec =
     tie.close
     (tie.spec
     (λ c κs. search needs)
-    enum-told
+    (λ c. search needs)
     (λ c κs. search needs)
     (λ c κs. search needs)
     (λ c κs. search needs)

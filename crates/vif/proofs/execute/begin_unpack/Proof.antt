@@ -11,7 +11,7 @@ unfolding beginUnpack if
 returns c = rw (sym (c .before .before .cycle-refused .ensures) ∙ c .before .if1 .taken) (c .answered .ensures)
 
 returns-2 : tie.Need-returns-2
-returns-2 c = unpack-begun _ _ _ _ _ _ (sym (c .before .before .before .before .cycle-refused .ensures) ∙ c .before .before .before .if1 .left) (c .before .before .address-of .ensures) (c .before .waiting-for .ensures) (c .waits .ensures)
+returns-2 c = unpack-begun _ _ _ _ _ _ _ (sym (c .before .before .before .before .cycle-refused .ensures) ∙ c .before .before .before .if1 .left) (c .before .before .address-of .ensures) (c .before .waiting-for .ensures) (c .waits .ensures)
 
 pub begin-unpack-spec : {M : Type 1} → statement M
 begin-unpack-spec =

@@ -1,25 +1,35 @@
 use mathlib.Core.Path.{sym, _∙_}
+use borrow.Author.Needs.{needs}
 use Rattle.fields.specs.Fields.{if}
 use Rattle.vif.specs.Feed.{feedOf}
 use Rattle.vif.proofs.FeedLaws.{words-few, takes-ready}
-use borrow.Author.Needs.{needs}
 use Rattle.vif.proofs.feed.take_words.Statement.{statement}
 use Rattle.vif.proofs.feed.take_words.Tie as tie
 
 give-words-requires : tie.Need-give-words-requires
-give-words-requires c κs = (takes-ready _ (sym (c .before .before .before .before .takes-steps .ensures) ∙ c .before .before .before .if2 .taken), words-few _ _ _ (sym (c .before .before .before .before .before .before .before .before .before .words-inside .ensures) ∙ c .before .before .before .before .before .before .before .before .if1 .taken))
+give-words-requires c κs =
+    let tested = c .before .before .before in
+    let inside = tested .before .before .before .before .before in
+    (takes-ready _ _ (sym (tested .before .takes-steps .ensures) ∙ tested .if2 .taken), words-few _ _ _ (sym (inside .before .words-inside .ensures) ∙ inside .if1 .taken))
 
-returns : tie.Need-returns
+given : tie.Need-returns
 unfolding feedOf if
-returns c = rw (sym (c .before .before .before .before .before .before .before .before .before .before .before .before .before .before .before .before .words-inside .ensures) ∙ c .before .before .before .before .before .before .before .before .before .before .before .before .before .before .before .if1 .taken, sym (c .before .before .before .before .before .before .before .before .before .before .before .takes-steps .ensures) ∙ c .before .before .before .before .before .before .before .before .before .before .if2 .taken) (c .before .before .before .before .before .before .give-words .ensures)
+given c =
+    let gave = c .before .before .before .before .before .before in
+    let tested = gave .before .before .before .before in
+    let inside = tested .before .before .before .before .before in
+    rw (sym (inside .before .words-inside .ensures) ∙ inside .if1 .taken, sym (tested .before .takes-steps .ensures) ∙ tested .if2 .taken)
+    (gave .give-words .ensures)
 
-returns-2 : tie.Need-returns-2
+not-ready : tie.Need-returns-2
 unfolding feedOf if
-returns-2 c = rw (sym (c .before .before .before .before .before .before .words-inside .ensures) ∙ c .before .before .before .before .before .if1 .taken, sym (c .before .takes-steps .ensures) ∙ c .if2 .left)
+not-ready c =
+    let inside = c .before .before .before .before .before in
+    rw (sym (inside .before .words-inside .ensures) ∙ inside .if1 .taken, sym (c .before .takes-steps .ensures) ∙ c .if2 .left)
 
-returns-3 : tie.Need-returns-3
+outside : tie.Need-returns-3
 unfolding feedOf if
-returns-3 c = rw (sym (c .before .words-inside .ensures) ∙ c .if1 .left)
+outside c = rw (sym (c .before .words-inside .ensures) ∙ c .if1 .left)
 
 pub take-words-spec : {M : Type 1} → statement M
 take-words-spec =
@@ -31,9 +41,9 @@ take-words-spec =
     (λ c. search needs)
     (λ c. search needs)
     (λ c. search needs)
-    returns
+    given
     (λ c. search needs)
     (λ c. search needs)
     (λ c. search needs)
-    returns-2
-    returns-3)
+    not-ready
+    outside)
