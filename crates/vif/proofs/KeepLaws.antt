@@ -1,6 +1,6 @@
 -- A refusal changes nothing, and a step keeps the memories' lengths and the log's room.
 use mathlib.Core.Path.{_≡_, refl, ap}
-use mathlib.Core.Bool.{Bool, false}
+use mathlib.Core.Bool.{Bool, false, not}
 use mathlib.Core.List.{List, [], _∷_}
 use Prim.Native.Nat.{ℕ, _+_, _*_, _-_, _%_, _≤_}
 use native.Mathlib.Omega.{arith}
@@ -14,7 +14,7 @@ use Rattle.fields.proofs.ChoiceLaws.{if-ind, if-ind-by, or-left, or-right}
 use Rattle.gif.specs.declared.Path.{Path}
 use Rattle.gif.specs.declared.GifAnswer.{GifAnswer}
 use Rattle.gif.specs.declared.GifAnswer.the-variants.{Taken, Refused as GifRefused}
-use Rattle.gif.specs.Log.{entry, lacksRoom, logRefused}
+use Rattle.gif.specs.Log.{logMost, entrySize, entry, lacksRoom, logRefused}
 use Rattle.gif.specs.Step.{Left as GifLeft}
 use Rattle.gif.proofs.LogLaws.{logged-length}
 use Rattle.gif.proofs.StepLaws.{Wrote, step-wrote}
@@ -42,7 +42,7 @@ use Rattle.vif.specs.Step.{Left, leaves, refused, wordIn, afterCode, aft
 -- what a step does to the log: entries more, by which `used` grows
 pub record LogGrows (used : ℕ) (log : List ℕ) (used′ : ℕ) (log′ : List ℕ) : Type 0 where
   pub same-length : length log′ ≡ length log
-  pub room : 2 * used′ ≤ length log
+  pub room : entrySize * used′ ≤ length log
 
 -- what a step leaves, as far as lengths and refusals go
 pub record Kept (v : Vif) (p : Path) (used : ℕ) (m : Lent) (o : Left) : Type 0 where
@@ -62,7 +62,7 @@ no-word e = let z : _≡_ {A = ℕ} 0 1 = cc in omega arith
 no-quadword : {i : Bool} {n : ℕ} → Quadword i ≡ Refused n → ⊥
 no-quadword e = let z : _≡_ {A = ℕ} 0 1 = cc in omega arith
 
-module _ (which : VifUnit) (v : Vif) (used : ℕ) (log : List ℕ) (h : 2 * used ≤ length log) where
+module _ (which : VifUnit) (v : Vif) (used : ℕ) (log : List ℕ) (h : entrySize * used ≤ length log) where
   stays : LogGrows used log used log
   stays = record { same-length = refl; room = h }
 
@@ -75,14 +75,14 @@ module _ (which : VifUnit) (v : Vif) (used : ℕ) (log : List ℕ) (h : 2 * used
   does-start : (r x : ℕ) (i : Bool) → Does v used log (startProgram which r x v i used log)
   unfolding startProgram lacksRoom
   does-start r x i =
-      if-ind-by (Does v used log) (ltb (length log) (2 * (used + 1))) (λ e. does-refused logFull)
+      if-ind-by (Does v used log) (ltb (length log) (entrySize * (used + 1))) (λ e. does-refused logFull)
       (λ e.
       record {
         same = λ n q. absurd (no-word q);
         log-grows =
             record {
               same-length = logged-length log used (entry r x ∷ []);
-              room = ltb-false (length log) (2 * (used + 1)) e;
+              room = ltb-false (length log) (entrySize * (used + 1)) e;
             };
       })
 
@@ -117,7 +117,7 @@ module _ (which : VifUnit) (v : Vif) (used : ℕ) (log : List ℕ) (h : 2 * used
   does-decoded (Known c) i = does c i
   does-decoded (Unknown n) i = does-refused n
 
-module _ (which : VifUnit) (v : Vif) (p : Path) (used : ℕ) (m : Lent) (h : 2 * used ≤ length (m .log)) where
+module _ (which : VifUnit) (v : Vif) (p : Path) (used : ℕ) (m : Lent) (h : entrySize * used ≤ length (m .log)) where
   kept-word : (i : Bool) (u : Vif) → Kept v p used m (leaves (Word i) u p used m)
   kept-word i u =
       record {
@@ -197,8 +197,8 @@ module _ (which : VifUnit) (v : Vif) (p : Path) (used : ℕ) (m : Lent) (h : 2 *
 pub log-stays : (used used′ : ℕ) (log log′ : List ℕ) → logRefused log used ≡ false → LogGrows used log used′ log′ → logRefused log′ used′ ≡ false
 unfolding logRefused
 log-stays used used′ log log′ h g =
-    let s = or-right (eqb (length log % 2) 1) _ h in
-    let l : 2 * used′ ≤ length log′ = rw (g .same-length) (g .room) in
-    let a : eqb (length log % 2) 1 ≡ false = or-left _ _ h in
-    let b : ltb 131072 (length log) ≡ false = or-left _ _ s in
-    rw (le-ltb (length log′) (2 * used′) l, g .same-length, a, b)
+    let s = or-right (not (eqb (length log % entrySize) 0)) _ h in
+    let l : entrySize * used′ ≤ length log′ = rw (g .same-length) (g .room) in
+    let a : not (eqb (length log % entrySize) 0) ≡ false = or-left _ _ h in
+    let b : ltb logMost (length log) ≡ false = or-left _ _ s in
+    rw (le-ltb (length log′) (entrySize * used′) l, g .same-length, a, b)

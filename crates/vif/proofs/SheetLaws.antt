@@ -14,7 +14,7 @@ use Rattle.fields.specs.Fields.{if, bits, quadword}
 use Rattle.fields.proofs.ChoiceLaws.{if-ind}
 use Rattle.gif.specs.declared.Path.{Path}
 use Rattle.gif.specs.declared.Place.the-variants.{Idle}
-use Rattle.gif.specs.Log.{entry, logged, lacksRoom}
+use Rattle.gif.specs.Log.{entrySize, entry, logged, lacksRoom}
 use Rattle.gif.specs.Tag.{pathOf, tagQ}
 use Rattle.gif.specs.Step.{gifStep}
 use Rattle.gif.specs.Run.{sheetTag, addressData, addressDatas}
@@ -349,13 +349,13 @@ no-words (n ∷ ns) e = absurd (let z : _≡_ {A = ℕ} 0 1 = cc in omega arith)
 
 -- three NOPs and MSCAL start the program at a, which is one log entry
 pub feeds-start : (which : VifUnit) (v : Vif) (p : Path) (used : ℕ) (m : Lent) (a : ℕ) (ns : List Incoming) → v .waiting ≡ Nothing → a < 65536
-    → 2 * (used + 1) ≤ length (m .log) → wordsIn ns ≡ 0 ∷ 0 ∷ 0 ∷ (335544320 + a) ∷ []
+    → entrySize * (used + 1) ≤ length (m .log) → wordsIn ns ≡ 0 ∷ 0 ∷ 0 ∷ (335544320 + a) ∷ []
     → Feeds which aWord (fed v p used m) ns (fed (started which v) p (used + 1) (lent (m .mem) (m .code) (logged (m .log) used (entry 256 a ∷ []))))
 unfolding startProgram lacksRoom if
 feeds-start which v p used m a ns h inside room q =
     after-nops h ns q
     (λ k ms e q3.
-    more (code-taken which v p used m k h e (start-decoded a inside which) (start-quiet a inside) ∙ rw (le-ltb (length (m .log)) (2 * (used + 1)) room))
+    more (code-taken which v p used m k h e (start-decoded a inside which) (start-quiet a inside) ∙ rw (le-ltb (length (m .log)) (entrySize * (used + 1)) room))
     (no-words ms q3))
 
 -- a program start leaves alone what waits
@@ -526,7 +526,7 @@ module _ (which : VifUnit) (v : Vif) (mem code : List ℕ) where
 
   -- A+D quadwords one after another
   direct-feeds : (n : ℕ) → 0 < n → n < 32768 → (q used : ℕ) (log : List ℕ) {ns : List Incoming} {xs : List ℕ} → QuadwordsIn ns xs
-      → 2 * (used + length xs) ≤ length log
+      → entrySize * (used + length xs) ≤ length log
       → Feeds which aQuadword (fed (withWaiting v (directWaits (length xs))) (pathOf q (sheetPlace n (length xs))) used (lent mem code log)) ns
       (fed (withWaiting v Nothing) (pathOf q Idle) (used + length xs) (lent mem code (logged log used (addressDatas xs))))
   unfolding logged
@@ -547,7 +547,7 @@ feeds-direct which x v p used m n ns h few w =
 
 -- a GIF tag and n A+D quadwords after them write n log entries, and path 2 is idle again
 pub feeds-entries : (which : VifUnit) (v : Vif) (q used : ℕ) (m : Lent) (n : ℕ) (quads : List ℕ) (ms : List Incoming) → v .waiting ≡ Nothing → length quads ≡ n → 1 ≤ n
-    → n ≤ 255 → 2 * (used + n) ≤ length (m .log) → QuadwordsIn ms (sheetTag n ∷ quads)
+    → n ≤ 255 → entrySize * (used + n) ≤ length (m .log) → QuadwordsIn ms (sheetTag n ∷ quads)
     → Feeds which aQuadword (fed (withWaiting v (directWaits (suc n))) (pathOf q Idle) used m) ms
     (fed v (pathOf tagQ Idle) (used + n) (lent (m .mem) (m .code) (logged (m .log) used (addressDatas quads))))
 feeds-entries which v q used m n quads ms h e some few room (one-quadword {a} {b} {c} {d} t r) =
