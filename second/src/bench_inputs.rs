@@ -5,6 +5,7 @@ use crate::chain::{CALL, CNT, END, NEXT, REF, RET};
 use crate::chain_time::MOST_QUADWORDS;
 use crate::gif::Tag;
 use crate::gif_generate::tag_quadword;
+use crate::memory::{INSTRUCTIONS, QUADWORDS};
 use crate::random::Random;
 use crate::vif_counts::all_formats;
 use crate::vif_generate::{code_word, legal_cycle, payload_word, random_mask, stcycl};
@@ -117,7 +118,7 @@ fn v4_32(random: &mut Random, count: usize) -> Vec<u32> {
         let vectors = ((count - words.len() - 1) / 4).min(256);
         words.push(code_word(V4_32, vectors as u32 % 256, address));
         put_random(random, &mut words, 4 * vectors);
-        address = (address + 256) % 1_024;
+        address = (address + 256) % QUADWORDS;
     }
     words.resize(count, NOP);
     words
@@ -132,7 +133,7 @@ fn v3_16_masked(random: &mut Random) -> Vec<u32> {
     words.push(code_word(STCOL, 0, 0));
     put_random(random, &mut words, 4);
     while words.len() < SMALL_WORDS {
-        let address = random.below(1_024) as u32;
+        let address = random.below(QUADWORDS as u64) as u32;
         words.push(code_word(V3_16 | MASKED, 0, address));
         put_random(random, &mut words, 256 * 48 / 32);
     }
@@ -142,7 +143,7 @@ fn v3_16_masked(random: &mut Random) -> Vec<u32> {
 fn s_8(random: &mut Random) -> Vec<u32> {
     let mut words = vec![stcycl(1, 1), code_word(STMOD, 0, 0)];
     while words.len() < SMALL_WORDS {
-        let address = random.below(1_024) as u32;
+        let address = random.below(QUADWORDS as u64) as u32;
         words.push(code_word(S_8, 0, address));
         put_random(random, &mut words, 256 * 8 / 32);
     }
@@ -152,7 +153,7 @@ fn s_8(random: &mut Random) -> Vec<u32> {
 fn mpg(random: &mut Random) -> Vec<u32> {
     let mut words = Vec::new();
     while words.len() < SMALL_WORDS {
-        let address = random.below(2_048) as u32;
+        let address = random.below(INSTRUCTIONS as u64) as u32;
         words.push(code_word(MPG, 0, address));
         put_random(random, &mut words, 2 * 256);
     }

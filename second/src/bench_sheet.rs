@@ -3,6 +3,7 @@
 use crate::bench::{measure, Timed, SMALL, TRIES};
 use crate::compare::Program;
 use crate::random::Random;
+use crate::refusals;
 use crate::sheet::{self, MOST_SHEET};
 use crate::sheet_random::{good_record, sheet_of, CODE, DATA, GS, START};
 use crate::sheet_time::{input, result};
@@ -46,7 +47,7 @@ fn line(program: &Program, own: &Program, sheet: &[u8]) -> Result<String, String
 /// The number that a result gives for a refused sheet, else 0.
 fn refusals(result: &[u8]) -> u32 {
     match word(result, 0) {
-        number @ 40..=47 => number,
+        number @ refusals::MARK..=refusals::OUTPUT => number,
         _ => 0,
     }
 }

@@ -1,25 +1,24 @@
-//! State blocks, capture files and their results.
+//! Capture files and their results.
 
 use crate::capture_counts::Counts;
-use crate::chain::{self, Memories, Pending, State, Step};
-use crate::gif;
-use crate::gif_cases::{self, fill_number};
-use crate::vif_cases::{self, bit, code_words, describe_changes, write_changes};
+use crate::chain::{self, Memories, State, Step};
+use crate::gif_cases::fill_number;
+use crate::memory::cases::{MOST_CODE, MOST_DATA, MOST_LOG, MOST_MAIN};
+use crate::refusals;
+use crate::state_block::{
+    self, bit, describe_state, read_state, write_state, StateBlock, STATE_WORDS,
+};
+use crate::vif_cases::{code_words, describe_changes, write_changes};
 use crate::words::{number, put_number, put_word, word, WORD};
 
 pub const MARK: u32 = 0x5041_4354;
-pub const MOST_MAIN: u32 = 1_048_608;
-pub const MOST_DATA: u32 = 4_100;
-pub const MOST_CODE: u32 = 16_392;
-pub const MOST_LOG: u32 = 131_080;
 pub const MOST_CALLS: u32 = 65_535;
+/// The word of a case at which the state block starts.
+const STATE_AT: usize = 10;
 /// The words of a case before its calls.
-pub const HEADER: usize = 73;
+pub const HEADER: usize = STATE_AT + STATE_WORDS;
 /// The words of a call.
 const CALL: usize = 4;
-
-/// A state block as it lies in files.
-pub type Block = [u32; 63];
 
 #[derive(Clone, Copy, PartialEq, Eq, Debug)]
 pub enum Call {
@@ -38,7 +37,7 @@ pub struct Case {
     pub fill: u64,
     /// Results show whole memories.
     pub whole: bool,
-    pub state: Block,
+    pub state: StateBlock,
     pub calls: Vec<Call>,
 }
 
@@ -89,68 +88,11 @@ impl Call {
     }
 }
 
-/// The state of a block; none where it exists in no state.
-pub fn read_block(block: &Block) -> Option<State> {
-    let depth = block[4] as usize;
-    if depth > chain::STACK {
-        return None;
-    }
-    let mut stack = [0; chain::STACK];
-    stack[..depth].copy_from_slice(&block[5..5 + depth]);
-    let unit: vif_cases::Block = block[13..45].try_into().unwrap();
-    let path2: gif_cases::Block = block[45..54].try_into().unwrap();
-    let path3: gif_cases::Block = block[54..63].try_into().unwrap();
-    Some(State {
-        channel: block[0],
-        tadr: block[1],
-        tte: bit(block[2])?,
-        ended: bit(block[3])?,
-        depth,
-        stack,
-        tag_word: bit(block[7])?.then_some(block[8]),
-        payload: (block[9] > 0).then_some(Pending {
-            address: block[10],
-            words: block[9],
-        }),
-        used: block[11] as u64 | (block[12] as u64) << 32,
-        unit: vif_cases::read_block(&unit)?,
-        path2: gif_cases::read_block(&path2)?,
-        path3: gif_cases::read_block(&path3)?,
-    })
-}
-
-pub fn write_block(state: &State) -> Block {
-    let mut block = [0; 63];
-    let pending = state.payload.unwrap_or(Pending {
-        address: 0,
-        words: 0,
-    });
-    block[..13].copy_from_slice(&[
-        state.channel,
-        state.tadr,
-        state.tte as u32,
-        state.ended as u32,
-        state.depth as u32,
-        state.stack[0],
-        state.stack[1],
-        state.tag_word.is_some() as u32,
-        state.tag_word.unwrap_or(0),
-        pending.words,
-        pending.address,
-        state.used as u32,
-        (state.used >> 32) as u32,
-    ]);
-    block[13..45].copy_from_slice(&vif_cases::write_block(&state.unit));
-    block[45..54].copy_from_slice(&gif_cases::write_block(&state.path2));
-    block[54..63].copy_from_slice(&gif_cases::write_block(&state.path3));
-    block
-}
-
 /// What stands while the calls of a case are made.
 pub struct Standing {
     /// None where the case's block exists in no state.
     pub state: Option<State>,
-    given: Block,
+    given: StateBlock,
     pub main: Vec<u8>,
     pub data: Vec<u32>,
     pub code: Vec<u8>,
@@ -163,7 +105,7 @@ impl Standing {
         let mut main: Vec<u8> = case.main.iter().flat_map(|w| w.to_le_bytes()).collect();
         main.resize(case.main_length as usize, 0);
         Standing {
-            state: read_block(&case.state),
+            state: read_state(&case.state),
             given: case.state,
             main,
             data: (0..case.data_length).map(|i| number(0, i) as u32).collect(),
@@ -176,7 +118,7 @@ impl Standing {
     pub fn start(&mut self, channel: u32, tadr: u32, tte: u32) -> u32 {
         match (&mut self.state, bit(tte)) {
             (Some(state), Some(tte)) => chain::start(state, channel, tadr, tte).err().unwrap_or(0),
-            _ => gif::REFUSED_RANGE,
+            _ => refusals::RANGE,
         }
     }
 
@@ -197,7 +139,7 @@ impl Standing {
             Some(state) => chain::run(state, &mut memories, allowance, watch),
             None => {
                 let refusal = chain::check_lengths(&memories, used).err();
-                (refusal.unwrap_or(gif::REFUSED_RANGE), 0)
+                (refusal.unwrap_or(refusals::RANGE), 0)
             }
         }
     }
@@ -206,13 +148,13 @@ impl Standing {
     pub fn used(&self) -> u64 {
         match &self.state {
             Some(state) => state.used,
-            None => self.given[11] as u64 | (self.given[12] as u64) << 32,
+            None => state_block::used(&self.given),
         }
     }
 
-    pub fn block(&self) -> Block {
+    pub fn block(&self) -> StateBlock {
         match &self.state {
-            Some(state) => write_block(state),
+            Some(state) => write_state(state),
             None => self.given,
         }
     }
@@ -268,7 +210,7 @@ pub fn first_case(bytes: &[u8]) -> Option<(Case, usize)> {
         log_length: head(5),
         fill: number(bytes, 6),
         whole: head(8) == 1,
-        state: std::array::from_fn(|i| head(10 + i)),
+        state: std::array::from_fn(|i| head(STATE_AT + i)),
         calls: calls?,
     };
     Some((case, end * WORD))
@@ -370,12 +312,12 @@ fn run_case(case: &Case, index: usize, results: &mut Results, counts: &mut Count
                 let answer = standing.start(channel, tadr, tte);
                 counts.note_start(&before, (channel, tadr, tte), answer, &standing);
                 put_word(out, answer);
-                write_state(out, &standing);
+                put_block(out, &standing);
             }
             Call::Run { allowance } => {
                 let before = standing.block();
                 counts.begin_run(&standing);
-                let log_length = standing.log.len() as u64;
+                let log_length = standing.log.len();
                 let watch = |old: &State, new: &State, tried| {
                     counts.note_step(old, new, tried, log_length);
                 };
@@ -383,7 +325,7 @@ fn run_case(case: &Case, index: usize, results: &mut Results, counts: &mut Count
                 counts.note_run(&before, allowance, answer, steps, &standing);
                 put_word(out, answer);
                 put_number(out, steps);
-                write_state(out, &standing);
+                put_block(out, &standing);
                 if case.whole {
                     write_memories(out, &standing);
                 } else {
@@ -395,7 +337,7 @@ fn run_case(case: &Case, index: usize, results: &mut Results, counts: &mut Count
     }
 }
 
-fn write_state(out: &mut Vec<u8>, standing: &Standing) {
+fn put_block(out: &mut Vec<u8>, standing: &Standing) {
     for w in standing.block() {
         put_word(out, w);
     }
@@ -436,7 +378,7 @@ pub fn describe_result(bytes: &[u8], call: &Call, case: &Case) -> String {
         Call::Start { .. } => 1,
         Call::Run { .. } => 3,
     };
-    if have < head + 63 {
+    if have < head + STATE_WORDS {
         let end = bytes.len().min(80);
         let text = String::from_utf8_lossy(&bytes[..end]);
         return format!("cut after {} bytes: {}", bytes.len(), text.escape_debug());
@@ -445,10 +387,10 @@ pub fn describe_result(bytes: &[u8], call: &Call, case: &Case) -> String {
     if head == 3 {
         text.push_str(&format!(", {} steps", number(bytes, 1)));
     }
-    let block: Block = std::array::from_fn(|i| word(bytes, head + i));
-    text.push_str(&format!("\n    {}", describe_block(&block)));
+    let block = std::array::from_fn(|i| word(bytes, head + i));
+    text.push_str(&format!("\n    {}", describe_state(&block)));
     if head == 3 && !case.whole {
-        let (changes, sums_at) = describe_changes(bytes, head + 63);
+        let (changes, sums_at) = describe_changes(bytes, head + STATE_WORDS);
         text.push_str(&changes);
         for (i, name) in ["data", "code", "log"].iter().enumerate() {
             let Some(at) = sums_at.map(|at| at + 4 * i).filter(|at| have >= at + 4) else {
@@ -464,27 +406,6 @@ pub fn describe_result(bytes: &[u8], call: &Call, case: &Case) -> String {
     text
 }
 
-pub fn describe_block(block: &Block) -> String {
-    format!(
-        "state: channel {}, TADR {:X}, TTE {}, ended {}, stack of {} {:X?}, tag words {} at {:X}, \
-         payload {} words at {:X}, entries used {}\n    {}\n    2 {}\n    3 {}",
-        block[0],
-        block[1],
-        block[2],
-        block[3],
-        block[4],
-        &block[5..7],
-        block[7],
-        block[8],
-        block[9],
-        block[10],
-        block[11] as u64 | (block[12] as u64) << 32,
-        vif_cases::describe_block(block[13..45].try_into().unwrap()),
-        gif_cases::describe_block(block[45..54].try_into().unwrap()),
-        gif_cases::describe_block(block[54..63].try_into().unwrap()),
-    )
-}
-
 /// The head of a case, its calls up to `last`, and the last steps of that call.
 pub fn describe_case(case: &Case, last: usize) -> String {
     let mut text = format!(
@@ -497,7 +418,7 @@ pub fn describe_case(case: &Case, last: usize) -> String {
         case.fill,
         case.whole as u32,
         case.calls.len(),
-        describe_block(&case.state),
+        describe_state(&case.state),
     );
     let mut standing = Standing::new(case);
     for (i, call) in case.calls[..=last].iter().enumerate() {

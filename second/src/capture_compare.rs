@@ -6,6 +6,7 @@ use crate::capture_cases::{
 use crate::capture_counts::Counts;
 use crate::capture_generate::generate;
 use crate::compare::{first_difference, table, zeros, Program};
+use crate::memory::cases::{MOST_CODE, MOST_DATA, MOST_LOG, MOST_MAIN};
 use crate::random::Random;
 use crate::words::{word, WORD};
 
@@ -142,11 +143,11 @@ fn spoil_case(made: &mut Vec<(String, Vec<u8>)>, file: &[u8], start: usize, inde
     spoil("mark with its first bit flipped", 0, mark ^ 1);
     spoil("mark with its last bit flipped", 0, mark ^ 1 << 31);
     let limits = [
-        ("M", 1, capture_cases::MOST_MAIN),
+        ("M", 1, MOST_MAIN),
         ("P", 2, held(1) / 4),
-        ("D", 3, capture_cases::MOST_DATA),
-        ("C", 4, capture_cases::MOST_CODE),
-        ("L", 5, capture_cases::MOST_LOG),
+        ("D", 3, MOST_DATA),
+        ("C", 4, MOST_CODE),
+        ("L", 5, MOST_LOG),
         ("mode", 8, 1),
         ("n", 9, capture_cases::MOST_CALLS),
     ];

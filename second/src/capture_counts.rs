@@ -1,19 +1,44 @@
 //! What captures reached.
 
-use crate::capture_cases::{read_block, write_block, Block, Case, Standing};
+use crate::capture_cases::{Case, Standing};
 use crate::chain::{self, Next, State, Step, Tag};
 use crate::gif::{self, Path, Place};
-use crate::gif_cases;
-use crate::vif::{self, Payload};
-use crate::vif_cases::waiting_number;
-use crate::vif_counts::{field_names, wrong_fields, WAITING};
+use crate::log;
+use crate::memory::{CODE_BYTES, DATA_WORDS, MOST_MAIN};
+use crate::refusals;
+use crate::state_block::{
+    self, chain_word, part, read_path, read_state, unit_word, used, waiting_name, waiting_number,
+    write_state, StateBlock, PATHS, UNIT, WAITING,
+};
+use crate::vif::Payload;
+use crate::vif_counts::{field_names, wrong_fields};
 use std::collections::HashMap;
 
 const IDS: [&str; 8] = ["refe", "cnt", "next", "ref", "refs", "call", "ret", "end"];
 /// The refusals at entry, in order.
-const ENTRY: [u32; 6] = [1, 2, 3, 4, 5, 14];
+const ENTRY: [u32; 6] = [
+    refusals::MAIN,
+    refusals::DATA,
+    refusals::CODE,
+    refusals::LOG,
+    refusals::RANGE,
+    refusals::OUTSIDE,
+];
 /// The refusals of steps.
-const STEPS: [u32; 12] = [10, 11, 12, 13, 14, 20, 21, 22, 23, 24, 30, 31];
+const STEPS: [u32; 12] = [
+    refusals::TADR,
+    refusals::ADDR,
+    refusals::SPR,
+    refusals::CALL,
+    refusals::OUTSIDE,
+    refusals::COMMAND,
+    refusals::FORMAT,
+    refusals::CYCLE,
+    refusals::MODE,
+    refusals::PLACE,
+    refusals::DESCRIPTOR,
+    refusals::ROOM,
+];
 /// The fields of a state block before the unit block that can be out of range.
 const FIELDS: [&str; 18] = [
     "channel",
@@ -94,8 +119,8 @@ impl Counts {
             "cases with main memory not all given",
             given + 16 <= case.main_length,
         );
-        if let Some(state) = read_block(&case.state) {
-            let junk = write_block(&state) != case.state;
+        if let Some(state) = read_state(&case.state) {
+            let junk = write_state(&state) != case.state;
             self.add_if("state blocks with words that mean nothing", junk);
         }
         self.add_if(
@@ -119,7 +144,7 @@ impl Counts {
     }
 
     /// Notes a step that was tried.
-    pub fn note_step(&mut self, old: &State, new: &State, tried: Result<Step, u32>, log: u64) {
+    pub fn note_step(&mut self, old: &State, new: &State, tried: Result<Step, u32>, log: usize) {
         let Ok(step) = tried else {
             return;
         };
@@ -148,7 +173,7 @@ impl Counts {
             }
             Step::Path3 => self.path3_quadwords += 1,
         }
-        if new.used > old.used && 2 * new.used == log {
+        if new.used > old.used && log::is_full(log, new.used) {
             self.add("log exactly full after a write");
         }
         if step.interrupt() {
@@ -186,7 +211,7 @@ impl Counts {
         }
         if state.channel == 1 {
             if let Some(waiting) = &state.unit.waiting {
-                let name = WAITING[waiting_number(&waiting.payload) as usize - 1];
+                let name = waiting_name(waiting_number(&waiting.payload));
                 self.add(&format!("runs that go on with {name} waiting"));
             }
         }
@@ -227,7 +252,7 @@ impl Counts {
         let back = tag.id == chain::NEXT && new.tadr <= old.tadr;
         self.add_if("next that goes back", back);
         if let (1, Some(waiting)) = (old.channel, &old.unit.waiting) {
-            let name = WAITING[waiting_number(&waiting.payload) as usize - 1];
+            let name = waiting_name(waiting_number(&waiting.payload));
             self.add(&format!("tags read with {name} waiting"));
         }
         let path3 = old.channel == 2 && old.path3.place != Place::Idle;
@@ -236,7 +261,7 @@ impl Counts {
 
     pub fn note_run(
         &mut self,
-        before: &Block,
+        before: &StateBlock,
         allowance: u64,
         answer: u32,
         steps: u64,
@@ -328,7 +353,7 @@ impl Counts {
     /// Notes a refused step; the state is that before it.
     fn note_refused_step(&mut self, state: &State, refusal: u32) {
         match state.next() {
-            Next::Tag if refusal == chain::REFUSED_TADR => {
+            Next::Tag if refusal == refusals::TADR => {
                 let end = state.tadr as usize == self.main_length;
                 self.add_if("refused 10, TADR just after memory", end);
                 self.add_if("refused 10, TADR from 2^30", state.tadr >= 1 << 30);
@@ -337,23 +362,23 @@ impl Counts {
             Next::TagWord(address) => {
                 self.add_if(
                     &format!("refused 24 at tag word {}", address / 4 % 4),
-                    refusal == vif::REFUSED_PLACE,
+                    refusal == refusals::PLACE,
                 );
-                self.add_if("refused 20 at a tag word", refusal == vif::REFUSED_COMMAND);
-                self.add_if("refused 31 at a tag word", refusal == gif::REFUSED_ROOM);
+                self.add_if("refused 20 at a tag word", refusal == refusals::COMMAND);
+                self.add_if("refused 31 at a tag word", refusal == refusals::ROOM);
             }
             Next::Payload(_) if state.channel == 2 => {
                 self.add(&format!("refused {refusal}, channel 2"));
             }
             Next::Payload(pending) => match (refusal, waits_for_quadwords(state)) {
-                (vif::REFUSED_PLACE, _) => {
+                (refusals::PLACE, _) => {
                     let number = pending.address / 4 % 4;
                     self.add(&format!("refused 24 at payload word {number}"));
                 }
-                (gif::REFUSED_DESCRIPTOR | gif::REFUSED_ROOM, true) => {
+                (refusals::DESCRIPTOR | refusals::ROOM, true) => {
                     self.add(&format!("refused {refusal} inside DIRECT"));
                 }
-                (gif::REFUSED_ROOM, false) => self.add("refused 31 at a code"),
+                (refusals::ROOM, false) => self.add("refused 31 at a code"),
                 _ => {}
             },
         }
@@ -367,20 +392,20 @@ impl Counts {
         let outside =
             tag.qwc > 0 && !chain::inside(self.main_length, tag.payload_at(state.tadr), bytes);
         match refusal {
-            chain::REFUSED_ADDR => {
+            refusals::ADDR => {
                 self.add(&format!("refused 11, {id}"));
                 self.add_if("refused 11 with QWC 0", tag.qwc == 0);
                 self.add_if("refused 11, 12 would be next", tag.spr);
                 self.add_if("refused 11, 13 would be next", !tag.spr && full);
                 self.add_if("refused 11, 14 would be next", !tag.spr && !full && outside);
             }
-            chain::REFUSED_SPR => {
+            refusals::SPR => {
                 self.add(&format!("refused 12, {id}"));
                 self.add_if("refused 12 with QWC 0", tag.qwc == 0);
                 self.add_if("refused 12, 13 would be next", full);
                 self.add_if("refused 12, 14 would be next", !full && outside);
             }
-            chain::REFUSED_CALL => {
+            refusals::CALL => {
                 self.add_if("refused 13 with QWC 0", tag.qwc == 0);
                 self.add_if("refused 13, 14 would be next", outside);
             }
@@ -396,7 +421,7 @@ impl Counts {
 
     fn note_entry(
         &mut self,
-        before: &Block,
+        before: &StateBlock,
         wrong: &[u32],
         first: u32,
         allowance: u64,
@@ -410,19 +435,19 @@ impl Counts {
         );
         let length = now.main.len();
         match first {
-            chain::REFUSED_MAIN => self.add(if length == 0 {
+            refusals::MAIN => self.add(if length == 0 {
                 "refused 1, no main memory"
-            } else if length > chain::MOST_MAIN {
+            } else if length > MOST_MAIN {
                 "refused 1, main memory too long"
             } else {
                 "refused 1, no multiple of 16"
             }),
-            gif::REFUSED_RANGE => {
+            refusals::RANGE => {
                 if let [field] = &state_fields(before)[..] {
                     self.add(&format!("run refused 5, {field}"));
                 }
             }
-            chain::REFUSED_OUTSIDE => {
+            refusals::OUTSIDE => {
                 let state = now.state.as_ref().expect("14 is about an existing state");
                 let tag_word = state
                     .tag_word
@@ -446,7 +471,7 @@ impl Counts {
 
     pub fn note_start(
         &mut self,
-        before: &Block,
+        before: &StateBlock,
         values: (u32, u32, u32),
         answer: u32,
         now: &Standing,
@@ -465,7 +490,7 @@ impl Counts {
             }
             return;
         }
-        let old = read_block(before).expect("a start on no state is refused");
+        let old = read_state(before).expect("a start on no state is refused");
         self.add(&format!("start on channel {channel}, TTE {tte}"));
         self.add_if("start drops tag words", old.tag_word.is_some());
         self.add_if("start drops payload", old.payload.is_some());
@@ -566,16 +591,15 @@ fn entry_name(first: u32, next: Option<u32>) -> String {
 }
 
 /// The numbers of all that is wrong at a run's entry, in order.
-fn wrong_at_entry(before: &Block, now: &Standing) -> Vec<u32> {
-    let state = read_block(before);
-    let used = before[11] as u64 | (before[12] as u64) << 32;
+fn wrong_at_entry(before: &StateBlock, now: &Standing) -> Vec<u32> {
+    let state = read_state(before);
     let main = now.main.len();
     let wrong = |refusal: u32| match refusal {
-        chain::REFUSED_MAIN => main == 0 || main % 16 != 0 || main > chain::MOST_MAIN,
-        vif::REFUSED_DATA => now.data.len() != vif::DATA_WORDS,
-        vif::REFUSED_CODE => now.code.len() != vif::CODE_BYTES,
-        gif::REFUSED_LOG => !gif::log_in_range(now.log.len(), used),
-        gif::REFUSED_RANGE => !state.as_ref().is_some_and(chain::in_range),
+        refusals::MAIN => main == 0 || main % 16 != 0 || main > MOST_MAIN,
+        refusals::DATA => now.data.len() != DATA_WORDS,
+        refusals::CODE => now.code.len() != CODE_BYTES,
+        refusals::LOG => !log::in_range(now.log.len(), used(before)),
+        refusals::RANGE => !state.as_ref().is_some_and(chain::in_range),
         _ => state
             .as_ref()
             .is_some_and(|state| !chain::pending_inside(state, main)),
@@ -588,58 +612,66 @@ fn wrong_at_entry(before: &Block, now: &Standing) -> Vec<u32> {
 
 /// Whether STMASK waits with other than one word due in a block that has words that mean nothing
 /// and would be a state's else.
-pub fn junk_beside_stmask(block: &Block) -> bool {
+pub fn junk_beside_stmask(block: &StateBlock) -> bool {
+    let due = UNIT + unit_word::DUE;
     let mut mended = *block;
-    mended[36] = 1;
-    let junk = read_block(&mended).is_some_and(|state| write_block(&state) != mended);
-    block[34] == 1 && block[36] != 1 && junk
+    mended[due] = 1;
+    let junk = read_state(&mended).is_some_and(|state| write_state(&state) != mended);
+    block[UNIT + unit_word::WAITING] == state_block::STMASK && block[due] != 1 && junk
 }
 
 /// The fields of a state block that are out of their range, by name.
-fn state_fields(block: &Block) -> Vec<String> {
-    let mut wrong: Vec<&str> = Vec::new();
-    let mut add_if = |name: &'static str, is: bool| {
-        if is {
-            wrong.push(name);
-        }
-    };
-    let (channel, tadr, tte) = (block[0], block[1], block[2]);
-    let limit = chain::MOST_MAIN as u32;
-    add_if(FIELDS[0], channel != 1 && channel != 2);
-    add_if(FIELDS[1], tadr % 16 != 0);
-    add_if(FIELDS[2], tadr >= 1 << 31);
-    add_if(FIELDS[3], tte > 1);
-    add_if(FIELDS[4], tte == 1 && channel == 2);
-    add_if(FIELDS[5], block[3] > 1);
-    add_if(FIELDS[6], block[4] > 2);
-    for i in 0..block[4].min(2) as usize {
-        add_if(FIELDS[7 + 2 * i], block[5 + i] % 16 != 0);
-        add_if(FIELDS[8 + 2 * i], block[5 + i] > limit);
-    }
-    add_if(FIELDS[11], block[7] > 1);
-    if block[7] == 1 {
-        add_if(FIELDS[12], tte == 0);
-        add_if(FIELDS[13], !matches!(block[8] % 16, 8 | 12));
-    }
-    let (words, address) = (block[9], block[10]);
-    if words > 0 {
-        add_if(FIELDS[14], words > chain::MOST_PENDING);
-        add_if(FIELDS[15], address % 4 != 0);
-        let halfway = address % 4 == 0 && address % 16 != 0;
-        add_if(FIELDS[16], channel == 2 && halfway);
-        add_if(FIELDS[17], (address as u64 / 4 + words as u64) % 4 != 0);
-    }
+fn state_fields(block: &StateBlock) -> Vec<String> {
+    let wrong = wrong_chain_fields(block);
     let mut wrong: Vec<String> = wrong.into_iter().map(String::from).collect();
-    wrong.extend(wrong_fields(block[13..45].try_into().unwrap()));
-    for (number, at) in [(2, 45), (3, 54)] {
-        let path = block[at..at + 9].try_into().unwrap();
-        match gif_cases::read_block(path) {
+    wrong.extend(wrong_fields(&part(block, UNIT)));
+    for (number, at) in PATHS {
+        match read_path(&part(block, at)) {
             None => wrong.push(format!("path {number} in no path")),
             Some(path) if !gif::path_in_range(&path) => {
                 wrong.push(format!("path {number} out of range"));
             }
             Some(_) => {}
         }
+    }
+    wrong
+}
+
+/// The same for the words before the other blocks.
+fn wrong_chain_fields(block: &StateBlock) -> Vec<&'static str> {
+    let mut wrong: Vec<&str> = Vec::new();
+    let mut add_if = |name: &'static str, is: bool| {
+        if is {
+            wrong.push(name);
+        }
+    };
+    let [channel, tadr, tte] = part(block, chain_word::CHANNEL);
+    add_if(FIELDS[0], channel != 1 && channel != 2);
+    add_if(FIELDS[1], tadr % 16 != 0);
+    add_if(FIELDS[2], tadr >= 1 << 31);
+    add_if(FIELDS[3], tte > 1);
+    add_if(FIELDS[4], tte == 1 && channel == 2);
+    add_if(FIELDS[5], block[chain_word::ENDED] > 1);
+    let depth = block[chain_word::DEPTH] as usize;
+    add_if(FIELDS[6], depth > chain::STACK);
+    for i in 0..depth.min(chain::STACK) {
+        let address = block[chain_word::STACK + i];
+        add_if(FIELDS[7 + 2 * i], address % 16 != 0);
+        add_if(FIELDS[8 + 2 * i], address as usize > MOST_MAIN);
+    }
+    let tag_words = block[chain_word::TAG_WORDS];
+    let place = block[chain_word::TAG_WORD_AT] % 16;
+    add_if(FIELDS[11], tag_words > 1);
+    add_if(FIELDS[12], tag_words == 1 && tte == 0);
+    add_if(FIELDS[13], tag_words == 1 && !matches!(place, 8 | 12));
+    let words = block[chain_word::PAYLOAD_WORDS];
+    let address = block[chain_word::PAYLOAD_AT];
+    if words > 0 {
+        add_if(FIELDS[14], words > chain::MOST_PENDING);
+        add_if(FIELDS[15], address % 4 != 0);
+        let halfway = address % 4 == 0 && address % 16 != 0;
+        add_if(FIELDS[16], channel == 2 && halfway);
+        add_if(FIELDS[17], (address as u64 / 4 + words as u64) % 4 != 0);
     }
     wrong
 }
@@ -690,7 +722,7 @@ fn names() -> Vec<String> {
         add(format!("run refused 5, {field}"));
         add(format!("start refused 5, {field}"));
     }
-    for refusal in [1, 2, 3, 4, 14] {
+    for refusal in ENTRY.into_iter().filter(|&r| r != refusals::RANGE) {
         add(format!("start where a run is refused {refusal}"));
     }
     for name in WAITING {
@@ -713,7 +745,7 @@ fn names() -> Vec<String> {
         add(format!("allowance used before tag word {number}"));
         add(format!("refused 24 at tag word {number}"));
     }
-    for refusal in [30, 31] {
+    for refusal in [refusals::DESCRIPTOR, refusals::ROOM] {
         add(format!("refused {refusal}, channel 2"));
         add(format!("refused {refusal} inside DIRECT"));
     }

@@ -1,23 +1,31 @@
 //! Captures from a seed.
 
-use crate::capture_cases::{
-    read_block, write_block, Block, Call, Case, Standing, MOST_CODE, MOST_DATA, MOST_MAIN,
-};
+use crate::capture_cases::{Call, Case, Standing};
 use crate::chain::{self, Memories, Next, Pending, State, Tag};
 use crate::gif::{self, Format, Path, Place};
-use crate::gif_cases;
 use crate::gif_generate::{
     random_held_block, random_log, random_no_path_block, random_out_of_range_block, random_tag,
     tag_quadword,
 };
+use crate::log;
+use crate::memory::cases::{MOST_CODE, MOST_DATA, MOST_LOG, MOST_MAIN};
+use crate::memory::{self, CODE_BYTES, DATA_WORDS, INSTRUCTIONS};
 use crate::random::Random;
-use crate::vif::{self, Code, Payload, Unit, Waiting};
-use crate::vif_cases;
+use crate::refusals;
+use crate::state_block::{
+    self, chain_word, first_unused, path_word, put_part, read_path, read_state, read_unit,
+    unit_word, write_state, write_unit, StateBlock, UnitBlock, PATH2, PATH3, PATHS, PATH_WORDS,
+    REGISTERS, RESET_UNIT, STATE_WORDS, UNIT, UNIT_WORDS,
+};
+use crate::vif::{self, Code, Payload, Unit, Waiting, ADDRESSES, MOST_DIRECT, MOST_NUM};
 use crate::vif_generate::{
     code_word, legal_cycle, payload_word, random_code, random_mask, random_path_block,
     random_unit_block, random_waiting_unit, stcycl, stmask_block, Taste as VifTaste, NOT_ONE,
 };
 
+/// The right lengths of the memories, as cases give them.
+const DATA: u32 = DATA_WORDS as u32;
+const CODE: u32 = CODE_BYTES as u32;
 const FILL: u64 = 0x0123_4567_89AB_CDEF;
 const NO_LIMIT: u64 = u64::MAX;
 
@@ -64,17 +72,17 @@ fn start(channel: u32, tadr: u32, tte: u32) -> Call {
     Call::Start { channel, tadr, tte }
 }
 
-/// A case over these words of main memory, from a state with no entries used.
-fn plain_case(state: &State, main: &[u32], log_length: u32, calls: &[Call]) -> Case {
+/// A case over these words of main memory, with a log of so many entries.
+fn plain_case(state: &State, main: &[u32], entries: u64, calls: &[Call]) -> Case {
     Case {
         main_length: 4 * main.len() as u32,
         main: main.to_vec(),
-        data_length: vif::DATA_WORDS as u32,
-        code_length: vif::CODE_BYTES as u32,
-        log_length,
+        data_length: DATA,
+        code_length: CODE,
+        log_length: log::length(entries),
         fill: FILL,
         whole: false,
-        state: write_block(state),
+        state: write_state(state),
         calls: calls.to_vec(),
     }
 }
@@ -119,7 +127,7 @@ fn fixed_cases() -> Vec<Case> {
     ];
     let whole = Case {
         whole: true,
-        ..plain_case(&channel2, &reglist.concat(), 8, &[run(NO_LIMIT)])
+        ..plain_case(&channel2, &reglist.concat(), 4, &[run(NO_LIMIT)])
     };
     cases.push(whole);
     // IMAGE with one entry free: 31, nothing written.
@@ -131,7 +139,7 @@ fn fixed_cases() -> Vec<Case> {
     let mut state = channel2;
     state.used = 3;
     let calls = [run(NO_LIMIT), run(NO_LIMIT)];
-    cases.push(plain_case(&state, &image.concat(), 8, &calls));
+    cases.push(plain_case(&state, &image.concat(), 4, &calls));
     // The same two inside DIRECT.
     for (tags, used) in [(&reglist[1..], 0), (&image[1..], 3)] {
         let direct = [0, 0, 0, code_word(0x50, 0, tags.len() as u32)];
@@ -140,7 +148,7 @@ fn fixed_cases() -> Vec<Case> {
         let mut state = reset;
         state.used = used;
         let main = [&head.concat()[..], &tags].concat();
-        cases.push(plain_case(&state, &main, 8, &[run(NO_LIMIT)]));
+        cases.push(plain_case(&state, &main, 4, &[run(NO_LIMIT)]));
     }
     // Bit 31 in the last word: 91 before 0 and 90.
     let last = [tag(7, 1, 0), [0, 0, 0, 1 << 31]].concat();
@@ -154,8 +162,8 @@ fn fixed_cases() -> Vec<Case> {
     for due in NOT_ONE {
         let calls = [run(NO_LIMIT), start(2, 0, 0), run(1)];
         let mut case = plain_case(&reset, &end, 0, &calls);
-        case.state[5..7].fill(due);
-        case.state[13..45].copy_from_slice(&stmask_block(due));
+        case.state[chain_word::STACK..][..chain::STACK].fill(due);
+        put_part(&mut case.state, UNIT, &stmask_block(due));
         cases.push(case);
     }
     cases
@@ -221,46 +229,64 @@ fn add_length_cases(random: &mut Random, cases: &mut Vec<Case>) {
         MOST_MAIN,
     ];
     for main_length in mains {
-        let mut case = plain_case(&reset, &[], 8, &calls);
+        let mut case = plain_case(&reset, &[], 4, &calls);
         case.main_length = main_length;
         if main_length >= 4 {
             case.main = vec![0x7000_0000];
         }
         cases.push(case);
     }
-    for data_length in [0, 1, 4_092, 4_095, 4_097, MOST_DATA] {
-        let mut case = plain_case(&reset, &short_main(random), 8, &calls);
+    for data_length in [0, 1, DATA - 4, DATA - 1, DATA + 1, MOST_DATA] {
+        let mut case = plain_case(&reset, &short_main(random), 4, &calls);
         case.data_length = data_length;
         case.whole = random.percent(30);
         cases.push(case);
     }
-    for code_length in [0, 1, 16_380, 16_383, 16_385, 16_386, 16_388, MOST_CODE] {
-        let mut case = plain_case(&reset, &short_main(random), 8, &calls);
+    for code_length in [
+        0,
+        1,
+        CODE - 4,
+        CODE - 1,
+        CODE + 1,
+        CODE + 2,
+        CODE + 4,
+        MOST_CODE,
+    ] {
+        let mut case = plain_case(&reset, &short_main(random), 4, &calls);
         case.code_length = code_length;
         case.whole = random.percent(30);
         cases.push(case);
     }
-    let logs = [
+    for (log_length, used) in edge_logs() {
+        let state = State { used, ..reset };
+        let mut case = plain_case(&state, &short_main(random), 0, &calls);
+        case.log_length = log_length;
+        cases.push(case);
+    }
+}
+
+/// Lengths of logs and entries used at the limits of refusal 4.
+fn edge_logs() -> Vec<(u32, u64)> {
+    let one = log::length(1);
+    let most = log::MOST_NUMBERS as u32;
+    let entries = log::MOST_ENTRIES;
+    vec![
         (0, 0),
         (0, 1),
         (1, 0),
-        (2, 1),
-        (2, 2),
-        (2, 1 << 63),
-        (2, (1 << 63) + 1),
-        (2, u64::MAX),
-        (64, 1 << 32),
-        (131_071, 0),
-        (131_072, 65_536),
-        (131_072, 65_537),
-        (131_073, 0),
-        (131_074, 0),
-        (131_080, 0),
-    ];
-    for (log_length, used) in logs {
-        let state = State { used, ..reset };
-        cases.push(plain_case(&state, &short_main(random), log_length, &calls));
-    }
+        (one, 1),
+        (one, 2),
+        (one, log::WRAPS),
+        (one, log::WRAPS + 1),
+        (one, u64::MAX),
+        (log::length(32), 1 << 32),
+        (most - 1, 0),
+        (most, entries),
+        (most, entries + 1),
+        (most + 1, 0),
+        (most + one, 0),
+        (MOST_LOG, 0),
+    ]
 }
 
 /// Every choice of wrong lengths, state and pending words at once.
@@ -287,28 +313,29 @@ fn add_wrong_together_cases(random: &mut Random, cases: &mut Vec<Case>) {
             }
         }
         let calls = [run(random.pick(&[0, 1, 30, NO_LIMIT])), run(0)];
-        let mut case = plain_case(&state, &main, 8, &calls);
+        let mut case = plain_case(&state, &main, 4, &calls);
         if bit(0) {
             case.main_length = random.pick(&[81, 88, 84, MOST_MAIN, 1_048_592]);
             if bit(5) && case.main_length > 1_048_576 {
-                case.state[7] = 1;
-                case.state[8] = u32::MAX - 3;
+                case.state[chain_word::TAG_WORDS] = 1;
+                case.state[chain_word::TAG_WORD_AT] = u32::MAX - 3;
             }
         }
         if bit(1) {
-            case.data_length = random.pick(&[4_095, 4_097, 0]);
+            case.data_length = random.pick(&[DATA - 1, DATA + 1, 0]);
         }
         if bit(3) {
-            case.code_length = random.pick(&[16_383, 16_385, 0]);
+            case.code_length = random.pick(&[CODE - 1, CODE + 1, 0]);
         }
         if bit(4) {
-            match random.below(4) {
-                0 => case.state[1] = 8,
-                1 => case.state[0] = 3,
-                2 => case.state[22] = 3,
-                _ if bit(5) => case.state[1] = 1 << 31,
-                _ => case.state[3] = 2,
-            }
+            let (field, value) = match random.below(4) {
+                0 => (chain_word::TADR, 8),
+                1 => (chain_word::CHANNEL, 3),
+                2 => (UNIT + unit_word::MODE, 3),
+                _ if bit(5) => (chain_word::TADR, 1 << 31),
+                _ => (chain_word::ENDED, 2),
+            };
+            case.state[field] = value;
         }
         cases.push(case.clone());
         case.calls = short_calls(random);
@@ -377,14 +404,14 @@ fn add_outside_cases(random: &mut Random, cases: &mut Vec<Case>) {
             let first = random.pick(&[0, 1, 2, NO_LIMIT]);
             let channel = random.pick(&[1, 2]);
             let calls = [run(first), run(0), start(channel, 48, 0), run(NO_LIMIT)];
-            cases.push(plain_case(&state, &main, 8, &calls));
+            cases.push(plain_case(&state, &main, 4, &calls));
         }
     }
 }
 
 /// Adds a case for a state block: runs and starts on it in any order.
-fn add_block(random: &mut Random, cases: &mut Vec<Case>, block: Block) {
-    let mut case = plain_case(&State::reset(), &short_main(random), 8, &[]);
+fn add_block(random: &mut Random, cases: &mut Vec<Case>, block: StateBlock) {
+    let mut case = plain_case(&State::reset(), &short_main(random), 4, &[]);
     let channel = random.pick(&[1, 2]);
     let begin = start(channel, random.pick(&[0, 48, 1 << 20]), 0);
     let go = run(random.pick(&[0, 1, 3, 30, NO_LIMIT]));
@@ -399,50 +426,76 @@ fn add_block(random: &mut Random, cases: &mut Vec<Case>, block: Block) {
 
 /// Each field of a state block but the unit's at its limits and just outside.
 fn add_field_cases(random: &mut Random, cases: &mut Vec<Case>) {
-    let reset = write_block(&State::reset());
-    let mut add = |random: &mut Random, changes: &[(usize, u32)]| {
-        for also in [&[][..], &[(0, 2)]] {
+    let reset = write_state(&State::reset());
+    for changes in chain_changes() {
+        for also in [&[][..], &[(chain_word::CHANNEL, 2)]] {
             let mut block = reset;
-            for &(field, value) in also.iter().chain(changes) {
+            for &(field, value) in also.iter().chain(&changes) {
                 block[field] = value;
             }
             add_block(random, cases, block);
         }
+    }
+    for (_, path_at) in PATHS {
+        for _ in 0..10 {
+            for path in [
+                random_held_block(random),
+                random_out_of_range_block(random),
+                random_no_path_block(random),
+            ] {
+                let mut block = reset;
+                put_part(&mut block, path_at, &path);
+                block[chain_word::CHANNEL] = random.pick(&[1, 2]);
+                add_block(random, cases, block);
+            }
+        }
+    }
+}
+
+type Changes = Vec<(usize, u32)>;
+
+/// Changes of the words before the other blocks.
+fn chain_changes() -> Vec<Changes> {
+    let mut changes = Vec::new();
+    let mut add = |field: usize, values: &[u32]| {
+        changes.extend(values.iter().map(|&value| vec![(field, value)]));
     };
-    for channel in [0, 1, 2, 3, 257, u32::MAX] {
-        add(random, &[(0, channel)]);
-    }
-    let tadrs = [
-        1,
-        4,
-        8,
-        15,
-        16,
-        48,
-        80,
-        1_048_560,
-        1_048_576,
-        0x7FFF_FFF0,
-        0x7FFF_FFF1,
-        0x8000_0000,
-        0x8000_0010,
-        0xFFFF_FFF0,
-        u32::MAX,
-    ];
-    for tadr in tadrs {
-        add(random, &[(1, tadr)]);
-    }
-    for tte in [1, 2, 256, u32::MAX] {
-        add(random, &[(2, tte)]);
-    }
-    for ended in [1, 2, 256, u32::MAX] {
-        add(random, &[(3, ended)]);
-    }
+    add(chain_word::CHANNEL, &[0, 1, 2, 3, 257, u32::MAX]);
+    add(
+        chain_word::TADR,
+        &[
+            1,
+            4,
+            8,
+            15,
+            16,
+            48,
+            80,
+            1_048_560,
+            1_048_576,
+            0x7FFF_FFF0,
+            0x7FFF_FFF1,
+            0x8000_0000,
+            0x8000_0010,
+            0xFFFF_FFF0,
+            u32::MAX,
+        ],
+    );
+    add(chain_word::TTE, &[1, 2, 256, u32::MAX]);
+    add(chain_word::ENDED, &[1, 2, 256, u32::MAX]);
+    add_stack_changes(&mut changes);
+    add_tag_word_changes(&mut changes);
+    add_payload_changes(&mut changes);
+    changes
+}
+
+fn add_stack_changes(changes: &mut Vec<Changes>) {
+    let [depth_at, first, second] = [chain_word::DEPTH, chain_word::STACK, chain_word::STACK + 1];
     for depth in [1, 2, 3, 4, 256, u32::MAX] {
-        add(random, &[(4, depth)]);
-        add(random, &[(4, depth), (5, u32::MAX), (6, 3)]);
+        changes.push(vec![(depth_at, depth)]);
+        changes.push(vec![(depth_at, depth), (first, u32::MAX), (second, 3)]);
     }
-    add(random, &[(5, 8), (6, u32::MAX)]);
+    changes.push(vec![(first, 8), (second, u32::MAX)]);
     for entry in [
         8,
         15,
@@ -454,20 +507,33 @@ fn add_field_cases(random: &mut Random, cases: &mut Vec<Case>) {
         1 << 31,
         u32::MAX - 15,
     ] {
-        add(random, &[(4, 1), (5, entry)]);
-        add(random, &[(4, 1), (6, entry)]);
-        add(random, &[(4, 2), (5, entry), (6, 32)]);
-        add(random, &[(4, 2), (5, 32), (6, entry)]);
+        changes.push(vec![(depth_at, 1), (first, entry)]);
+        changes.push(vec![(depth_at, 1), (second, entry)]);
+        changes.push(vec![(depth_at, 2), (first, entry), (second, 32)]);
+        changes.push(vec![(depth_at, 2), (first, 32), (second, entry)]);
     }
+}
+
+fn add_tag_word_changes(changes: &mut Vec<Changes>) {
+    let mut add = |pending: u32, at: u32, tte: u32| {
+        changes.push(vec![
+            (chain_word::TAG_WORDS, pending),
+            (chain_word::TAG_WORD_AT, at),
+            (chain_word::TTE, tte),
+        ]);
+    };
     for pending in [1, 2, 256, u32::MAX] {
         for tte in [0, 1] {
-            add(random, &[(7, pending), (8, 24), (2, tte)]);
+            add(pending, 24, tte);
         }
     }
     for at in 0..17 {
-        add(random, &[(2, 1), (7, 1), (8, 32 + at)]);
-        add(random, &[(2, 1), (7, 0), (8, 32 + at)]);
+        add(1, 32 + at, 1);
+        add(0, 32 + at, 1);
     }
+}
+
+fn add_payload_changes(changes: &mut Vec<Changes>) {
     for (words, address) in [
         (1, 12),
         (1, 16),
@@ -495,77 +561,81 @@ fn add_field_cases(random: &mut Random, cases: &mut Vec<Case>) {
         (1 << 31, 0),
         (1 << 30, 0),
     ] {
-        add(random, &[(9, words), (10, address)]);
-    }
-    for path_at in [45, 54] {
-        for _ in 0..10 {
-            for path in [
-                random_held_block(random),
-                random_out_of_range_block(random),
-                random_no_path_block(random),
-            ] {
-                let mut block = reset;
-                block[path_at..path_at + 9].copy_from_slice(&path);
-                block[0] = random.pick(&[1, 2]);
-                add_block(random, cases, block);
-            }
-        }
+        changes.push(vec![
+            (chain_word::PAYLOAD_WORDS, words),
+            (chain_word::PAYLOAD_AT, address),
+        ]);
     }
 }
 
 /// Each field of the unit block at its limits and just outside.
 fn add_unit_field_cases(random: &mut Random, cases: &mut Vec<Case>) {
-    let reset = write_block(&State::reset());
-    let mut add = |random: &mut Random, unit: &vif_cases::Block, field: usize, value: u32| {
+    let reset = write_state(&State::reset());
+    let mut add = |random: &mut Random, unit: &UnitBlock, field: usize, value: u32| {
         let mut block = reset;
-        block[0] = random.pick(&[1, 2]);
-        block[13..45].copy_from_slice(unit);
-        block[13 + field] = value;
+        block[chain_word::CHANNEL] = random.pick(&[1, 2]);
+        put_part(&mut block, UNIT, unit);
+        block[UNIT + field] = value;
         // Once for the run, once for the start.
         for calls in [vec![run(2)], vec![start(2, 0, 0), run(NO_LIMIT)]] {
-            let mut case = plain_case(&State::reset(), &short_main(random), 8, &calls);
+            let mut case = plain_case(&State::reset(), &short_main(random), 4, &calls);
             case.state = block;
             cases.push(case);
         }
     };
-    let limits = [
-        255, 255, 1_023, 1_023, 1_023, 1_023, 1_023, 1_023, 1, 2, 1, 65_535,
-    ];
-    for (field, limit) in limits.into_iter().enumerate() {
+    for (field, (_, limit)) in REGISTERS.into_iter().enumerate() {
         for value in [limit, limit + 1, u32::MAX] {
-            add(random, &[0; 32], field, value);
+            add(random, &RESET_UNIT, field, value);
         }
     }
-    add(random, &[0; 32], 21, 8);
-    for code in 1..8 {
+    add(random, &RESET_UNIT, unit_word::WAITING, 8);
+    for code in state_block::STMASK..=state_block::UNPACK {
         for (cl, wl) in [(4, 3), (3, 4), (4, 0)] {
-            let mut unit = [0; 32];
-            (unit[0], unit[1]) = (cl, wl);
-            unit[21] = code;
-            unit[23] = 1;
-            unit[25] = 1;
-            add(random, &unit, 22, 1);
-            add(random, &unit, 22, 2);
-            for due in [0, 2, 3, 4, 5, 65_536, 65_537, u32::MAX] {
-                add(random, &unit, 23, due);
+            let unit = one_due_block(code, cl, wl);
+            for (field, values) in waiting_values() {
+                for value in values {
+                    add(random, &unit, field, value);
+                }
             }
-            for address in [1_023, 1_024, 2_047, 2_048, u32::MAX] {
-                add(random, &unit, 24, address);
-            }
-            for count in [0, 256, 257, u32::MAX] {
-                add(random, &unit, 25, count);
-            }
-            for format in [3, 7, 11, 15, 16, u32::MAX] {
-                add(random, &unit, 26, format);
-            }
-            add(random, &unit, 27, 2);
-            add(random, &unit, 28, 2);
         }
     }
 }
 
+/// A unit in which a code waits with one word due, and one of what it counts.
+fn one_due_block(code: u32, cl: u32, wl: u32) -> UnitBlock {
+    let mut unit = RESET_UNIT;
+    unit[unit_word::CL] = cl;
+    unit[unit_word::WL] = wl;
+    unit[unit_word::WAITING] = code;
+    unit[unit_word::DUE] = 1;
+    unit[unit_word::COUNT] = 1;
+    unit
+}
+
+/// Values of the words of a waiting code at their limits and just outside.
+fn waiting_values() -> Vec<(usize, Vec<u32>)> {
+    let most = u32::MAX;
+    let due = vec![0, 2, 3, 4, 5, MOST_DIRECT, MOST_DIRECT + 1, most];
+    let addresses = vec![
+        ADDRESSES - 1,
+        ADDRESSES,
+        INSTRUCTIONS - 1,
+        INSTRUCTIONS,
+        most,
+    ];
+    vec![
+        (unit_word::INTERRUPT, vec![1, 2]),
+        (unit_word::DUE, due),
+        (unit_word::ADDRESS, addresses),
+        (unit_word::COUNT, vec![0, MOST_NUM, MOST_NUM + 1, most]),
+        (unit_word::FORMAT, vec![3, 7, 11, 15, 16, most]),
+        (unit_word::USN, vec![2]),
+        (unit_word::M, vec![2]),
+    ]
+}
+
 /// State blocks with each field at its limits and just outside.
-pub fn field_blocks(random: &mut Random) -> Vec<Block> {
+pub fn field_blocks(random: &mut Random) -> Vec<StateBlock> {
     let mut cases = Vec::new();
     add_field_cases(random, &mut cases);
     add_unit_field_cases(random, &mut cases);
@@ -605,9 +675,9 @@ fn add_start_cases(random: &mut Random, cases: &mut Vec<Case>) {
             let length = 4 * main.len() as u32;
             let mut state = random_state(random, length);
             state.used = state.used.min(4);
-            let mut case = plain_case(&state, &main, 8, &[]);
+            let mut case = plain_case(&state, &main, 4, &[]);
             if wrong_state {
-                case.state[22] = 3;
+                case.state[UNIT + unit_word::MODE] = 3;
             }
             case.calls = vec![
                 run(random.below(4)),
@@ -666,7 +736,7 @@ fn add_tag_case(
     main[16] = 0x7000_0000;
     let allowance = random.pick(&[1, 1, 2, 3, 4, 9, 40]);
     let calls = [run(allowance), run(random.pick(&[0, 1, 30]))];
-    cases.push(plain_case(&state, &main, 8, &calls));
+    cases.push(plain_case(&state, &main, 4, &calls));
 }
 
 /// Tag words of every ID with codes of many kinds, cut at every step.
@@ -713,7 +783,7 @@ fn add_tag_word_cases(random: &mut Random, cases: &mut Vec<Case>) {
                 state.used = random.pick(&[0, 0, 3, 4]);
                 let cut = random.below(5);
                 let calls = [run(cut), run(random.below(3)), run(20)];
-                cases.push(plain_case(&state, &main.concat(), 8, &calls));
+                cases.push(plain_case(&state, &main.concat(), 4, &calls));
             }
         }
     }
@@ -740,7 +810,7 @@ fn add_interrupt_cases(random: &mut Random, cases: &mut Vec<Case>) {
                 payload[at] = 1 << 31;
                 let main = [tag(id, 1, 16), payload, tag(7, 0, 0)].concat();
                 let calls = [run(steps), run(random.pick(&[0, 1, 5])), run(10)];
-                cases.push(plain_case(&State::reset(), &main, 8, &calls));
+                cases.push(plain_case(&State::reset(), &main, 4, &calls));
             }
         }
     }
@@ -752,7 +822,7 @@ fn add_interrupt_cases(random: &mut Random, cases: &mut Vec<Case>) {
                 let gif_tag = split(tag_quadword(1, 0, 1, 0xE));
                 let main = [tag(7, 3 + after, 0), direct, gif_tag, [1, 2, 3, 4], [0; 4]];
                 let calls = [run(allowance), run(0), run(1), run(NO_LIMIT)];
-                cases.push(plain_case(&State::reset(), &main.concat(), 8, &calls));
+                cases.push(plain_case(&State::reset(), &main.concat(), 4, &calls));
             }
         }
     }
@@ -779,7 +849,7 @@ fn add_refusal_cases(random: &mut Random, cases: &mut Vec<Case>) {
                 let mut payload = [0; 8];
                 payload[at] = code | interrupt;
                 let main = [&tag(7, 2, 0)[..], &payload].concat();
-                cases.push(plain_case(&log_full, &main, 8, &calls));
+                cases.push(plain_case(&log_full, &main, 4, &calls));
             }
         }
     }
@@ -793,13 +863,13 @@ fn add_refusal_cases(random: &mut Random, cases: &mut Vec<Case>) {
         let data = [split(gif_tag), [1, 2, 3, 4], [5, 6, 7, 8]].concat();
         let direct = [0, 0, 0, code_word(0x51, 0, 3)];
         let main = [&tag(7, 4, 0)[..], &direct, &data].concat();
-        cases.push(plain_case(&log_full, &main, 8, &calls));
+        cases.push(plain_case(&log_full, &main, 4, &calls));
         let main = [&tag(7, 3, 0)[..], &data].concat();
         let state = State {
             channel: 2,
             ..log_full
         };
-        cases.push(plain_case(&state, &main, 8, &calls));
+        cases.push(plain_case(&state, &main, 4, &calls));
     }
     for bad in [
         tag(2, 0, 8),
@@ -814,7 +884,7 @@ fn add_refusal_cases(random: &mut Random, cases: &mut Vec<Case>) {
             channel,
             ..State::reset()
         };
-        cases.push(plain_case(&state, &main, 8, &calls));
+        cases.push(plain_case(&state, &main, 4, &calls));
     }
 }
 
@@ -840,8 +910,8 @@ fn add_zero_memory_cases(cases: &mut Vec<Case>) {
             let calls = [run(NO_LIMIT), run(0), run(1), run(NO_LIMIT)];
             // Tag words are legal codes, so that payload may hold them.
             let [low, high] = tag_words(id, qwc, addr);
-            let mut case = plain_case(&state, &[low, high, 0, 0], 8, &calls);
-            case.main_length = chain::MOST_MAIN as u32;
+            let mut case = plain_case(&state, &[low, high, 0, 0], 4, &calls);
+            case.main_length = memory::MOST_MAIN as u32;
             cases.push(case);
         }
     }
@@ -939,7 +1009,7 @@ impl Maker {
         let mut steps = 0;
         let answer = loop {
             let Some(state) = &self.standing.state else {
-                break gif::REFUSED_RANGE;
+                break refusals::RANGE;
             };
             let (done, state) = (state.is_done(), *state);
             if steps == 0 {
@@ -1037,7 +1107,7 @@ impl Maker {
 
     /// Entries that the log has room for.
     fn room(&self, state: &State) -> u64 {
-        self.standing.log.len() as u64 / 2 - state.used
+        log::room(self.standing.log.len(), state.used)
     }
 
     /// Gives main memory the words that the next step reads.
@@ -1398,15 +1468,11 @@ fn random_case(random: &mut Random) -> Case {
     let given = quadwords.min(if random.percent(98) { 256 } else { 2_000 });
     let length = 16 * quadwords as u32;
     let (log_length, used) = log(random);
-    let mut case = plain_case(
-        &State::reset(),
-        &vec![0; 4 * given as usize],
-        log_length,
-        &[],
-    );
+    let mut case = plain_case(&State::reset(), &vec![0; 4 * given as usize], 0, &[]);
+    case.log_length = log_length;
     case.main_length = length;
     case.fill = random.number();
-    case.whole = random.percent(4) && log_length < 4_000;
+    case.whole = random.percent(4) && log_length < log::length(2_000);
     case.state = random_block(random, 16 * given as u32, used);
     if random.percent(2) {
         spoil_lengths(random, &mut case);
@@ -1440,7 +1506,7 @@ fn make_calls(random: &mut Random, mut maker: Maker) -> Case {
         let again = match answer {
             chain::ALLOWANCE_USED | chain::INTERRUPT => random.percent(93),
             chain::DONE => random.percent(12),
-            1..=5 => {
+            refusals::MAIN..=refusals::RANGE => {
                 left = left.min(1);
                 random.percent(30)
             }
@@ -1489,22 +1555,22 @@ fn random_start(random: &mut Random, maker: &mut Maker) {
 /// The length of the log and the entries used, mostly with much room.
 fn log(random: &mut Random) -> (u32, u64) {
     match random.below(20) {
-        0..=11 => (2 * random.within(40..=400) as u32, random.below(8)),
-        12..=17 => (2 * random.within(200..=1_500) as u32, random.below(150)),
+        0..=11 => (log::length(random.within(40..=400)), random.below(8)),
+        12..=17 => (log::length(random.within(200..=1_500)), random.below(150)),
         _ => random_log(random),
     }
 }
 
 fn spoil_lengths(random: &mut Random, case: &mut Case) {
     match random.below(3) {
-        0 => case.data_length = random.pick(&[0, 1_024, 4_095, 4_097, MOST_DATA]),
-        1 => case.code_length = random.pick(&[0, 4, 16_383, 16_385, 16_391, MOST_CODE]),
+        0 => case.data_length = random.pick(&[0, DATA / 4, DATA - 1, DATA + 1, MOST_DATA]),
+        1 => case.code_length = random.pick(&[0, 4, CODE - 1, CODE + 1, CODE + 7, MOST_CODE]),
         _ => case.main_length += random.pick(&[1, 4, 8, 15]),
     }
 }
 
 /// A state block over a main memory of this length.
-fn random_block(random: &mut Random, length: u32, used: u64) -> Block {
+fn random_block(random: &mut Random, length: u32, used: u64) -> StateBlock {
     let mut state = match random.below(100) {
         0..=29 => State::reset(),
         30..=44 => State {
@@ -1514,7 +1580,7 @@ fn random_block(random: &mut Random, length: u32, used: u64) -> Block {
         _ => random_state(random, length),
     };
     state.used = used;
-    let mut block = write_block(&state);
+    let mut block = write_state(&state);
     if random.percent(8) {
         add_junk(random, &mut block);
     }
@@ -1581,11 +1647,11 @@ fn random_pending(random: &mut Random, channel: u32, quadwords: u64) -> Pending 
 fn random_good_unit(random: &mut Random) -> Unit {
     loop {
         let block = if random.percent(40) {
-            vif_cases::write_block(&random_waiting_unit(random))
+            write_unit(&random_waiting_unit(random))
         } else {
             random_unit_block(random)
         };
-        match vif_cases::read_block(&block) {
+        match read_unit(&block) {
             Some(unit) if vif::in_range(&unit) => return unit,
             _ => {}
         }
@@ -1595,7 +1661,7 @@ fn random_good_unit(random: &mut Random) -> Unit {
 fn random_good_path(random: &mut Random) -> Path {
     loop {
         let block = random_path_block(random);
-        match gif_cases::read_block(&block) {
+        match read_path(&block) {
             Some(path) if gif::path_in_range(&path) => return path,
             _ => {}
         }
@@ -1603,34 +1669,36 @@ fn random_good_path(random: &mut Random) -> Path {
 }
 
 /// Puts words where they mean nothing.
-pub fn add_junk(random: &mut Random, block: &mut Block) {
-    let state = read_block(block).expect("a written block is read");
-    for i in state.depth..chain::STACK {
-        block[5 + i] = random.word();
-    }
+pub fn add_junk(random: &mut Random, block: &mut StateBlock) {
+    let state = read_state(block).expect("a written block is read");
+    let mut put = |from: usize, end: usize| {
+        for word in &mut block[from..end] {
+            *word = random.word();
+        }
+    };
+    let stack = chain_word::STACK;
+    put(stack + state.depth, stack + chain::STACK);
     if state.tag_word.is_none() {
-        block[8] = random.word();
+        put(chain_word::TAG_WORD_AT, chain_word::TAG_WORD_AT + 1);
     }
     if state.payload.is_none() {
-        block[10] = random.word();
+        put(chain_word::PAYLOAD_AT, chain_word::PAYLOAD_AT + 1);
     }
     if state.unit.waiting.is_none() {
-        block[35..45].iter_mut().for_each(|w| *w = random.word());
+        put(UNIT + first_unused(state_block::NONE), UNIT + UNIT_WORDS);
     }
-    for (path, at) in [(state.path2, 45), (state.path3, 54)] {
+    for (path, at) in [(state.path2, PATH2), (state.path3, PATH3)] {
         if path.place == Place::Idle {
-            block[at + 2..at + 9]
-                .iter_mut()
-                .for_each(|w| *w = random.word());
+            put(at + path_word::FIRST_HELD, at + PATH_WORDS);
         }
     }
 }
 
 /// Changes one word or two.
-pub fn spoil(random: &mut Random, block: &mut Block) {
+pub fn spoil(random: &mut Random, block: &mut StateBlock) {
     for _ in 0..random.within(1..=2) {
-        let field = random.below(63) as usize;
-        if field == 11 || field == 12 {
+        let field = random.below(STATE_WORDS as u64) as usize;
+        if field == chain_word::USED || field == chain_word::USED + 1 {
             continue;
         }
         let any = random.word();
@@ -1655,7 +1723,7 @@ pub fn spoil(random: &mut Random, block: &mut Block) {
 fn deep_case(random: &mut Random) -> Case {
     loop {
         let given = random.within(60..=255);
-        let mut case = plain_case(&State::reset(), &vec![0; 4 * given as usize], 8, &[]);
+        let mut case = plain_case(&State::reset(), &vec![0; 4 * given as usize], 4, &[]);
         case.main_length = 16 * given as u32;
         case.fill = random.number();
         let mut maker = Maker::new(case, 4 * given as usize, Taste::deep(random));

@@ -1,11 +1,11 @@
 //! The chain layer: runs over DMA source chains on channel 1 (VIF1) or 2 (GIF).
 
 use crate::gif::{self, Path, Place};
+use crate::memory::MOST_MAIN;
+use crate::refusals;
 use crate::vif::{self, Given, Taken, Unit};
 use crate::words::QUADWORD;
 
-/// The longest main memory in bytes.
-pub const MOST_MAIN: usize = 1_048_576;
 /// The most payload words that can be pending.
 pub const MOST_PENDING: u32 = 4 * 65_535;
 /// What the stack holds.
@@ -14,13 +14,6 @@ pub const STACK: usize = 2;
 pub const DONE: u32 = 0;
 pub const ALLOWANCE_USED: u32 = 90;
 pub const INTERRUPT: u32 = 91;
-
-pub const REFUSED_MAIN: u32 = 1;
-pub const REFUSED_TADR: u32 = 10;
-pub const REFUSED_ADDR: u32 = 11;
-pub const REFUSED_SPR: u32 = 12;
-pub const REFUSED_CALL: u32 = 13;
-pub const REFUSED_OUTSIDE: u32 = 14;
 
 pub const REFE: u32 = 0;
 pub const CNT: u32 = 1;
@@ -174,7 +167,7 @@ impl State {
 /// Starts a chain on what stands. A refusal changes nothing.
 pub fn start(state: &mut State, channel: u32, tadr: u32, tte: bool) -> Result<(), u32> {
     if !in_range(state) || !start_in_range(channel, tadr, tte) {
-        return Err(gif::REFUSED_RANGE);
+        return Err(refusals::RANGE);
     }
     state.channel = channel;
     state.tadr = tadr;
@@ -225,10 +218,10 @@ pub fn run(
 pub fn check_entry(state: &State, memories: &Memories) -> Result<(), u32> {
     check_lengths(memories, state.used)?;
     if !in_range(state) {
-        return Err(gif::REFUSED_RANGE);
+        return Err(refusals::RANGE);
     }
     if !pending_inside(state, memories.main.len()) {
-        return Err(REFUSED_OUTSIDE);
+        return Err(refusals::OUTSIDE);
     }
     Ok(())
 }
@@ -237,7 +230,7 @@ pub fn check_entry(state: &State, memories: &Memories) -> Result<(), u32> {
 pub fn check_lengths(memories: &Memories, used: u64) -> Result<(), u32> {
     let main = memories.main.len();
     if main == 0 || main % QUADWORD != 0 || main > MOST_MAIN {
-        return Err(REFUSED_MAIN);
+        return Err(refusals::MAIN);
     }
     vif::check_lengths(
         memories.data.len(),
@@ -322,20 +315,20 @@ pub fn word_at(main: &[u8], address: u32) -> u32 {
 /// Tests for the refusals 10 to 14, in this order; hands back the tag at TADR.
 fn read_tag(state: &State, main: &[u8]) -> Result<Tag, u32> {
     if !inside(main.len(), state.tadr, 16) {
-        return Err(REFUSED_TADR);
+        return Err(refusals::TADR);
     }
     let tag = Tag::decode(quadword_at(main, state.tadr));
     if tag.uses_addr() && tag.addr % 16 != 0 {
-        return Err(REFUSED_ADDR);
+        return Err(refusals::ADDR);
     }
     if tag.uses_addr() && tag.spr {
-        return Err(REFUSED_SPR);
+        return Err(refusals::SPR);
     }
     if tag.id == CALL && state.depth == STACK {
-        return Err(REFUSED_CALL);
+        return Err(refusals::CALL);
     }
     if tag.qwc > 0 && !inside(main.len(), tag.payload_at(state.tadr), 16 * tag.qwc as u64) {
-        return Err(REFUSED_OUTSIDE);
+        return Err(refusals::OUTSIDE);
     }
     Ok(tag)
 }
@@ -437,6 +430,7 @@ fn rest(pending: Pending, taken: u32) -> Option<Pending> {
 #[cfg(test)]
 mod tests {
     use super::*;
+    use crate::memory;
 
     /// A state with its memories.
     struct Bench {
@@ -452,8 +446,8 @@ mod tests {
             Bench {
                 state: State::reset(),
                 main: words.iter().flat_map(|word| word.to_le_bytes()).collect(),
-                data: vec![0; vif::DATA_WORDS],
-                code: vec![0; vif::CODE_BYTES],
+                data: vec![0; memory::DATA_WORDS],
+                code: vec![0; memory::CODE_BYTES],
                 log: vec![0; log],
             }
         }

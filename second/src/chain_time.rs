@@ -1,8 +1,8 @@
 //! The chain timing input.
 
 use crate::chain::{self, Memories, State};
-use crate::gif;
-use crate::vif;
+use crate::log::MOST_NUMBERS;
+use crate::memory::{CODE_BYTES, DATA_WORDS};
 use crate::words::{put_number, put_word, word, QUADWORD, WORD};
 
 pub const MOST_QUADWORDS: usize = 65_535;
@@ -40,9 +40,9 @@ pub fn result(input: &[u8]) -> Option<Vec<u8>> {
     let rounds = word(input, 0);
     let mut memories = Memories {
         main,
-        data: &mut vec![0; vif::DATA_WORDS],
-        code: &mut vec![0; vif::CODE_BYTES],
-        log: &mut vec![0; gif::LOG_LIMIT],
+        data: &mut vec![0; DATA_WORDS],
+        code: &mut vec![0; CODE_BYTES],
+        log: &mut vec![0; MOST_NUMBERS],
     };
     let mut state = State::reset();
     let mut all_steps = 0u64;

@@ -1,17 +1,13 @@
 //! The GIF by itself: a path takes one quadword at a time and appends its
 //! register writes to the log.
 
+use crate::log::{self, Entries};
+use crate::refusals;
+
 /// Q after every tag.
 pub const TAG_Q: u32 = 0x3F80_0000;
-/// The longest log, in 64-bit numbers.
-pub const LOG_LIMIT: usize = 131_072;
 /// The register that IMAGE data goes to.
 const IMAGE_REGISTER: u64 = 0x54;
-
-pub const REFUSED_LOG: u32 = 4;
-pub const REFUSED_RANGE: u32 = 5;
-pub const REFUSED_DESCRIPTOR: u32 = 30;
-pub const REFUSED_ROOM: u32 = 31;
 
 #[derive(Clone, Copy, PartialEq, Eq, Debug)]
 pub enum Format {
@@ -42,27 +38,6 @@ pub enum Place {
 pub struct Path {
     pub q: u32,
     pub place: Place,
-}
-
-/// A register write.
-#[derive(Clone, Copy, PartialEq, Eq, Debug, Default)]
-pub struct Entry {
-    pub register: u64,
-    pub value: u64,
-}
-
-/// The writes of one step, at most two, in order.
-#[derive(Clone, Copy, Default)]
-struct Writes {
-    entries: [Entry; 2],
-    count: usize,
-}
-
-impl Writes {
-    fn add(&mut self, register: u64, value: u64) {
-        self.entries[self.count] = Entry { register, value };
-        self.count += 1;
-    }
 }
 
 /// Bits `from` to `from + count - 1` of the quadword; `count` is at most 64.
@@ -126,11 +101,6 @@ impl Tag {
     }
 }
 
-/// Whether a log of `length` numbers with `used` entries passes refusal 4.
-pub fn log_in_range(length: usize, used: u64) -> bool {
-    length % 2 == 0 && length <= LOG_LIMIT && 2 * used as u128 <= length as u128
-}
-
 /// Whether the path passes refusal 5.
 pub fn path_in_range(path: &Path) -> bool {
     match &path.place {
@@ -146,15 +116,15 @@ pub fn path_in_range(path: &Path) -> bool {
 
 /// Gives a quadword to the path. A refusal hands back its number and changes nothing.
 pub fn take(path: &mut Path, used: &mut u64, log: &mut [u64], quadword: u128) -> Result<(), u32> {
-    if !log_in_range(log.len(), *used) {
-        return Err(REFUSED_LOG);
+    if !log::in_range(log.len(), *used) {
+        return Err(refusals::LOG);
     }
     if !path_in_range(path) {
-        return Err(REFUSED_RANGE);
+        return Err(refusals::RANGE);
     }
     match &mut path.place {
         Place::Idle => {
-            append(&tag_writes(quadword), used, log)?;
+            log::append(log, used, &tag_writes(quadword))?;
             path.q = TAG_Q;
             let tag = Tag::decode(quadword);
             if tag.nloop > 0 {
@@ -164,7 +134,7 @@ pub fn take(path: &mut Path, used: &mut u64, log: &mut [u64], quadword: u128) ->
         }
         Place::Data { tag, due } => {
             let (q, writes) = data_writes(path.q, tag, *due, quadword)?;
-            append(&writes, used, log)?;
+            log::append(log, used, &writes)?;
             path.q = q;
             *due -= 1;
             if *due == 0 {
@@ -175,25 +145,11 @@ pub fn take(path: &mut Path, used: &mut u64, log: &mut [u64], quadword: u128) ->
     Ok(())
 }
 
-/// Appends all the writes to the log, or none.
-fn append(writes: &Writes, used: &mut u64, log: &mut [u64]) -> Result<(), u32> {
-    let at = 2 * *used as usize;
-    if log.len() - at < 2 * writes.count {
-        return Err(REFUSED_ROOM);
-    }
-    for (i, entry) in writes.entries[..writes.count].iter().enumerate() {
-        log[at + 2 * i] = entry.register;
-        log[at + 2 * i + 1] = entry.value;
-    }
-    *used += writes.count as u64;
-    Ok(())
-}
-
 /// The writes of a tag's own step.
-fn tag_writes(quadword: u128) -> Writes {
+fn tag_writes(quadword: u128) -> Entries {
     let tag = Tag::decode(quadword);
     let pre = bits(quadword, 46, 1) == 1;
-    let mut writes = Writes::default();
+    let mut writes = Entries::default();
     if tag.nloop > 0 && tag.format == Format::Packed && pre {
         writes.add(0, bits(quadword, 47, 11));
     }
@@ -201,9 +157,9 @@ fn tag_writes(quadword: u128) -> Writes {
 }
 
 /// Q afterwards and the writes of a data quadword.
-fn data_writes(q: u32, tag: &Tag, due: u32, quadword: u128) -> Result<(u32, Writes), u32> {
+fn data_writes(q: u32, tag: &Tag, due: u32, quadword: u128) -> Result<(u32, Entries), u32> {
     let mut next_q = q;
-    let mut writes = Writes::default();
+    let mut writes = Entries::default();
     match tag.format {
         Format::Packed => {
             let descriptor = tag.packed_descriptor(due);
@@ -225,7 +181,7 @@ fn data_writes(q: u32, tag: &Tag, due: u32, quadword: u128) -> Result<(u32, Writ
 }
 
 /// One PACKED quadword; hands back Q afterwards.
-fn packed(descriptor: u8, q: u32, quadword: u128, writes: &mut Writes) -> Result<u32, u32> {
+fn packed(descriptor: u8, q: u32, quadword: u128, writes: &mut Entries) -> Result<u32, u32> {
     let field = |from, count| bits(quadword, from, count);
     let low = field(0, 64);
     match descriptor {
@@ -250,7 +206,7 @@ fn packed(descriptor: u8, q: u32, quadword: u128, writes: &mut Writes) -> Result
             writes.add(target, xy | field(64, 32) << 32);
         }
         0xA => writes.add(0x0A, field(100, 8) << 56),
-        0xB => return Err(REFUSED_DESCRIPTOR),
+        0xB => return Err(refusals::DESCRIPTOR),
         0xE => writes.add(field(64, 8), low),
         0xF => {}
         // 6 to 9, C, D
@@ -260,9 +216,9 @@ fn packed(descriptor: u8, q: u32, quadword: u128, writes: &mut Writes) -> Result
 }
 
 /// One half of a REGLIST quadword.
-fn reglist_half(descriptor: u8, value: u64, writes: &mut Writes) -> Result<(), u32> {
+fn reglist_half(descriptor: u8, value: u64, writes: &mut Entries) -> Result<(), u32> {
     match descriptor {
-        0xB => return Err(REFUSED_DESCRIPTOR),
+        0xB => return Err(refusals::DESCRIPTOR),
         0xE | 0xF => {}
         _ => writes.add(descriptor as u64, value),
     }

@@ -1,24 +1,30 @@
 //! GIF case files and their results.
 
-use crate::gif::{self, Format, Path, Place, Tag};
+use crate::gif::{self, Path};
 use crate::gif_counts::Counts;
+use crate::log;
+use crate::memory::cases::MOST_LOG;
+use crate::refusals;
+use crate::state_block::{describe_path, read_path, write_path, PathBlock, PATH_WORDS};
 use crate::words::{self, number, put_number, put_quadword, put_word, word, QUADWORD, WORD};
 
 pub const MARK: u32 = 0x4649_4754;
 pub const MOST_QUADWORDS: u32 = 65_535;
-pub const MOST_LOG: u32 = 131_080;
-const HEADER: usize = 16 * WORD;
+/// The word of a case at which the path block starts.
+const PATH_AT: usize = 7;
+/// The bytes of a case before its quadwords.
+pub const HEADER: usize = (PATH_AT + PATH_WORDS) * WORD;
+/// The words of a result at which the path block and the changes start.
+const RESULT_PATH_AT: usize = 3;
+const CHANGES_AT: usize = RESULT_PATH_AT + PATH_WORDS;
 const FILL_STEP: u64 = 0x9E37_79B9_7F4A_7C15;
-
-/// A path block as it lies in files.
-pub type Block = [u32; 9];
 
 #[derive(Clone)]
 pub struct Case {
     pub log_length: u32,
     pub used: u64,
     pub fill: u64,
-    pub block: Block,
+    pub block: PathBlock,
     pub quadwords: Vec<u128>,
 }
 
@@ -38,63 +44,6 @@ impl Case {
     }
 }
 
-/// The path of a block; none where it exists in no path.
-pub fn read_block(block: &Block) -> Option<Path> {
-    let q = block[0];
-    let place = match block[1] {
-        0 => Place::Idle,
-        1 => {
-            let format = match block[2] {
-                0 => Format::Packed,
-                1 => Format::Reglist,
-                2 => Format::Image,
-                _ => return None,
-            };
-            let eop = match block[4] {
-                0 => false,
-                1 => true,
-                _ => return None,
-            };
-            let tag = Tag {
-                format,
-                nloop: block[3],
-                eop,
-                nreg: block[5],
-                descriptors: block[6] as u64 | (block[7] as u64) << 32,
-            };
-            Place::Data { tag, due: block[8] }
-        }
-        _ => return None,
-    };
-    Some(Path { q, place })
-}
-
-pub fn write_block(path: &Path) -> Block {
-    match &path.place {
-        Place::Idle => [path.q, 0, 0, 0, 0, 0, 0, 0, 0],
-        Place::Data { tag, due } => {
-            let format = match tag.format {
-                Format::Packed => 0,
-                Format::Reglist => 1,
-                Format::Image => 2,
-            };
-            let low = tag.descriptors as u32;
-            let high = (tag.descriptors >> 32) as u32;
-            [
-                path.q,
-                1,
-                format,
-                tag.nloop,
-                tag.eop as u32,
-                tag.nreg,
-                low,
-                high,
-                *due,
-            ]
-        }
-    }
-}
-
 /// Number `index` of a log with this fill.
 pub fn fill_number(fill: u64, index: u64) -> u64 {
     fill.wrapping_add(index.wrapping_mul(FILL_STEP))
@@ -104,7 +53,7 @@ pub fn fill_number(fill: u64, index: u64) -> u64 {
 pub struct Standing {
     /// None where the case's block exists in no path.
     pub path: Option<Path>,
-    given: Block,
+    given: PathBlock,
     pub used: u64,
     pub log: Vec<u64>,
 }
@@ -112,7 +61,7 @@ pub struct Standing {
 impl Standing {
     pub fn new(case: &Case) -> Standing {
         Standing {
-            path: read_block(&case.block),
+            path: read_path(&case.block),
             given: case.block,
             used: case.used,
             log: (0..case.log_length as u64)
@@ -125,15 +74,15 @@ impl Standing {
     pub fn take(&mut self, quadword: u128) -> u32 {
         let taken = match &mut self.path {
             Some(path) => gif::take(path, &mut self.used, &mut self.log, quadword),
-            None if !gif::log_in_range(self.log.len(), self.used) => Err(gif::REFUSED_LOG),
-            None => Err(gif::REFUSED_RANGE),
+            None if !log::in_range(self.log.len(), self.used) => Err(refusals::LOG),
+            None => Err(refusals::RANGE),
         };
         taken.err().unwrap_or(0)
     }
 
-    pub fn block(&self) -> Block {
+    pub fn block(&self) -> PathBlock {
         match &self.path {
-            Some(path) => write_block(path),
+            Some(path) => write_path(path),
             None => self.given,
         }
     }
@@ -173,15 +122,11 @@ fn first_case(bytes: &[u8]) -> Found {
     let data = &bytes[HEADER..];
     let wanted = count as usize * QUADWORD;
     let there = wanted.min(data.len());
-    let mut block = [0; 9];
-    for (i, w) in block.iter_mut().enumerate() {
-        *w = word(bytes, 7 + i);
-    }
     let case = Case {
         log_length,
         used: number(bytes, 3),
         fill: number(bytes, 5),
-        block,
+        block: std::array::from_fn(|i| word(bytes, PATH_AT + i)),
         quadwords: words::quadwords(&data[..there]),
     };
     if there == wanted {
@@ -292,27 +237,24 @@ fn changes(before: &[u64], after: &[u64]) -> Vec<(usize, u64)> {
 
 /// The result that starts at the head of the bytes, in words to read.
 pub fn describe_result(bytes: &[u8]) -> String {
-    if bytes.len() < 13 * WORD {
+    if bytes.len() < (CHANGES_AT + 1) * WORD {
         return format!(
             "cut after {} bytes: {}",
             bytes.len(),
             String::from_utf8_lossy(bytes).escape_debug()
         );
     }
-    let mut block = [0; 9];
-    for (i, w) in block.iter_mut().enumerate() {
-        *w = word(bytes, 3 + i);
-    }
-    let count = word(bytes, 12);
+    let block = std::array::from_fn(|i| word(bytes, RESULT_PATH_AT + i));
+    let count = word(bytes, CHANGES_AT);
     let mut text = format!(
         "answer {}, entries used {}\n    {}\n    {} numbers changed",
         word(bytes, 0),
         number(bytes, 1),
-        describe_block(&block),
+        describe_path(&block),
         count
     );
     for i in 0..count as usize {
-        let at = 13 + 3 * i;
+        let at = CHANGES_AT + 1 + 3 * i;
         if bytes.len() < (at + 3) * WORD {
             text.push_str("\n    cut here");
             break;
@@ -328,13 +270,6 @@ pub fn describe_result(bytes: &[u8]) -> String {
         ));
     }
     text
-}
-
-pub fn describe_block(block: &Block) -> String {
-    format!(
-        "path: Q {:08X}, place {}, format {}, NLOOP {}, EOP {}, NREG {}, descriptors {:08X}{:08X}, due {}",
-        block[0], block[1], block[2], block[3], block[4], block[5], block[7], block[6], block[8]
-    )
 }
 
 /// A case in hexadecimal, from its header to quadword `last`.

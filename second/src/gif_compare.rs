@@ -1,9 +1,10 @@
 //! Another program's GIF results against our own.
 
 use crate::compare::{first_difference, table, zeros, Program};
-use crate::gif_cases::{self, case_starts, describe_case, describe_result, Results};
+use crate::gif_cases::{self, case_starts, describe_case, describe_result, Results, HEADER};
 use crate::gif_counts::Counts;
 use crate::gif_generate::generate;
+use crate::memory::cases::MOST_LOG;
 use crate::random::Random;
 
 /// Compares on the cases of each seed and on damaged files made from them.
@@ -90,13 +91,25 @@ fn damaged(file: &[u8], seed: u64) -> Vec<(String, Vec<u8>)> {
         let at = at.min(file.len());
         made.push((format!("cut after {at} bytes"), file[..at].to_vec()));
     };
-    for at in [1, 3, 4, 8, 60, 63, 64, 65, 79, 80, 81, 111, file.len() - 1] {
+    for at in [1, 3, 4, 8, HEADER - 4] {
         cut(&mut made, at);
     }
+    for after in [0, 1, 2, 16, 17, 18, 48] {
+        cut(&mut made, HEADER - 1 + after);
+    }
+    cut(&mut made, file.len() - 1);
     let last = starts.len() - 1;
     for index in [1, last / 2, last] {
         let start = starts[index];
-        for after in [1, 4, 63, 64, 72, 80, 95] {
+        for after in [
+            1,
+            4,
+            HEADER - 1,
+            HEADER,
+            HEADER + 8,
+            HEADER + 16,
+            HEADER + 31,
+        ] {
             cut(&mut made, start + after);
         }
         cut(&mut made, random.below(file.len() as u64) as usize);
@@ -122,9 +135,9 @@ fn damaged(file: &[u8], seed: u64) -> Vec<(String, Vec<u8>)> {
         spoil("n at its limit", 1, gif_cases::MOST_QUADWORDS);
         spoil("n one more", 1, count + 1);
         spoil("n one less", 1, count.saturating_sub(1));
-        spoil("L one above its limit", 2, gif_cases::MOST_LOG + 1);
+        spoil("L one above its limit", 2, MOST_LOG + 1);
         spoil("L the greatest", 2, u32::MAX);
-        spoil("L at its limit", 2, gif_cases::MOST_LOG);
+        spoil("L at its limit", 2, MOST_LOG);
     }
     made
 }

@@ -2,6 +2,8 @@
 
 use crate::gif::{self, bits, Format, Path, Place, Tag};
 use crate::gif_cases::Standing;
+use crate::log;
+use crate::refusals;
 
 #[derive(Default)]
 pub struct Counts {
@@ -61,14 +63,14 @@ impl Counts {
     ) {
         self.quadwords += 1;
         match answer {
-            gif::REFUSED_LOG => self.note_log(before, used, now.log.len()),
-            gif::REFUSED_RANGE => self.note_range(before),
+            refusals::LOG => self.note_log(before, used, now.log.len()),
+            refusals::RANGE => self.note_range(before),
             _ => {
                 let path = before.expect("only an existing path is stepped");
                 match &path.place {
                     Place::Idle => self.note_tag(quadword, answer),
                     Place::Data { tag, due } => {
-                        let free = now.log.len() as u64 / 2 - used;
+                        let free = log::room(now.log.len(), used);
                         self.note_data(tag, *due, quadword, answer, free);
                     }
                 }
@@ -83,11 +85,11 @@ impl Counts {
         if !before.is_some_and(gif::path_in_range) {
             self.refused_log_before_range += 1;
         }
-        if length % 2 == 1 {
+        if !log::is_whole(length) {
             self.refused_log_odd += 1;
-        } else if length > gif::LOG_LIMIT {
+        } else if length > log::MOST_NUMBERS {
             self.refused_log_long += 1;
-        } else if used.wrapping_mul(2) <= length as u64 {
+        } else if log::numbers_wrap(used) <= length as u64 {
             self.refused_log_used_doubled_wraps += 1;
         } else {
             self.refused_log_used += 1;
@@ -137,10 +139,10 @@ impl Counts {
     }
 
     fn note_data(&mut self, tag: &Tag, due: u32, quadword: u128, answer: u32, free: u64) {
-        if answer == gif::REFUSED_DESCRIPTOR && free == 0 {
+        if answer == refusals::DESCRIPTOR && free == 0 {
             self.refused_b_and_full += 1;
         }
-        if answer == gif::REFUSED_ROOM && free == 1 {
+        if answer == refusals::ROOM && free == 1 {
             self.refused_room_one_free += 1;
         }
         match tag.format {
@@ -155,7 +157,7 @@ impl Counts {
     }
 
     fn note_packed(&mut self, descriptor: u8, quadword: u128, answer: u32) {
-        if answer == gif::REFUSED_ROOM {
+        if answer == refusals::ROOM {
             self.refused_room_packed += 1;
             return;
         }
@@ -168,11 +170,11 @@ impl Counts {
     }
 
     fn note_reglist(&mut self, tag: &Tag, halves: (u8, Option<u8>), answer: u32) {
-        if answer == gif::REFUSED_ROOM {
+        if answer == refusals::ROOM {
             self.refused_room_reglist += 1;
             return;
         }
-        if answer == gif::REFUSED_DESCRIPTOR {
+        if answer == refusals::DESCRIPTOR {
             self.reglist[0xB] += 1;
             if halves.0 == 0xB {
                 self.refused_b_first += 1;
@@ -194,10 +196,10 @@ impl Counts {
 
     fn note_writes(&mut self, used: u64, now: &Standing, changed: usize) {
         let written = now.used - used;
-        let full = now.used * 2 == now.log.len() as u64;
+        let full = log::is_full(now.log.len(), now.used);
         self.exactly_full += (full && written > 0) as u64;
         self.taken_while_full += (full && written == 0) as u64;
-        self.unchanged += 2 * written - changed as u64;
+        self.unchanged += (log::numbers(written) - changed) as u64;
     }
 
     /// Every count by name.

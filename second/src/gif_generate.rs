@@ -1,10 +1,11 @@
 //! GIF cases from a seed.
 
 use crate::gif::{Format, Path, Place, Tag};
-use crate::gif_cases::{fill_number, write_block, Block, Case, Standing};
+use crate::gif_cases::{fill_number, Case, Standing};
+use crate::log;
+use crate::memory::cases::MOST_LOG;
 use crate::random::Random;
-
-const IDLE: Block = [0; 9];
+use crate::state_block::{descriptors, path_word, write_path, PathBlock, IDLE_PATH};
 
 /// A case file of about `quadwords` quadwords.
 pub fn generate(seed: u64, quadwords: u64) -> Vec<u8> {
@@ -30,11 +31,11 @@ pub fn tag_quadword(nloop: u64, flg: u64, nreg: u64, descriptors: u64) -> u128 {
 }
 
 fn fixed_cases() -> Vec<Case> {
-    let case = |log_length, used, quadwords: &[u128]| Case {
-        log_length,
+    let case = |entries, used, quadwords: &[u128]| Case {
+        log_length: log::length(entries),
         used,
         fill: 0x0123_4567_89AB_CDEF,
-        block: IDLE,
+        block: IDLE_PATH,
         quadwords: quadwords.to_vec(),
     };
     let halves = |low: u128, high: u128| low | high << 64;
@@ -42,7 +43,7 @@ fn fixed_cases() -> Vec<Case> {
     vec![
         // REGLIST, NREG 3, NLOOP 1: two quadwords, three writes.
         case(
-            8,
+            4,
             0,
             &[
                 tag_quadword(1, 1, 3, 0x531),
@@ -51,10 +52,10 @@ fn fixed_cases() -> Vec<Case> {
             ],
         ),
         // IMAGE with one entry free: 31, nothing written.
-        case(8, 3, &[tag_quadword(1, 2, 1, 0), halves(0x5555, 0x6666)]),
+        case(4, 3, &[tag_quadword(1, 2, 1, 0), halves(0x5555, 0x6666)]),
         // The GIF tag of a kind 3 record with one write.
         case(
-            8,
+            4,
             0,
             &[
                 0x0000_0000_0000_000E_1000_0000_0000_8001,
@@ -63,7 +64,7 @@ fn fixed_cases() -> Vec<Case> {
         ),
         // Each tag sets Q, also one without data.
         case(
-            16,
+            8,
             0,
             &[
                 tag_quadword(1, 0, 2, 0x12),
@@ -91,28 +92,6 @@ fn fixed_cases() -> Vec<Case> {
 
 /// Each limit of the log and of held tags from both sides.
 fn edge_cases(random: &mut Random) -> Vec<Case> {
-    let logs = [
-        (0, 0),
-        (0, 1),
-        (1, 0),
-        (2, 1),
-        (2, 2),
-        (2, 1 << 63),
-        (2, (1 << 63) + 1),
-        (2, u64::MAX),
-        (64, 1 << 31),
-        (64, 1 << 32),
-        (131_071, 0),
-        (131_072, 65_533),
-        (131_072, 65_534),
-        (131_072, 65_535),
-        (131_072, 65_536),
-        (131_072, 65_537),
-        (131_073, 0),
-        (131_074, 0),
-        (131_074, 65_537),
-        (131_080, 0),
-    ];
     let mut cases = Vec::new();
     let mut add = |log_length, used, block, quadwords| {
         cases.push(Case {
@@ -123,7 +102,7 @@ fn edge_cases(random: &mut Random) -> Vec<Case> {
             quadwords,
         });
     };
-    for (log_length, used) in logs {
+    for (log_length, used) in edge_logs() {
         let tag = Tag::decode(tag_quadword(3, 2, 1, 0));
         let quadwords = vec![random.quadword(), random.quadword()];
         add(log_length, used, held_block(0, &tag, 3), quadwords);
@@ -140,12 +119,42 @@ fn edge_cases(random: &mut Random) -> Vec<Case> {
                 };
                 let all = tag.all_data() as u32;
                 for due in [0, 1, all, all + 1] {
-                    add(4, 0, held_block(0, &tag, due), vec![random.quadword()]);
+                    let quadwords = vec![random.quadword()];
+                    add(log::length(2), 0, held_block(0, &tag, due), quadwords);
                 }
             }
         }
     }
     cases
+}
+
+/// Lengths of logs and entries used at the limits of refusal 4.
+fn edge_logs() -> Vec<(u32, u64)> {
+    let one = log::length(1);
+    let most = log::MOST_NUMBERS as u32;
+    let entries = log::MOST_ENTRIES;
+    vec![
+        (0, 0),
+        (0, 1),
+        (1, 0),
+        (one, 1),
+        (one, 2),
+        (one, log::WRAPS),
+        (one, log::WRAPS + 1),
+        (one, u64::MAX),
+        (log::length(32), 1 << 31),
+        (log::length(32), 1 << 32),
+        (most - 1, 0),
+        (most, entries - 3),
+        (most, entries - 2),
+        (most, entries - 1),
+        (most, entries),
+        (most, entries + 1),
+        (most + 1, 0),
+        (most + one, 0),
+        (most + one, entries + 1),
+        (MOST_LOG, 0),
+    ]
 }
 
 /// A random case of at most about `left` quadwords.
@@ -164,13 +173,14 @@ fn random_case(random: &mut Random, left: u64) -> Case {
     if used < 1 << 32 && random.percent(25) {
         // The next entry's register stands in the log already.
         let register = likely_register(random, &case.block);
-        case.fill = register.wrapping_sub(fill_number(0, 2 * used));
+        let at = (log::numbers(used) + log::REGISTER) as u64;
+        case.fill = register.wrapping_sub(fill_number(0, at));
     }
     let wanted = match random.below(20) {
         0 => random.below(2),
         1..=13 => random.within(1..=16),
         14..=18 => random.within(8..=40),
-        _ if log_length > 64 => random.within(100..=400),
+        _ if log_length > log::length(32) => random.within(100..=400),
         _ => random.within(30..=90),
     };
     fill_case(random, &mut case, wanted.min(left.max(1)));
@@ -207,7 +217,7 @@ fn long_case(random: &mut Random) -> Case {
     let block = held_block(random.word(), &tag, tag.all_data() as u32);
     let quadwords = (0..65_535).map(|_| random.quadword()).collect();
     Case {
-        log_length: 2,
+        log_length: log::length(1),
         used: 1,
         fill: random.number(),
         block,
@@ -221,53 +231,57 @@ pub fn random_log(random: &mut Random) -> (u32, u64) {
         0..=399 => {
             let entries = random.within(0..=32);
             let used = entries - random.within(0..=entries.min(4));
-            (2 * entries as u32, used)
+            (log::length(entries), used)
         }
-        400..=719 => (64, random.within(0..=6)),
+        400..=719 => (log::length(32), random.within(0..=6)),
         720..=789 => {
             let entries = random.within(0..=32);
-            (2 * entries as u32, random.within(0..=entries))
+            (log::length(entries), random.within(0..=entries))
         }
-        790..=924 => (2 * random.within(33..=600) as u32, random.within(0..=20)),
-        925..=936 => {
-            let entries = random.pick(&[65_536, 65_536, 65_536, 65_535, 65_530]);
-            let used = match random.below(3) {
-                0 => random.within(0..=4),
-                1 => entries - random.within(0..=6),
-                _ => random.within(0..=entries),
-            };
-            (2 * entries as u32, used)
-        }
-        937..=939 => {
-            let length = random.pick(&[
-                131_073, 131_074, 131_074, 131_075, 131_076, 131_079, 131_080,
-            ]);
-            (
-                length,
-                random.pick(&[0, 1, 65_535, 65_536, 65_537, 65_540, u64::MAX]),
-            )
-        }
+        790..=924 => (log::length(random.within(33..=600)), random.within(0..=20)),
+        925..=936 => long_log(random),
+        937..=939 => too_long_log(random),
         940..=959 => {
-            let length = 2 * random.within(0..=32) + 1;
-            (length as u32, random.within(0..=length))
+            let length = log::length(random.within(0..=32)) + 1;
+            (length, random.within(0..=length as u64))
         }
         _ => {
             let entries = random.within(0..=32);
-            let used = match random.below(9) {
-                0 | 1 => entries + 1,
-                2 => entries + random.within(1..=100),
-                3 => 1 << 63 | random.within(0..=entries),
-                4 => (1 << 63) + entries + random.within(1..=3),
-                5 => u64::MAX - random.within(0..=3),
-                6 => (1 << 63) - random.within(1..=3),
-                7 => {
-                    random.pick(&[1u64 << 31, 1 << 32, 1 << 33, 1 << 62])
-                        + random.within(0..=entries)
-                }
-                _ => random.number() | 1 << 40,
-            };
-            (2 * entries as u32, used)
+            (log::length(entries), too_many_used(random, entries))
         }
+    }
+}
+
+/// A log of the greatest length or nearly so.
+fn long_log(random: &mut Random) -> (u32, u64) {
+    let most = log::MOST_ENTRIES;
+    let entries = random.pick(&[most, most, most, most - 1, most - 6]);
+    let used = match random.below(3) {
+        0 => random.within(0..=4),
+        1 => entries - random.within(0..=6),
+        _ => random.within(0..=entries),
+    };
+    (log::length(entries), used)
+}
+
+fn too_long_log(random: &mut Random) -> (u32, u64) {
+    let over = random.pick(&[1, 2, 2, 3, 4, 7, 8]);
+    let most = log::MOST_ENTRIES;
+    let used = random.pick(&[0, 1, most - 1, most, most + 1, most + 4, u64::MAX]);
+    (log::length(most) + over, used)
+}
+
+/// More entries used than a log of so many has.
+fn too_many_used(random: &mut Random, entries: u64) -> u64 {
+    match random.below(9) {
+        0 | 1 => entries + 1,
+        2 => entries + random.within(1..=100),
+        3 => log::WRAPS + random.within(0..=entries),
+        4 => log::WRAPS + entries + random.within(1..=3),
+        5 => u64::MAX - random.within(0..=3),
+        6 => log::WRAPS - random.within(1..=3),
+        7 => random.pick(&[1u64 << 31, 1 << 32, 1 << 33, 1 << 62]) + random.within(0..=entries),
+        _ => random.number() | 1 << 40,
     }
 }
 
@@ -276,17 +290,19 @@ fn random_q(random: &mut Random) -> u32 {
     random.pick(&[0, 0x3F80_0000, u32::MAX, any, any, any])
 }
 
-pub fn random_block(random: &mut Random) -> Block {
+pub fn random_block(random: &mut Random) -> PathBlock {
     match random.below(100) {
-        0..=29 => [random_q(random), 0, 0, 0, 0, 0, 0, 0, 0],
+        0..=29 => write_path(&Path {
+            q: random_q(random),
+            place: Place::Idle,
+        }),
         30..=41 => {
             // Idle, with words that mean nothing.
-            let mut block = [0; 9];
-            block.iter_mut().for_each(|w| *w = random.word());
+            let mut block = std::array::from_fn(|_| random.word());
             if random.percent(50) {
                 block = random_held_block(random);
             }
-            block[1] = 0;
+            block[path_word::PLACE] = 0;
             block
         }
         42..=87 => random_held_block(random),
@@ -295,15 +311,15 @@ pub fn random_block(random: &mut Random) -> Block {
     }
 }
 
-fn held_block(q: u32, tag: &Tag, due: u32) -> Block {
-    write_block(&Path {
+fn held_block(q: u32, tag: &Tag, due: u32) -> PathBlock {
+    write_path(&Path {
         q,
         place: Place::Data { tag: *tag, due },
     })
 }
 
 /// A block inside the data of a tag.
-pub fn random_held_block(random: &mut Random) -> Block {
+pub fn random_held_block(random: &mut Random) -> PathBlock {
     let with_b = random.percent(12);
     let mut tag = Tag::decode(random_tag(random, with_b));
     tag.nloop = tag.nloop.max(1);
@@ -322,63 +338,54 @@ pub fn random_held_block(random: &mut Random) -> Block {
     held_block(random_q(random), &tag, due as u32)
 }
 
-pub fn random_out_of_range_block(random: &mut Random) -> Block {
+pub fn random_out_of_range_block(random: &mut Random) -> PathBlock {
     let mut block = random_held_block(random);
-    let (nloop, nreg) = (block[3], block[5]);
+    let any = random.word() | 1 << 20;
+    let field = match random.below(10) {
+        0..=2 => path_word::NLOOP,
+        3..=5 => path_word::NREG,
+        6..=8 => path_word::DUE,
+        _ => {
+            block[path_word::NLOOP] = random.pick(&[u32::MAX, 1 << 31, 1 << 16]);
+            block[path_word::NREG] = random.pick(&[u32::MAX, 2, 1 << 16]);
+            block[path_word::DUE] = random.pick(&[0, 1, u32::MAX]);
+            return block;
+        }
+    };
+    let [a, b, c, d] = wrong_values(&block, field);
+    block[field] = random.pick(&[0, 0, a, a, b, c, d, any]);
+    block
+}
+
+/// Values that a field of a path inside a tag cannot have, the last the greatest.
+fn wrong_values(block: &PathBlock, field: usize) -> [u32; 4] {
+    let (nloop, nreg) = (block[path_word::NLOOP], block[path_word::NREG]);
     let units = nloop * nreg;
-    let all = match block[2] {
+    let all = match block[path_word::FORMAT] {
         0 => units,
         1 => units.div_ceil(2),
         _ => nloop,
     };
-    let any = random.word() | 1 << 20;
-    match random.below(10) {
-        0..=2 => {
-            block[3] = random.pick(&[
-                0,
-                0,
-                32_768,
-                32_768,
-                65_536 + nloop,
-                1 << 28 | 1,
-                u32::MAX,
-                any,
-            ])
-        }
-        3..=5 => block[5] = random.pick(&[0, 0, 17, 17, 32, 256 + nreg, u32::MAX, any]),
-        6..=8 => {
-            block[8] = random.pick(&[
-                0,
-                0,
-                all + 1,
-                all + 1,
-                units + 1,
-                units * 2 + 1,
-                u32::MAX,
-                any,
-            ])
-        }
-        _ => {
-            block[3] = random.pick(&[u32::MAX, 1 << 31, 1 << 16]);
-            block[5] = random.pick(&[u32::MAX, 2, 1 << 16]);
-            block[8] = random.pick(&[0, 1, u32::MAX]);
-        }
+    match field {
+        path_word::NLOOP => [32_768, 65_536 + nloop, 1 << 28 | 1, u32::MAX],
+        path_word::NREG => [17, 32, 256 + nreg, u32::MAX],
+        _ => [all + 1, units + 1, units * 2 + 1, u32::MAX],
     }
-    block
 }
 
-pub fn random_no_path_block(random: &mut Random) -> Block {
+pub fn random_no_path_block(random: &mut Random) -> PathBlock {
     let mut block = if random.percent(80) {
         random_held_block(random)
     } else {
         random_out_of_range_block(random)
     };
     let any = random.word() | 4;
-    match random.below(3) {
-        0 => block[1] = random.pick(&[2, 2, 3, 256, 257, u32::MAX, any]),
-        1 => block[2] = random.pick(&[3, 3, 4, 256, 257, u32::MAX, any]),
-        _ => block[4] = random.pick(&[2, 2, 3, 256, 257, u32::MAX, any]),
-    }
+    let (field, least) = match random.below(3) {
+        0 => (path_word::PLACE, 2),
+        1 => (path_word::FORMAT, 3),
+        _ => (path_word::EOP, 2),
+    };
+    block[field] = random.pick(&[least, least, least + 1, 256, 257, u32::MAX, any]);
     block
 }
 
@@ -434,10 +441,11 @@ fn random_data(random: &mut Random, standing: &Standing) -> u128 {
         3 => !(1 << random.below(128)),
         4..=6 => {
             // The value to write stands in the log already.
-            let at = standing.used.saturating_mul(2).saturating_add(1);
+            let entry = standing.used.saturating_mul(log::ENTRY as u64);
+            let at = entry.saturating_add(log::VALUE as u64);
             let number = |at: u64| *standing.log.get(at as usize).unwrap_or(&0) as u128;
             let high = if random.percent(50) {
-                number(at.saturating_add(2))
+                number(at.saturating_add(log::ENTRY as u64))
             } else {
                 random.word() as u128
             };
@@ -448,19 +456,19 @@ fn random_data(random: &mut Random, standing: &Standing) -> u128 {
 }
 
 /// A register that the block's next data may be written to.
-fn likely_register(random: &mut Random, block: &Block) -> u64 {
-    let due = block[8] as u64;
-    let (nloop, nreg) = (block[3] as u64, block[5] as u64);
-    if block[1] != 1 || nreg == 0 || nreg > 16 {
+fn likely_register(random: &mut Random, block: &PathBlock) -> u64 {
+    let due = block[path_word::DUE] as u64;
+    let nloop = block[path_word::NLOOP] as u64;
+    let nreg = block[path_word::NREG] as u64;
+    if block[path_word::PLACE] != 1 || nreg == 0 || nreg > 16 {
         return 0;
     }
-    let unit = match block[2] {
+    let unit = match block[path_word::FORMAT] {
         0 => (nloop * nreg).wrapping_sub(due),
         1 => (nloop * nreg).div_ceil(2).wrapping_sub(due).wrapping_mul(2),
         _ => return 0x54,
     };
-    let descriptors = block[6] as u64 | (block[7] as u64) << 32;
-    let register = descriptors >> (4 * (unit % nreg)) & 15;
+    let register = descriptors(block) >> (4 * (unit % nreg)) & 15;
     if register == 4 || register == 5 {
         return register + random.pick(&[0, 8]);
     }

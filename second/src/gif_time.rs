@@ -1,7 +1,8 @@
 //! The GIF timing input.
 
 use crate::gif::{self, Path, Place};
-use crate::gif_cases::write_block;
+use crate::log;
+use crate::state_block::write_path;
 use crate::words::{put_number, put_word, quadwords, word, QUADWORD, WORD};
 
 pub const MOST_QUADWORDS: usize = 16_384;
@@ -37,7 +38,7 @@ pub fn result(input: &[u8]) -> Option<Vec<u8>> {
         place: Place::Idle,
     };
     let mut used = 0;
-    let mut log = vec![0u64; gif::LOG_LIMIT];
+    let mut log = vec![0u64; log::MOST_NUMBERS];
     let mut refused = 0u32;
     for _ in 0..rounds {
         for &quadword in &data {
@@ -53,7 +54,7 @@ pub fn result(input: &[u8]) -> Option<Vec<u8>> {
     let mut out = Vec::new();
     put_word(&mut out, refused);
     put_number(&mut out, used);
-    for w in write_block(&path) {
+    for w in write_path(&path) {
         put_word(&mut out, w);
     }
     put_number(

@@ -1,18 +1,13 @@
 //! Test sheets: the chain built from one, its steps and its plain meaning.
 
+use crate::log::Entry;
+use crate::memory::{INSTRUCTIONS, QUADWORDS};
+use crate::refusals;
+
 /// The longest sheet in bytes.
 pub const MOST_SHEET: usize = 131_072;
 pub const MARK: [u8; 2] = [0x9E, 0x51];
 pub const HEADER: usize = 6;
-
-pub const REFUSED_MARK: u32 = 40;
-pub const REFUSED_KIND: u32 = 41;
-pub const REFUSED_COUNT: u32 = 42;
-pub const REFUSED_ADDRESS: u32 = 43;
-pub const REFUSED_CUT: u32 = 44;
-pub const REFUSED_PAD: u32 = 45;
-pub const REFUSED_LONG: u32 = 46;
-pub const REFUSED_OUTPUT: u32 = 47;
 
 const CNT_TAG: u32 = 0x1000_0000;
 const END_TAG: u32 = 0x7000_0000;
@@ -64,8 +59,8 @@ impl Kind {
 
     pub fn allows_address(self, address: u32) -> bool {
         match self {
-            Kind::Data => address < 1_024,
-            Kind::Code | Kind::Start => address < 2_048,
+            Kind::Data => address < QUADWORDS,
+            Kind::Code | Kind::Start => address < INSTRUCTIONS,
             Kind::Gs => address == 0,
         }
     }
@@ -156,7 +151,7 @@ pub fn record_bytes(kind: u8, count: u8, address: u16, body: &[u8]) -> Vec<u8> {
 /// All records of a sheet, or the refusal.
 pub fn records(sheet: &[u8]) -> Result<Vec<Record<'_>>, Refusal> {
     if sheet.len() > MOST_SHEET {
-        return Err((REFUSED_LONG, 0));
+        return Err((refusals::LONG, 0));
     }
     let mut records = Vec::new();
     let mut at = 0;
@@ -171,24 +166,24 @@ pub fn records(sheet: &[u8]) -> Result<Vec<Record<'_>>, Refusal> {
 /// The record at the head of the bytes, or the number of its refusal.
 fn first_record(bytes: &[u8]) -> Result<Record<'_>, u32> {
     if bytes.len() < HEADER {
-        return Err(REFUSED_CUT);
+        return Err(refusals::CUT);
     }
     let (header, rest) = bytes.split_at(HEADER);
     if header[..2] != MARK {
-        return Err(REFUSED_MARK);
+        return Err(refusals::MARK);
     }
-    let kind = Kind::from_number(header[2]).ok_or(REFUSED_KIND)?;
+    let kind = Kind::from_number(header[2]).ok_or(refusals::KIND)?;
     let count = header[3];
     if !kind.allows_count(count) {
-        return Err(REFUSED_COUNT);
+        return Err(refusals::COUNT);
     }
     let address = u16::from_le_bytes([header[4], header[5]]) as u32;
     if !kind.allows_address(address) {
-        return Err(REFUSED_ADDRESS);
+        return Err(refusals::ADDRESS);
     }
-    let body = rest.get(..kind.body_length(count)).ok_or(REFUSED_CUT)?;
+    let body = rest.get(..kind.body_length(count)).ok_or(refusals::CUT)?;
     if kind == Kind::Gs && !body.chunks(16).all(pad_is_zero) {
-        return Err(REFUSED_PAD);
+        return Err(refusals::PAD);
     }
     Ok(Record {
         kind,
@@ -208,7 +203,7 @@ fn pad_is_zero(entry: &[u8]) -> bool {
 pub fn build(sheet: &[u8], output: &mut [u8]) -> Result<usize, Refusal> {
     let records = records(sheet)?;
     let length = length(&records);
-    let mut rest = output.get_mut(..length).ok_or((REFUSED_OUTPUT, 0))?;
+    let mut rest = output.get_mut(..length).ok_or((refusals::OUTPUT, 0))?;
     for record in &records {
         rest = record.write(rest);
     }
@@ -247,40 +242,51 @@ pub fn entries(sheet: &[u8]) -> Result<u64, Refusal> {
 }
 
 /// Feeds the records to a plain machine: the data memory by words, the code memory by
-/// bytes, and the log entries, register and value. A refused sheet changes nothing.
+/// bytes, and the log entries. A refused sheet changes nothing.
 pub fn meaning(
     sheet: &[u8],
     data: &mut [u32],
     code: &mut [u8],
-    entries: &mut Vec<(u64, u64)>,
+    entries: &mut Vec<Entry>,
 ) -> Result<(), Refusal> {
     for record in records(sheet)? {
-        let address = record.address as usize;
         match record.kind {
-            Kind::Data => {
-                for (j, vector) in record.body.chunks(16).enumerate() {
-                    let to = 4 * ((address + j) % 1_024);
-                    for (field, bytes) in vector.chunks(4).enumerate() {
-                        data[to + field] = u32::from_le_bytes(bytes.try_into().unwrap());
-                    }
-                }
-            }
-            Kind::Code => {
-                for (j, instruction) in record.body.chunks(8).enumerate() {
-                    let to = 8 * ((address + j) % 2_048);
-                    code[to..to + 8].copy_from_slice(instruction);
-                }
-            }
-            Kind::Gs => {
-                for entry in record.body.chunks(16) {
-                    let value = u64::from_le_bytes(entry[..8].try_into().unwrap());
-                    entries.push((entry[8] as u64, value));
-                }
-            }
-            Kind::Start => entries.push((ENTRY_START, address as u64)),
+            Kind::Data => record.put_vectors(data),
+            Kind::Code => record.put_instructions(code),
+            Kind::Gs => entries.extend(record.body.chunks(16).map(gs_entry)),
+            Kind::Start => entries.push(Entry {
+                register: ENTRY_START,
+                value: record.address as u64,
+            }),
         }
     }
     Ok(())
+}
+
+impl Record<'_> {
+    fn put_vectors(&self, data: &mut [u32]) {
+        for (j, vector) in self.body.chunks(16).enumerate() {
+            let to = 4 * ((self.address as usize + j) % QUADWORDS as usize);
+            for (field, bytes) in vector.chunks(4).enumerate() {
+                data[to + field] = u32::from_le_bytes(bytes.try_into().unwrap());
+            }
+        }
+    }
+
+    fn put_instructions(&self, code: &mut [u8]) {
+        for (j, instruction) in self.body.chunks(8).enumerate() {
+            let to = 8 * ((self.address as usize + j) % INSTRUCTIONS as usize);
+            code[to..to + 8].copy_from_slice(instruction);
+        }
+    }
+}
+
+/// The log entry in 16 bytes of a GS record.
+fn gs_entry(bytes: &[u8]) -> Entry {
+    Entry {
+        register: bytes[8] as u64,
+        value: u64::from_le_bytes(bytes[..8].try_into().unwrap()),
+    }
 }
 
 #[cfg(test)]
@@ -288,8 +294,9 @@ mod tests {
     use super::record_bytes as record;
     use super::*;
     use crate::chain::{self, Memories, State};
+    use crate::log;
+    use crate::memory::{CODE_BYTES, DATA_WORDS, MOST_MAIN};
     use crate::random::Random;
-    use crate::vif::{CODE_BYTES, DATA_WORDS};
 
     /// The chain as words.
     fn built(sheet: &[u8]) -> Vec<u32> {
@@ -302,19 +309,23 @@ mod tests {
             .collect()
     }
 
+    fn entry(register: u64, value: u64) -> Entry {
+        Entry { register, value }
+    }
+
     /// Memories and log entries, from one fill.
-    fn machine() -> (Vec<u32>, Vec<u8>, Vec<(u64, u64)>) {
+    fn machine() -> (Vec<u32>, Vec<u8>, Vec<Entry>) {
         let data = (0..DATA_WORDS as u32).map(|i| i * 77).collect();
         let code = (0..CODE_BYTES).map(|i| i as u8).collect();
-        (data, code, vec![(9, 9)])
+        (data, code, vec![entry(9, 9)])
     }
 
     /// Builds and runs the chain; what it leaves is what the sheet means.
-    fn run_and_compare(sheet: &[u8]) -> (Vec<u32>, Vec<u8>, Vec<(u64, u64)>) {
-        let mut main = vec![0; chain::MOST_MAIN];
+    fn run_and_compare(sheet: &[u8]) -> (Vec<u32>, Vec<u8>, Vec<Entry>) {
+        let mut main = vec![0; MOST_MAIN];
         build(sheet, &mut main).unwrap();
         let (mut data, mut code, mut entries) = machine();
-        let mut log = vec![9; 131_072];
+        let mut log = vec![9; log::MOST_NUMBERS];
         let mut state = State::reset();
         state.used = 1;
         assert_eq!(chain::start(&mut state, 1, 0, false), Ok(()));
@@ -328,12 +339,10 @@ mod tests {
         assert_eq!(done, (chain::DONE, steps(sheet).unwrap()));
         let (mut plain_data, mut plain_code, _) = machine();
         meaning(sheet, &mut plain_data, &mut plain_code, &mut entries).unwrap();
-        let logged: Vec<(u64, u64)> = log[..2 * state.used as usize]
-            .chunks(2)
-            .map(|entry| (entry[0], entry[1]))
-            .collect();
+        let mut meant = vec![9; log::numbers(state.used)];
+        assert_eq!(log::append_all(&mut meant, &mut 0, &entries), Ok(()));
         assert!(data == plain_data && code == plain_code);
-        assert_eq!(logged, entries);
+        assert_eq!(log[..log::numbers(state.used)], meant);
         (data, code, entries)
     }
 
@@ -369,7 +378,7 @@ mod tests {
             ]
         );
         assert_eq!(steps(&sheet), Ok(6));
-        assert_eq!(run_and_compare(&sheet).2[1..], [(256, 5)]);
+        assert_eq!(run_and_compare(&sheet).2[1..], [entry(256, 5)]);
     }
 
     #[test]
@@ -394,7 +403,7 @@ mod tests {
         assert_eq!(words[8..12], [0x0000_8001, 0x1000_0000, 0x0000_000E, 0]);
         assert_eq!(steps(&sheet), Ok(8));
         let (.., entries) = run_and_compare(&sheet);
-        assert_eq!(entries[1..], [(0x47, 0x0807_0605_0403_0201)]);
+        assert_eq!(entries[1..], [entry(0x47, 0x0807_0605_0403_0201)]);
     }
 
     #[test]

@@ -1,22 +1,24 @@
 //! Sheet case files and their results.
 
-use crate::capture_cases::{read_block, write_block, Block};
 use crate::chain::{self, State};
-use crate::gif;
 use crate::gif_cases::fill_number;
+use crate::log;
+use crate::memory::cases::{MOST_CODE, MOST_DATA, MOST_LOG, MOST_MAIN};
+use crate::refusals;
 use crate::sheet::{self, Refusal};
 use crate::sheet_check::broken;
 use crate::sheet_counts::Counts;
+use crate::state_block::{self, describe_state, read_state, write_state, StateBlock, STATE_WORDS};
 use crate::vif;
 use crate::words::{number, put_number, put_word, word, WORD};
-
-pub use crate::capture_cases::{MOST_CODE, MOST_DATA, MOST_LOG, MOST_MAIN};
 
 pub const MARK: u32 = 0x5448_5354;
 pub const MOST_SHEET: u32 = 131_088;
 pub const MOST_OUTPUT: u32 = 1_048_608;
+/// The word of a case at which the state block starts.
+const STATE_AT: usize = 12;
 /// The words of a case before its sheet.
-pub const HEADER: usize = 75;
+pub const HEADER: usize = STATE_AT + STATE_WORDS;
 
 #[derive(Clone)]
 pub struct Case {
@@ -30,7 +32,7 @@ pub struct Case {
     pub log_length: u32,
     pub fill: u64,
     pub allowance: u64,
-    pub state: Block,
+    pub state: StateBlock,
 }
 
 impl Case {
@@ -53,7 +55,7 @@ impl Case {
 
     /// Entries used, also where the block exists in no state.
     pub fn used(&self) -> u64 {
-        self.state[11] as u64 | (self.state[12] as u64) << 32
+        state_block::used(&self.state)
     }
 
     /// Bytes from the fill, of the output with 3 and of main memory with 4.
@@ -128,7 +130,7 @@ pub struct Ran {
     /// Refused before the run, or the run's answer.
     pub answer: Result<u32, Refusal>,
     pub steps: u64,
-    pub state: Block,
+    pub state: StateBlock,
     pub memories: Filled,
     pub main: Vec<u8>,
 }
@@ -204,22 +206,17 @@ fn mean_on(sheet: &[u8], memories: &mut Filled, used: u64) -> Result<u64, Refusa
     let mut after = memories.clone();
     let mut entries = Vec::new();
     sheet::meaning(sheet, &mut after.data, &mut after.code, &mut entries)?;
-    let free = &mut after.log[2 * used as usize..];
-    if free.len() < 2 * entries.len() {
-        return Err((gif::REFUSED_ROOM, 0));
-    }
-    for (numbers, (register, value)) in free.chunks_mut(2).zip(&entries) {
-        numbers.copy_from_slice(&[*register, *value]);
-    }
+    let mut used = used;
+    log::append_all(&mut after.log, &mut used, &entries).map_err(|refusal| (refusal, 0))?;
     *memories = after;
-    Ok(used + entries.len() as u64)
+    Ok(used)
 }
 
 fn build_and_run(case: &Case) -> Ran {
     let mut ran = Ran {
         answer: Ok(chain::DONE),
         steps: 0,
-        state: read_block(&case.state).map_or(case.state, |state| write_block(&state)),
+        state: read_state(&case.state).map_or(case.state, |state| write_state(&state)),
         memories: Filled::new(case),
         main: case.main(),
     };
@@ -231,7 +228,7 @@ fn build_and_run(case: &Case) -> Ran {
                 chain::run(&mut state, &mut memories, case.allowance, |_, _, _| {});
             ran.answer = Ok(answer);
             ran.steps = steps;
-            ran.state = write_block(&state);
+            ran.state = write_state(&state);
         }
     }
     ran
@@ -250,7 +247,7 @@ fn lend<'a>(memories: &'a mut Filled, main: &'a [u8]) -> chain::Memories<'a> {
 fn start(case: &Case, ran: &mut Ran) -> Result<State, Refusal> {
     let memories = lend(&mut ran.memories, &ran.main);
     chain::check_lengths(&memories, case.used()).map_err(|refusal| (refusal, 0))?;
-    let mut state = read_block(&case.state).ok_or((gif::REFUSED_RANGE, 0))?;
+    let mut state = read_state(&case.state).ok_or((refusals::RANGE, 0))?;
     chain::start(&mut state, 1, case.address, false).map_err(|refusal| (refusal, 0))?;
     let room = ran.main.get_mut(case.address as usize..);
     sheet::build(&case.sheet, room.unwrap_or_default())?;
@@ -301,7 +298,7 @@ pub fn first_case(bytes: &[u8]) -> Option<(Case, usize)> {
         log_length: head(7),
         fill: number(bytes, 8),
         allowance: number(bytes, 10),
-        state: std::array::from_fn(|i| head(12 + i)),
+        state: std::array::from_fn(|i| head(STATE_AT + i)),
     };
     Some((case, HEADER * WORD + filled))
 }
@@ -355,7 +352,8 @@ pub fn layout(case: &Case) -> [Vec<(&'static str, usize)>; 4] {
     let head = [("answer", 1), ("offset", 1)];
     let with = |pieces: &[(&'static str, usize)]| [&head[..], pieces].concat();
     let meaning = [&[("entries used", 2)][..], &memories].concat();
-    let run = [&[("step count", 2), ("state block", 63)][..], &memories].concat();
+    let run = [("step count", 2), ("state block", STATE_WORDS)];
+    let run = [&run[..], &memories].concat();
     let main = [("main memory", words(case.main_length))];
     [
         vec![
@@ -404,7 +402,7 @@ pub fn describe_case(case: &Case) -> String {
         case.log_length,
         case.fill,
         case.allowance,
-        crate::capture_cases::describe_block(&case.state),
+        describe_state(&case.state),
         outcome.built.answer,
         outcome.built.exported,
         outcome.steps,
@@ -418,7 +416,9 @@ pub fn describe_case(case: &Case) -> String {
 #[cfg(test)]
 mod tests {
     use super::*;
+    use crate::memory::{CODE_BYTES, DATA_WORDS};
     use crate::sheet::record_bytes;
+    use crate::state_block::{chain_word, put_part, set_used, unit_word, STMASK, UNIT};
 
     /// A start record at address 32 of 128 bytes, from the reset state.
     fn case() -> Case {
@@ -427,12 +427,12 @@ mod tests {
             output_length: 50,
             main_length: 128,
             address: 32,
-            data_length: 4_096,
-            code_length: 16_384,
-            log_length: 2,
+            data_length: DATA_WORDS as u32,
+            code_length: CODE_BYTES as u32,
+            log_length: log::length(1),
             fill: 0x1122_3344_5566_7788,
             allowance: 6,
-            state: write_block(&State::reset()),
+            state: write_state(&State::reset()),
         }
     }
 
@@ -481,12 +481,15 @@ mod tests {
         assert_eq!([16, 17, 18, 19].map(|at| word(&given, at)), [0, 0, 6, 0]);
         assert_eq!([20, 21, 22, 23].map(|at| word(&given, at)), [0, 0, 1, 0]);
         assert_eq!(word(&given, 24), fill(0, 0) as u32);
-        let code = 24 + 4_096;
+        let code = 24 + DATA_WORDS;
         assert_eq!(given[WORD * code], fill(1, 0) as u8);
-        let log = code + 4_096;
-        assert_eq!((number(&given, log), number(&given, log + 2)), (256, 5));
+        let log_at = code + CODE_BYTES / WORD;
+        assert_eq!(
+            (number(&given, log_at), number(&given, log_at + 2)),
+            (256, 5)
+        );
         // Build and run: answer, offset, steps, channel, TADR, TTE, ended.
-        let run = log + 4;
+        let run = log_at + 2 * log::ENTRY;
         let head: Vec<u32> = (run..run + 8).map(|at| word(&given, at)).collect();
         assert_eq!(head, [0, 0, 6, 0, 1, 64, 0, 1]);
         let main = words - 32;
@@ -498,28 +501,28 @@ mod tests {
     fn refusals_in_order() {
         let mut case = case();
         case.sheet.push(0x9E);
-        case.state[0] = 3;
-        case.state[11] = 2;
+        case.state[chain_word::CHANNEL] = 3;
+        set_used(&mut case.state, 2);
         case.data_length = 0;
         case.code_length = 0;
         case.main_length = 8;
         assert_eq!(answers(&case), [(44, 6), (44, 6), (2, 0), (1, 0)]);
         case.main_length = 64;
         assert_eq!(answers(&case)[3], (2, 0));
-        case.data_length = 4_096;
+        case.data_length = DATA_WORDS as u32;
         assert_eq!(answers(&case)[2..], [(3, 0), (3, 0)]);
-        case.code_length = 16_384;
+        case.code_length = CODE_BYTES as u32;
         assert_eq!(answers(&case)[2..], [(4, 0), (4, 0)]);
-        case.state[11] = 1;
+        set_used(&mut case.state, 1);
         assert_eq!(answers(&case)[2..], [(44, 6), (5, 0)]);
-        case.state[0] = 2;
+        case.state[chain_word::CHANNEL] = 2;
         assert_eq!(answers(&case)[3], (44, 6));
         case.sheet.pop();
         // No room in the log, and none from address 32 on.
         assert_eq!(answers(&case), [(0, 48), (0, 0), (31, 0), (47, 0)]);
         case.address = 16;
         assert_eq!(answers(&case)[3], (31, 0));
-        case.log_length = 4;
+        case.log_length = log::length(2);
         assert_eq!(answers(&case)[2..], [(0, 0), (0, 0)]);
     }
 
@@ -548,25 +551,37 @@ mod tests {
         let full = Outcome::new(&changed(|case| case.log_length = 0));
         assert_eq!(full.meant.answer, Err((31, 0)));
         assert_eq!((full.ran.answer, full.ran.steps), (Ok(31), 4));
-        assert_eq!(full.ran.state[9..11], [1, 60]);
+        let pending = [chain_word::PAYLOAD_WORDS, chain_word::PAYLOAD_AT];
+        assert_eq!(pending.map(|at| full.ran.state[at]), [1, 60]);
     }
 
     #[test]
     fn blocks_as_they_are_written() {
+        let (ended, junk) = (chain_word::ENDED, chain_word::TAG_WORD_AT);
         // In no state: as given. Words that mean nothing: zero.
-        let none = Outcome::new(&changed(|case| (case.state[3], case.state[8]) = (2, 9)));
+        let none = Outcome::new(&changed(|case| {
+            (case.state[ended], case.state[junk]) = (2, 9);
+        }));
         assert_eq!(none.ran.answer, Err((5, 0)));
-        assert_eq!((none.ran.state[3], none.ran.state[8]), (2, 9));
+        assert_eq!((none.ran.state[ended], none.ran.state[junk]), (2, 9));
         for due in [0, 2, u32::MAX] {
-            let stmask = changed(|case| case.state[34..38].copy_from_slice(&[1, 0, due, 7]));
+            let stmask = changed(|case| {
+                let at = UNIT + unit_word::WAITING;
+                put_part(&mut case.state, at, &[STMASK, 0, due, 7]);
+            });
             let none = Outcome::new(&stmask);
             assert_eq!(none.ran.answer, Err((5, 0)));
             assert_eq!(none.ran.state, stmask.state);
         }
-        let refused = Outcome::new(&changed(|case| (case.address, case.state[8]) = (8, 9)));
+        let refused = Outcome::new(&changed(|case| {
+            (case.address, case.state[junk]) = (8, 9);
+        }));
         assert_eq!(refused.ran.answer, Err((5, 0)));
-        assert_eq!(refused.ran.state[8], 0);
-        let used = changed(|case| (case.state[3], case.state[12]) = (2, 1 << 31));
+        assert_eq!(refused.ran.state[junk], 0);
+        let used = changed(|case| {
+            case.state[ended] = 2;
+            set_used(&mut case.state, 1 << 63);
+        });
         assert_eq!(answers(&used)[2..], [(4, 0), (4, 0)]);
         assert_eq!(Outcome::new(&used).meant.used, 1 << 63);
     }
@@ -578,7 +593,7 @@ mod tests {
         let file = [&whole[..], &whole].concat();
         let results_of = |file: &[u8]| results(file, &mut Counts::default());
         let own = own(&case());
-        for cut in [1, 4, 75 * WORD, whole.len() - 1] {
+        for cut in [1, 4, HEADER * WORD, whole.len() - 1] {
             let given = results_of(&file[..whole.len() + cut]);
             assert_eq!(given.damage, Some(own.len()));
             assert_eq!(given.bytes, [&own[..], b"damaged case 1\n"].concat());
@@ -591,10 +606,10 @@ mod tests {
             (3, 1_048_608),
             (5, 4_100),
             (6, 16_392),
-            (7, 131_080),
+            (7, MOST_LOG),
         ] {
             let mut file = whole.clone();
-            file.resize(75 * WORD + 131_092, 0);
+            file.resize(HEADER * WORD + 131_092, 0);
             for (value, fits) in [(most, true), (most + 1, false)] {
                 file[WORD * at..WORD * at + WORD].copy_from_slice(&u32::to_le_bytes(value));
                 assert_eq!(first_case(&file).is_some(), fits, "word {at}");

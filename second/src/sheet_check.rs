@@ -1,11 +1,13 @@
 //! What the run of a sheet's chain has to leave, whatever another program says.
 
-use crate::capture_cases::{read_block, write_block, Block};
 use crate::chain::{self, State};
-use crate::gif::{self, Place};
+use crate::gif::Place;
+use crate::log;
+use crate::memory::{CODE_BYTES, DATA_WORDS, MOST_MAIN};
+use crate::refusals;
 use crate::sheet;
 use crate::sheet_cases::{Case, Outcome};
-use crate::vif;
+use crate::state_block::{read_state, write_state, StateBlock};
 
 /// How a run has to end where nothing waits and path 2 is idle.
 #[derive(Clone, Copy, PartialEq, Eq, Debug)]
@@ -23,10 +25,10 @@ pub enum End {
 pub fn foretold(case: &Case) -> Option<End> {
     let steps = sheet::steps(&case.sheet).ok()?;
     let entries = sheet::entries(&case.sheet).ok()?;
-    if !lengths_right(case) || !fits(case) || !clean(&read_block(&case.state)?) {
+    if !lengths_right(case) || !fits(case) || !clean(&read_state(&case.state)?) {
         return None;
     }
-    let room = case.log_length as u64 / 2 - case.used();
+    let room = log::room(case.log_length as usize, case.used());
     match (entries <= room, steps <= case.allowance) {
         (true, true) => Some(End::Whole),
         (true, false) => Some(End::Cut),
@@ -40,10 +42,10 @@ fn lengths_right(case: &Case) -> bool {
     let main = case.main_length as usize;
     main > 0
         && main % 16 == 0
-        && main <= chain::MOST_MAIN
-        && case.data_length as usize == vif::DATA_WORDS
-        && case.code_length as usize == vif::CODE_BYTES
-        && gif::log_in_range(case.log_length as usize, case.used())
+        && main <= MOST_MAIN
+        && case.data_length as usize == DATA_WORDS
+        && case.code_length as usize == CODE_BYTES
+        && log::in_range(case.log_length as usize, case.used())
 }
 
 /// Whether the chain fits into main memory at the address.
@@ -69,7 +71,7 @@ pub fn broken(case: &Case, outcome: &Outcome) -> Option<String> {
         End::Cut if given != (Ok(chain::ALLOWANCE_USED), case.allowance) => {
             Some(format!("{given:?} is not 90 after the allowance"))
         }
-        End::Full if given.0 != Ok(gif::REFUSED_ROOM) => {
+        End::Full if given.0 != Ok(refusals::ROOM) => {
             Some(format!("{given:?} where the log lacks room"))
         }
         End::Cut | End::Full => None,
@@ -92,8 +94,8 @@ fn wrong_end(case: &Case, outcome: &Outcome) -> Option<&'static str> {
 
 /// Whether the chain has ended at its end tag with nothing pending or waiting, and what
 /// no record touches is as it was.
-fn state_right(case: &Case, after: &Block, used: u64) -> bool {
-    let (Some(before), Some(state)) = (read_block(&case.state), read_block(after)) else {
+fn state_right(case: &Case, after: &StateBlock, used: u64) -> bool {
+    let (Some(before), Some(state)) = (read_state(&case.state), read_state(after)) else {
         return false;
     };
     let chain = sheet::chain_length(&case.sheet).unwrap_or(0) as u32;
@@ -107,7 +109,7 @@ fn state_right(case: &Case, after: &Block, used: u64) -> bool {
         ..State::reset()
     };
     let (old, new) = (&before.unit.registers, &state.unit.registers);
-    *after == write_block(&ended)
+    *after == write_state(&ended)
         && clean(&state)
         && (old.ofst, old.base, old.itops) == (new.ofst, new.base, new.itops)
         && (old.mskpath3, old.mark, old.mask) == (new.mskpath3, new.mark, new.mask)
@@ -128,6 +130,7 @@ fn main_after(case: &Case) -> Vec<u8> {
 mod tests {
     use super::*;
     use crate::sheet_points;
+    use crate::state_block::{chain_word, put_part, unit_word, PATH2, STMASK, UNIT};
 
     /// The bench points, each with our own outcome.
     fn outcomes() -> Vec<(Case, Outcome)> {
@@ -158,7 +161,7 @@ mod tests {
             |o| o.ran.memories.code[100] ^= 1,
             |o| o.ran.memories.log[7] ^= 1,
             |o| o.ran.main[0] ^= 1,
-            |o| o.ran.state[1] ^= 16,
+            |o| o.ran.state[chain_word::TADR] ^= 16,
         ];
         for sham in shams {
             for (case, mut outcome) in outcomes() {
@@ -180,9 +183,9 @@ mod tests {
             |c| c.address += 8,
             |c| c.address = 1 << 20,
             // A code that waits, path 2 inside a tag, a state out of range.
-            |c| (c.state[34], c.state[36]) = (1, 1),
-            |c| (c.state[46], c.state[48], c.state[50], c.state[53]) = (1, 1, 1, 1),
-            |c| c.state[0] = 3,
+            |c| put_part(&mut c.state, UNIT + unit_word::WAITING, &[STMASK, 0, 1]),
+            |c| put_part(&mut c.state, PATH2, &[0, 1, 0, 1, 0, 1, 0, 0, 1]),
+            |c| c.state[chain_word::CHANNEL] = 3,
         ];
         assert_eq!(foretold(&case), Some(End::Whole));
         for change in changes {

@@ -1,6 +1,7 @@
 //! Another program's sheet results against our own.
 
 use crate::compare::{first_difference, table, zeros, Program};
+use crate::memory::cases::{MOST_CODE, MOST_DATA, MOST_LOG, MOST_MAIN};
 use crate::random::Random;
 use crate::sheet_cases::{
     self, case_starts, describe_case, describe_place, first_case, Results, HEADER,
@@ -175,10 +176,10 @@ fn spoil_case(made: &mut Vec<(String, Vec<u8>)>, file: &[u8], start: usize, inde
     let limits = [
         ("S", 1, sheet_cases::MOST_SHEET),
         ("O", 2, sheet_cases::MOST_OUTPUT),
-        ("M", 3, sheet_cases::MOST_MAIN),
-        ("D", 5, sheet_cases::MOST_DATA),
-        ("C", 6, sheet_cases::MOST_CODE),
-        ("L", 7, sheet_cases::MOST_LOG),
+        ("M", 3, MOST_MAIN),
+        ("D", 5, MOST_DATA),
+        ("C", 6, MOST_CODE),
+        ("L", 7, MOST_LOG),
     ];
     for (name, at, most) in limits {
         spoil(&format!("{name} at its limit"), at, most);

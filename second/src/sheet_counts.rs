@@ -1,37 +1,55 @@
 //! What sheet cases reached.
 
-use crate::capture_cases::{read_block, write_block};
 use crate::capture_counts::junk_beside_stmask;
 use crate::chain::{self, State};
-use crate::gif::{self, Place};
+use crate::gif::Place;
+use crate::log;
+use crate::memory::{CODE_BYTES, DATA_WORDS, INSTRUCTIONS, MOST_MAIN, QUADWORDS};
+use crate::refusals;
 use crate::sheet::{self, Kind, Record, Refusal, HEADER, MARK};
 use crate::sheet_cases::{Case, Outcome};
 use crate::sheet_check::{foretold, End};
+use crate::state_block::{read_state, waiting_name, waiting_number, write_state, WAITING};
 use crate::vif;
-use crate::vif_cases::waiting_number;
-use crate::vif_counts::WAITING;
 use std::collections::HashMap;
 
 const KINDS: [&str; 4] = ["data", "code", "GS", "start"];
 /// Counts n that have a row of their own.
 const OWN_ROWS: [u32; 5] = [1, 2, 3, 254, 255];
 /// The refusals of a record.
-const RECORD: [u32; 6] = [40, 41, 42, 43, 44, 45];
+const RECORD: [u32; 6] = [
+    refusals::MARK,
+    refusals::KIND,
+    refusals::COUNT,
+    refusals::ADDRESS,
+    refusals::CUT,
+    refusals::PAD,
+];
 /// The first that is wrong with a record and the next, where a record can have both.
 const RECORD_PAIRS: [(u32, u32); 8] = [
-    (40, 41),
-    (40, 42),
-    (40, 43),
-    (40, 44),
-    (40, 45),
-    (42, 43),
-    (43, 44),
-    (43, 45),
+    (refusals::MARK, refusals::KIND),
+    (refusals::MARK, refusals::COUNT),
+    (refusals::MARK, refusals::ADDRESS),
+    (refusals::MARK, refusals::CUT),
+    (refusals::MARK, refusals::PAD),
+    (refusals::COUNT, refusals::ADDRESS),
+    (refusals::ADDRESS, refusals::CUT),
+    (refusals::ADDRESS, refusals::PAD),
 ];
 /// The refusals of a run's steps that a built chain can meet.
-const STEPS: [u32; 7] = [20, 21, 22, 23, 24, 30, 31];
+const STEPS: [u32; 7] = [
+    refusals::COMMAND,
+    refusals::FORMAT,
+    refusals::CYCLE,
+    refusals::MODE,
+    refusals::PLACE,
+    refusals::DESCRIPTOR,
+    refusals::ROOM,
+];
+/// At entry.
+const LENGTHS: [u32; 3] = [refusals::DATA, refusals::CODE, refusals::LOG];
 /// Stands for 40 to 46 where several things are wrong with a case.
-const SHEET: u32 = 40;
+const SHEET: u32 = refusals::MARK;
 
 #[derive(Default)]
 pub struct Counts {
@@ -93,9 +111,9 @@ impl Counts {
         self.records[kind][column.unwrap_or(OWN_ROWS.len())] += 1;
         let end = record.address + record.count;
         match record.kind {
-            Kind::Data => self.wraps[0] += (end > vif::QUADWORDS) as u64,
+            Kind::Data => self.wraps[0] += (end > QUADWORDS) as u64,
             Kind::Code => {
-                self.wraps[1] += (end > vif::INSTRUCTIONS) as u64;
+                self.wraps[1] += (end > INSTRUCTIONS) as u64;
                 self.odd_code += (record.count % 2) as u64;
             }
             Kind::Gs | Kind::Start => {}
@@ -103,7 +121,7 @@ impl Counts {
     }
 
     fn note_refused_sheet(&mut self, case: &Case, (number, at): Refusal) {
-        if number == sheet::REFUSED_LONG {
+        if number == refusals::LONG {
             self.add(&format!("refused 46, {} bytes", case.sheet.len()));
             let whole = sheet::records(&case.sheet[..sheet::MOST_SHEET]).is_ok();
             self.add_if("refused 46, its first 131,072 bytes are a sheet", whole);
@@ -130,22 +148,22 @@ impl Counts {
         let kind = bytes[2];
         let body = bytes.len() - HEADER;
         match number {
-            sheet::REFUSED_MARK => match (bytes[0] == MARK[0], bytes[1] == MARK[1]) {
+            refusals::MARK => match (bytes[0] == MARK[0], bytes[1] == MARK[1]) {
                 (false, true) => self.add("refused 40, byte 0"),
                 (true, false) => self.add("refused 40, byte 1"),
                 _ => self.add("refused 40, both bytes"),
             },
-            sheet::REFUSED_KIND if kind == 0 => self.add("refused 41, kind 0"),
-            sheet::REFUSED_KIND if kind == 5 => self.add("refused 41, kind 5"),
-            sheet::REFUSED_KIND => self.add("refused 41, kind above 5"),
-            sheet::REFUSED_COUNT => self.add(&format!("refused 42, kind {kind}")),
-            sheet::REFUSED_ADDRESS => {
+            refusals::KIND if kind == 0 => self.add("refused 41, kind 0"),
+            refusals::KIND if kind == 5 => self.add("refused 41, kind 5"),
+            refusals::KIND => self.add("refused 41, kind above 5"),
+            refusals::COUNT => self.add(&format!("refused 42, kind {kind}")),
+            refusals::ADDRESS => {
                 self.add(&format!("refused 43, kind {kind}"));
-                let limit = [1_024, 2_048, 1, 2_048][kind as usize - 1];
-                let at_limit = bytes[4..6] == u16::to_le_bytes(limit);
+                let limit = [QUADWORDS, INSTRUCTIONS, 1, INSTRUCTIONS][kind as usize - 1];
+                let at_limit = bytes[4..6] == u16::to_le_bytes(limit as u16);
                 self.add_if(&format!("refused 43, kind {kind} at its limit"), at_limit);
             }
-            sheet::REFUSED_CUT => {
+            refusals::CUT => {
                 let whole = Kind::from_number(kind).map_or(0, |kind| kind.body_length(bytes[3]));
                 self.add(&format!("refused 44, body of kind {kind}"));
                 self.add_if("refused 44, body short by one byte", body + 1 == whole);
@@ -214,8 +232,8 @@ impl Counts {
         note("build and run", outcome.ran.answer, "done");
         let refused = |answer: Result<u32, Refusal>| answer.err().map(|refusal| refusal.0);
         match refused(outcome.ran.answer) {
-            Some(gif::REFUSED_RANGE) => self.note_out_of_range(case),
-            Some(sheet::REFUSED_OUTPUT) => self.note_no_place(case),
+            Some(refusals::RANGE) => self.note_out_of_range(case),
+            Some(refusals::OUTPUT) => self.note_no_place(case),
             _ => {}
         }
     }
@@ -223,10 +241,10 @@ impl Counts {
     fn note_out_of_range(&mut self, case: &Case) {
         let address = case.address;
         let wrong = [
-            ("no state", read_block(&case.state).is_none()),
+            ("no state", read_state(&case.state).is_none()),
             (
                 "a state out of range",
-                read_block(&case.state).is_some_and(|state| !chain::in_range(&state)),
+                read_state(&case.state).is_some_and(|state| !chain::in_range(&state)),
             ),
             ("address no multiple of 16", address % 16 != 0),
             ("address from 2^31", address >= 1 << 31),
@@ -258,27 +276,30 @@ impl Counts {
         let (data, code) = (case.data_length as usize, case.code_length as usize);
         let (log, main) = (case.log_length as usize, case.main_length as usize);
         let used = case.used();
-        let odd = log % 2 != 0;
-        let below = 2 * used as u128 > log as u128;
+        let odd = !log::is_whole(log);
+        let below = !log::holds(log, used);
         let rows = [
             ("data memory empty", data == 0),
-            ("data memory short", data > 0 && data < vif::DATA_WORDS),
-            ("data memory long", data > vif::DATA_WORDS),
+            ("data memory short", data > 0 && data < DATA_WORDS),
+            ("data memory long", data > DATA_WORDS),
             ("code memory empty", code == 0),
-            ("code memory short", code > 0 && code < vif::CODE_BYTES),
-            ("code memory long", code > vif::CODE_BYTES),
+            ("code memory short", code > 0 && code < CODE_BYTES),
+            ("code memory long", code > CODE_BYTES),
             ("code memory no multiple of 4", code % 4 != 0),
-            ("log odd", odd && log < gif::LOG_LIMIT),
-            ("log too long", log > gif::LOG_LIMIT),
-            ("log of 131,072 numbers", log == gif::LOG_LIMIT),
+            ("log odd", odd && log < log::MOST_NUMBERS),
+            ("log too long", log > log::MOST_NUMBERS),
+            ("log of 131,072 numbers", log == log::MOST_NUMBERS),
             ("log below twice the entries used", below && !odd),
-            ("entries used from 2^63", used >= 1 << 63),
-            ("entries used 2^63, log empty", used == 1 << 63 && log == 0),
+            ("entries used from 2^63", used >= log::WRAPS),
+            (
+                "entries used 2^63, log empty",
+                used == log::WRAPS && log == 0,
+            ),
             ("main memory empty", main == 0),
-            ("main memory too long", main > chain::MOST_MAIN),
+            ("main memory too long", main > MOST_MAIN),
             ("main memory no multiple of 16", main % 16 != 0),
             ("main memory no multiple of 4", main % 4 != 0),
-            ("main memory of 1,048,576 bytes", main == chain::MOST_MAIN),
+            ("main memory of 1,048,576 bytes", main == MOST_MAIN),
         ];
         rows.iter().for_each(|&(name, is)| self.add_if(name, is));
     }
@@ -296,15 +317,15 @@ impl Counts {
 
     /// Notes a case that came to its run.
     fn note_run(&mut self, case: &Case, outcome: &Outcome) {
-        let Some(state) = read_block(&case.state) else {
+        let Some(state) = read_state(&case.state) else {
             return;
         };
-        let junk = write_block(&state) != case.state;
+        let junk = write_state(&state) != case.state;
         self.add_if("runs from a block with words that mean nothing", junk);
         self.note_place(case);
         self.note_allowance(case, outcome);
         if let Some(waiting) = &state.unit.waiting {
-            let name = WAITING[waiting_number(&waiting.payload) as usize - 1];
+            let name = waiting_name(waiting_number(&waiting.payload));
             self.add(&format!("runs with {name} waiting"));
             let done = outcome.ran.answer == Ok(chain::DONE);
             self.add_if("runs with a code waiting: done", done);
@@ -367,7 +388,7 @@ impl Counts {
         self.whole_steps += outcome.ran.steps;
         self.note_whole_from(state, case.main_length as usize);
         let entries = sheet::entries(&case.sheet).unwrap_or(0);
-        let room = case.log_length as u64 / 2 - case.used();
+        let room = log::room(case.log_length as usize, case.used());
         let full = entries > 0 && room == entries;
         let rows = [
             ("in all", true),
@@ -410,7 +431,7 @@ impl Counts {
 
     fn note_full(&mut self, case: &Case) {
         let entries = sheet::entries(&case.sheet).unwrap_or(0);
-        let room = case.log_length as u64 / 2 - case.used();
+        let room = log::room(case.log_length as usize, case.used());
         self.add_if("log short by one entry", room + 1 == entries);
         self.add_if("log short by more", room + 1 < entries);
     }
@@ -457,22 +478,22 @@ fn pad_wrong(entry: &[u8]) -> bool {
 fn wrong_in_record(bytes: &[u8]) -> Vec<u32> {
     let mut wrong = Vec::new();
     if bytes[..2] != MARK {
-        wrong.push(sheet::REFUSED_MARK);
+        wrong.push(refusals::MARK);
     }
     let Some(kind) = Kind::from_number(bytes[2]) else {
-        wrong.push(sheet::REFUSED_KIND);
+        wrong.push(refusals::KIND);
         return wrong;
     };
     if !kind.allows_count(bytes[3]) {
-        wrong.push(sheet::REFUSED_COUNT);
+        wrong.push(refusals::COUNT);
     }
     if !kind.allows_address(u16::from_le_bytes([bytes[4], bytes[5]]) as u32) {
-        wrong.push(sheet::REFUSED_ADDRESS);
+        wrong.push(refusals::ADDRESS);
     }
     match bytes[HEADER..].get(..kind.body_length(bytes[3])) {
-        None => wrong.push(sheet::REFUSED_CUT),
+        None => wrong.push(refusals::CUT),
         Some(body) if kind == Kind::Gs && body.chunks(16).any(pad_wrong) => {
-            wrong.push(sheet::REFUSED_PAD);
+            wrong.push(refusals::PAD);
         }
         Some(_) => {}
     }
@@ -481,15 +502,16 @@ fn wrong_in_record(bytes: &[u8]) -> Vec<u32> {
 
 /// The numbers of all that refuses the meaning, in order; 40 for any of 40 to 46.
 fn wrong_for_meaning(case: &Case) -> Vec<u32> {
-    let log_right = gif::log_in_range(case.log_length as usize, case.used());
+    let log_right = log::in_range(case.log_length as usize, case.used());
     let entries = sheet::entries(&case.sheet);
-    let lacks = |&entries: &u64| log_right && entries > case.log_length as u64 / 2 - case.used();
+    let lacks =
+        |&entries: &u64| log_right && entries > log::room(case.log_length as usize, case.used());
     let all = [
-        (2, case.data_length as usize != vif::DATA_WORDS),
-        (3, case.code_length as usize != vif::CODE_BYTES),
-        (4, !log_right),
+        (refusals::DATA, case.data_length as usize != DATA_WORDS),
+        (refusals::CODE, case.code_length as usize != CODE_BYTES),
+        (refusals::LOG, !log_right),
         (SHEET, entries.is_err()),
-        (31, entries.as_ref().is_ok_and(lacks)),
+        (refusals::ROOM, entries.as_ref().is_ok_and(lacks)),
     ];
     all.iter().filter(|(_, is)| *is).map(|(n, _)| *n).collect()
 }
@@ -497,18 +519,21 @@ fn wrong_for_meaning(case: &Case) -> Vec<u32> {
 /// The same for build and run, as far as the run's entry.
 fn wrong_for_run(case: &Case) -> Vec<u32> {
     let main = case.main_length as usize;
-    let state = read_block(&case.state);
+    let state = read_state(&case.state);
     let chain = sheet::chain_length(&case.sheet);
     let room = main.saturating_sub(case.address as usize);
     let start = chain::start_in_range(1, case.address, false);
+    let main_wrong = main == 0 || main % 16 != 0 || main > MOST_MAIN;
+    let log_right = log::in_range(case.log_length as usize, case.used());
+    let in_range = start && state.as_ref().is_some_and(chain::in_range);
     let all = [
-        (1, main == 0 || main % 16 != 0 || main > chain::MOST_MAIN),
-        (2, case.data_length as usize != vif::DATA_WORDS),
-        (3, case.code_length as usize != vif::CODE_BYTES),
-        (4, !gif::log_in_range(case.log_length as usize, case.used())),
-        (5, !start || !state.as_ref().is_some_and(chain::in_range)),
+        (refusals::MAIN, main_wrong),
+        (refusals::DATA, case.data_length as usize != DATA_WORDS),
+        (refusals::CODE, case.code_length as usize != CODE_BYTES),
+        (refusals::LOG, !log_right),
+        (refusals::RANGE, !in_range),
         (SHEET, chain.is_err()),
-        (47, chain.is_ok_and(|chain| chain > room)),
+        (refusals::OUTPUT, chain.is_ok_and(|chain| chain > room)),
     ];
     all.iter().filter(|(_, is)| *is).map(|(n, _)| *n).collect()
 }
@@ -534,17 +559,19 @@ fn names() -> Vec<String> {
 }
 
 fn add_answer_names(names: &mut Vec<String>) {
+    let with = |first: &[u32], between: &[u32], last: u32| [first, between, &[last]].concat();
     let mut add = |part: &str, well: &str, numbers: &[u32]| {
         names.push(format!("{part}: {well}"));
         for number in numbers {
             names.push(format!("{part}: refused {number}"));
         }
     };
-    add("builder", "built", &[40, 41, 42, 43, 44, 45, 46, 47]);
-    add("steps", "given", &[40, 41, 42, 43, 44, 45, 46]);
-    let meaning = [2, 3, 4, 40, 41, 42, 43, 44, 45, 46, 31];
-    add("meaning", "done", &meaning);
-    let run = [1, 2, 3, 4, 5, 40, 41, 42, 43, 44, 45, 46, 47];
+    let sheet = [&RECORD[..], &[refusals::LONG]].concat();
+    add("builder", "built", &with(&[], &sheet, refusals::OUTPUT));
+    add("steps", "given", &sheet);
+    add("meaning", "done", &with(&LENGTHS, &sheet, refusals::ROOM));
+    let entry = [&[refusals::MAIN], &LENGTHS[..], &[refusals::RANGE]].concat();
+    let run = with(&entry, &sheet, refusals::OUTPUT);
     add("build and run", "done", &run);
     for number in [chain::ALLOWANCE_USED, chain::INTERRUPT]
         .iter()
@@ -593,8 +620,13 @@ fn add_pair_names(names: &mut Vec<String>) {
         }
     };
     // Without a legal log or an accepted sheet there is no room to speak of.
-    add("meaning", &[2, 3, 4, SHEET, 31], &[(4, 31), (SHEET, 31)]);
-    add("build and run", &[1, 2, 3, 4, 5, SHEET, 47], &[(SHEET, 47)]);
+    let last = refusals::ROOM;
+    let all = [&LENGTHS[..], &[SHEET, last]].concat();
+    add("meaning", &all, &[(refusals::LOG, last), (SHEET, last)]);
+    let last = refusals::OUTPUT;
+    let entry = [&[refusals::MAIN], &LENGTHS[..], &[refusals::RANGE]].concat();
+    let all = [&entry[..], &[SHEET, last]].concat();
+    add("build and run", &all, &[(SHEET, last)]);
 }
 
 const NAMES: &[&str] = &[

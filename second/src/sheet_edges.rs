@@ -1,20 +1,30 @@
 //! Sheet cases at the edges: each refusal at each place, lengths, states, addresses.
 
-use crate::capture_cases::{write_block, Block};
 use crate::capture_generate::field_blocks;
 use crate::chain::State;
-use crate::gif_cases;
+use crate::gif::{Format, Path, Place, Tag};
 use crate::gif_generate::{random_held_block, random_no_path_block};
+use crate::log;
+use crate::memory::cases::{MOST_CODE, MOST_DATA};
+use crate::memory::{CODE_BYTES, DATA_WORDS, INSTRUCTIONS, QUADWORDS};
 use crate::random::Random;
 use crate::sheet::{self, record_bytes};
-use crate::sheet_cases::{Case, MOST_CODE, MOST_DATA};
+use crate::sheet_cases::Case;
 use crate::sheet_random::{
     any_state, case_around, good_record, random_bytes, random_record, random_sheet, sheet_of,
     shorten_memories, CODE, DATA, GS, START,
 };
+use crate::state_block::{
+    chain_word, put_part, set_used, unit_word, write_path, write_state, StateBlock, PATH2, PATHS,
+    UNIT, UNPACK,
+};
 use crate::vif::{Payload, Unit, Waiting};
 use crate::vif_generate::{code_word, random_waiting_unit, stmask_block, NOT_ONE};
 use crate::words::put_word;
+
+/// The right lengths of the memories, as cases give them.
+const DATA_LENGTH: u32 = DATA_WORDS as u32;
+const CODE_LENGTH: u32 = CODE_BYTES as u32;
 
 const KINDS: [u8; 4] = [DATA, CODE, GS, START];
 /// Cases with a block from the list of fields.
@@ -145,11 +155,12 @@ impl Edges<'_> {
     }
 
     fn add_addresses(&mut self) {
+        let (vectors, instructions) = (QUADWORDS as u16, INSTRUCTIONS as u16);
         let all: [(u8, &[u16]); 4] = [
-            (DATA, &[1_024, 1_025, 2_047, 0x8000, 0xFFFF]),
-            (CODE, &[2_048, 4_095, 0x8000, 0xFFFF]),
+            (DATA, &[vectors, vectors + 1, 2_047, 0x8000, 0xFFFF]),
+            (CODE, &[instructions, 4_095, 0x8000, 0xFFFF]),
             (GS, &[1, 256, 1_024, 0xFFFF]),
-            (START, &[2_048, 2_049, 0xFFFF]),
+            (START, &[instructions, instructions + 1, 0xFFFF]),
         ];
         for (kind, addresses) in all {
             for address in addresses {
@@ -160,7 +171,8 @@ impl Edges<'_> {
             }
         }
         // The last legal ones.
-        for (kind, address) in [(DATA, 1_023), (CODE, 2_047), (START, 2_047)] {
+        let last = instructions - 1;
+        for (kind, address) in [(DATA, vectors - 1), (CODE, last), (START, last)] {
             let n = if kind == START { 0 } else { 3 };
             let mut good = good_record(self.random, kind, n);
             good[4..6].copy_from_slice(&u16::to_le_bytes(address));
@@ -298,12 +310,13 @@ impl Edges<'_> {
 
     /// Lengths of data, code and main memory from both sides.
     fn add_lengths(&mut self) {
-        for length in [0, 1, 4_095, 4_097, MOST_DATA] {
+        for length in [0, 1, DATA_LENGTH - 1, DATA_LENGTH + 1, MOST_DATA] {
             let mut case = self.whole_case();
             case.data_length = length;
             self.cases.push(case);
         }
-        for length in [0, 1, 16_383, 16_385, 16_386, 16_388, MOST_CODE] {
+        let code = CODE_LENGTH;
+        for length in [0, 1, code - 1, code + 1, code + 2, code + 4, MOST_CODE] {
             let mut case = self.whole_case();
             case.code_length = length;
             self.cases.push(case);
@@ -325,22 +338,23 @@ impl Edges<'_> {
             let mut case = case_around(self.random, sheet);
             let entries = sheet::entries(&case.sheet).unwrap_or(0);
             let room = entries.saturating_sub(lacking);
-            case.log_length = 2 * (case.used() + room) as u32;
+            case.log_length = log::length(case.used() + room);
             self.cases.push(case);
         }
+        let (one, twenty) = (log::length(1), log::length(20));
         let refused = [
             (0, 1),
-            (0, 1 << 63),
+            (0, log::WRAPS),
             (1, 0),
-            (2, 2),
-            (2, 1 << 63),
-            (2, (1 << 63) + 1),
-            (2, u64::MAX),
-            (40, 1 << 32),
-            (40, 1 << 31),
-            (41, 3),
-            (39, 20),
-            (40, 21),
+            (one, 2),
+            (one, log::WRAPS),
+            (one, log::WRAPS + 1),
+            (one, u64::MAX),
+            (twenty, 1 << 32),
+            (twenty, 1 << 31),
+            (twenty + 1, 3),
+            (twenty - 1, 20),
+            (twenty, 21),
         ];
         for (length, used) in refused {
             let mut case = self.whole_case();
@@ -394,17 +408,20 @@ impl Edges<'_> {
             case.main_length += self.random.pick(&[1, 4, 8, 15]);
         }
         if wrong & 2 != 0 {
-            case.data_length = self.random.pick(&[0, 1, 4_095, 4_097]);
+            let right = DATA_LENGTH;
+            case.data_length = self.random.pick(&[0, 1, right - 1, right + 1]);
         }
         if wrong & 4 != 0 {
-            case.code_length = self.random.pick(&[0, 1, 16_383, 16_385]);
+            let right = CODE_LENGTH;
+            case.code_length = self.random.pick(&[0, 1, right - 1, right + 1]);
         }
         if wrong & 8 != 0 {
-            let used = case.log_length as u64 / 2 + self.random.pick(&[1, 1 << 63]);
+            let entries = log::room(case.log_length as usize, 0);
+            let used = entries + self.random.pick(&[1, log::WRAPS]);
             set_used(&mut case.state, used);
         } else if (wrong & 0x11).count_ones() == 1 {
             // No room for any entry.
-            case.log_length = 2 * case.used() as u32;
+            case.log_length = log::length(case.used());
         }
     }
 
@@ -413,9 +430,9 @@ impl Edges<'_> {
         match self.random.below(5) {
             0 => case.address |= self.random.pick(&[1, 4, 8, 15]),
             1 => case.address |= 1 << 31,
-            2 => case.state[0] = self.random.pick(&[0, 3]),
-            3 => case.state[1] = 8,
-            _ => case.state[3] = 2,
+            2 => case.state[chain_word::CHANNEL] = self.random.pick(&[0, 3]),
+            3 => case.state[chain_word::TADR] = 8,
+            _ => case.state[chain_word::ENDED] = 2,
         }
     }
 
@@ -426,21 +443,21 @@ impl Edges<'_> {
             let mut block = self.random.pick(&blocks);
             // The first few with STMASK and other than one word due.
             if let Some(&due) = NOT_ONE.get(i) {
-                block[13..45].copy_from_slice(&stmask_block(due));
+                put_part(&mut block, UNIT, &stmask_block(due));
             }
             self.add_block(block);
         }
-        for path_at in [45, 54] {
+        for (_, path_at) in PATHS {
             for _ in 0..3 {
-                let mut block = write_block(&State::reset());
+                let mut block = write_state(&State::reset());
                 let path = random_no_path_block(self.random);
-                block[path_at..path_at + 9].copy_from_slice(&path);
+                put_part(&mut block, path_at, &path);
                 self.add_block(block);
             }
         }
     }
 
-    fn add_block(&mut self, block: Block) {
+    fn add_block(&mut self, block: StateBlock) {
         let mut case = self.whole_case();
         let used = case.used();
         case.state = block;
@@ -450,18 +467,20 @@ impl Edges<'_> {
 
     /// Codes of every kind that wait, and tags on path 2.
     fn add_waiting_codes(&mut self) {
-        let mut seen = [0; 8];
+        let (waiting_at, due_at) = (UNIT + unit_word::WAITING, UNIT + unit_word::DUE);
+        let mut seen = [0; UNPACK as usize + 1];
         while seen[1..].iter().any(|&count| count < 3) {
             let unit = random_waiting_unit(self.random);
-            let mut block = write_block(&State {
+            let mut block = write_state(&State {
                 unit,
                 ..State::reset()
             });
-            seen[block[34] as usize] += 1;
-            if seen[block[34] as usize] <= 3 {
+            let seen = &mut seen[block[waiting_at] as usize];
+            *seen += 1;
+            if *seen <= 3 {
                 // Often little is due, so that the chain gets on.
                 let due = self.random.within(1..=4) as u32;
-                block[36] = block[36].min(due);
+                block[due_at] = block[due_at].min(due);
                 self.add_block(block);
             }
         }
@@ -469,9 +488,9 @@ impl Edges<'_> {
             let sheet = [random_sheet(self.random), good_record(self.random, GS, 3)].concat();
             let mut case = case_around(self.random, sheet);
             let path = random_held_block(self.random);
-            case.state[45..54].copy_from_slice(&path);
+            put_part(&mut case.state, PATH2, &path);
             if with_b {
-                case.state[45..54].copy_from_slice(&held_at_b());
+                put_part(&mut case.state, PATH2, &write_path(&held_at_b()));
             }
             self.cases.push(case);
         }
@@ -481,7 +500,7 @@ impl Edges<'_> {
                 used: case.used(),
                 ..any_state(self.random, case.main_length)
             };
-            case.state = write_block(&state);
+            case.state = write_state(&state);
             self.cases.push(case);
         }
     }
@@ -505,7 +524,7 @@ impl Edges<'_> {
                 let n = if kind == DATA { 2 } else { 4 };
                 let sheet = record_bytes(kind, n, 5, &body);
                 let mut case = case_around(self.random, sheet);
-                case.state = write_block(&strow_waits());
+                case.state = write_state(&strow_waits());
                 // No room for MSCAL.
                 case.log_length = 0;
                 self.cases.push(case);
@@ -564,11 +583,6 @@ impl Edges<'_> {
     }
 }
 
-pub fn set_used(block: &mut Block, used: u64) {
-    block[11] = used as u32;
-    block[12] = (used >> 32) as u32;
-}
-
 /// A state in which STROW waits for four words.
 fn strow_waits() -> State {
     State {
@@ -585,8 +599,18 @@ fn strow_waits() -> State {
 }
 
 /// A path whose next data meets descriptor B.
-fn held_at_b() -> gif_cases::Block {
-    [7, 1, 0, 4, 1, 1, 0xB, 0, 3]
+fn held_at_b() -> Path {
+    let tag = Tag {
+        format: Format::Packed,
+        nloop: 4,
+        eop: true,
+        nreg: 1,
+        descriptors: 0xB,
+    };
+    Path {
+        q: 7,
+        place: Place::Data { tag, due: 3 },
+    }
 }
 
 #[cfg(test)]

@@ -1,17 +1,19 @@
 //! Sheet cases from a seed.
 
-use crate::capture_cases::write_block;
 use crate::capture_generate::spoil;
-use crate::chain::{self, State};
-use crate::gif;
+use crate::chain::State;
+use crate::log;
+use crate::memory;
+use crate::memory::cases::{MOST_LOG, MOST_MAIN};
 use crate::random::Random;
 use crate::sheet;
-use crate::sheet_cases::{Case, MOST_LOG, MOST_MAIN, MOST_OUTPUT};
-use crate::sheet_edges::{edge_cases, set_used};
+use crate::sheet_cases::{Case, MOST_OUTPUT};
+use crate::sheet_edges::edge_cases;
 use crate::sheet_random::{
     any_state, case_around, damaged_sheet, good_record, random_sheet, sheet_of, shorten_memories,
     CODE, DATA, GS, START,
 };
+use crate::state_block::{set_used, write_state};
 
 /// One case in so many is large.
 const LARGE_EVERY: u64 = 300;
@@ -63,7 +65,7 @@ fn odd_case(random: &mut Random) -> Case {
             let mut case = usual_case(random);
             let state = any_state(random, case.main_length);
             let used = case.used();
-            case.state = write_block(&State { used, ..state });
+            case.state = write_state(&State { used, ..state });
             if random.percent(20) {
                 case.allowance = random.below(sheet::steps(&case.sheet).unwrap_or(1));
             }
@@ -87,7 +89,7 @@ fn spoil_case(random: &mut Random, case: &mut Case) {
         3 => case.log_length = case.log_length.saturating_sub(few),
         4 => set_used(
             &mut case.state,
-            random.pick(&[few as u64, any as u64, 1 << 63]),
+            random.pick(&[few as u64, any as u64, log::WRAPS]),
         ),
         5 => case.allowance = random.below(sheet::steps(&case.sheet).unwrap_or(1)),
         _ => spoil(random, &mut case.state),
@@ -107,7 +109,8 @@ fn large_case(random: &mut Random, kind: u64) -> Case {
         3 => longest_log(random),
         4 => {
             let mut case = usual_case(random);
-            case.log_length = random.pick(&[131_073, 131_074, MOST_LOG]);
+            let most = log::MOST_NUMBERS as u32;
+            case.log_length = random.pick(&[most + 1, most + log::length(1), MOST_LOG]);
             case
         }
         5 => longest_main(random),
@@ -125,10 +128,10 @@ fn most_starts(random: &mut Random) -> Case {
     let sheet: Vec<u8> = sheet.collect();
     let mut case = case_around(random, sheet);
     let chain = sheet::chain_length(&case.sheet).unwrap_or(16) as u32;
-    case.main_length = chain::MOST_MAIN as u32;
+    case.main_length = memory::MOST_MAIN as u32;
     case.address = case.main_length - chain;
-    let short = random.pick(&[0, 0, 0, 2]);
-    case.log_length = 2 * (case.used() as u32 + MOST_STARTS as u32) - short;
+    let short = random.pick(&[0, 0, 0, 1]);
+    case.log_length = log::length(case.used() + MOST_STARTS as u64 - short);
     case
 }
 
@@ -149,8 +152,8 @@ fn longest_sheet(random: &mut Random) -> Case {
 fn longest_log(random: &mut Random) -> Case {
     let mut case = usual_case(random);
     let entries = sheet::entries(&case.sheet).unwrap_or(0);
-    case.log_length = gif::LOG_LIMIT as u32;
-    let most = gif::LOG_LIMIT as u64 / 2 - entries;
+    case.log_length = log::MOST_NUMBERS as u32;
+    let most = log::MOST_ENTRIES - entries;
     let any = random.below(most);
     set_used(&mut case.state, random.pick(&[most, most, any]));
     case
@@ -160,7 +163,7 @@ fn longest_log(random: &mut Random) -> Case {
 fn longest_main(random: &mut Random) -> Case {
     let mut case = usual_case(random);
     let chain = sheet::chain_length(&case.sheet).unwrap_or(16) as u32;
-    case.main_length = chain::MOST_MAIN as u32;
+    case.main_length = memory::MOST_MAIN as u32;
     case.address = case.main_length - chain + random.pick(&[0, 0, 16]);
     case
 }
@@ -209,8 +212,9 @@ mod tests {
         assert_eq!(starts.address, 1_048_576 - 699_056);
         assert_eq!(large_case(&mut random, 1).sheet.len(), 131_072);
         assert!(large_case(&mut random, 2).main_length > 1_048_576);
-        assert_eq!(large_case(&mut random, 3).log_length, 131_072);
-        assert!(large_case(&mut random, 4).log_length > 131_072);
+        let most = log::MOST_NUMBERS as u32;
+        assert_eq!(large_case(&mut random, 3).log_length, most);
+        assert!(large_case(&mut random, 4).log_length > most);
         assert_eq!(large_case(&mut random, 5).main_length, 1_048_576);
         assert!(large_case(&mut random, 6).output_length >= 1_048_576);
     }

@@ -1,14 +1,18 @@
 //! The scope document's bench points about sheets, with literal values.
 
-use crate::capture_cases::write_block;
 use crate::chain::State;
+use crate::log::{self, ENTRY};
+use crate::memory::{CODE_BYTES, DATA_WORDS};
 use crate::sheet_cases::{describe_place, put_bytes, Case, Filled};
+use crate::state_block::{
+    chain_word, path_word, set_used, unit_word, write_state, PATH2, STATE_WORDS, UNIT,
+};
 use crate::words::{put_number, put_word, WORD};
 
 const OUTPUT: u32 = 128;
 const MAIN: u32 = 160;
 const ADDRESS: u32 = 32;
-const LOG: u32 = 8;
+const ENTRIES: u64 = 4;
 const FILL: u64 = 0x0123_4567_89AB_CDEF;
 
 /// A sheet and what it has to give from the reset state.
@@ -21,13 +25,13 @@ pub struct Point {
     data: &'static [(usize, u32)],
     /// The words of code memory that change, by their byte address divided by 4.
     code: &'static [(usize, u32)],
-    log: &'static [u64],
+    log: &'static [[u64; ENTRY]],
     /// The words of the state block that are not as after a reset, TADR and entries
     /// used left out.
     state: &'static [(usize, u32)],
 }
 
-const ENDED: (usize, u32) = (3, 1);
+const ENDED: (usize, u32) = (chain_word::ENDED, 1);
 
 pub fn points() -> [Point; 5] {
     [
@@ -65,9 +69,9 @@ fn start_at_5() -> Point {
         steps: 6,
         data: &[],
         code: &[],
-        log: &[256, 5],
+        log: &[[256, 5]],
         // DBF flips.
-        state: &[ENDED, (21, 1)],
+        state: &[ENDED, (UNIT + unit_word::DBF, 1)],
     }
 }
 
@@ -98,7 +102,7 @@ fn data_at_1023() -> Point {
         code: &[],
         log: &[],
         // CL 1, WL 1.
-        state: &[ENDED, (13, 1), (14, 1)],
+        state: &[ENDED, (UNIT + unit_word::CL, 1), (UNIT + unit_word::WL, 1)],
     }
 }
 
@@ -121,9 +125,9 @@ fn one_gs_write() -> Point {
         steps: 8,
         data: &[],
         code: &[],
-        log: &[0x47, 0x8807_0605_0403_0201],
+        log: &[[0x47, 0x8807_0605_0403_0201]],
         // Q of path 2.
-        state: &[ENDED, (45, 0x3F80_0000)],
+        state: &[ENDED, (PATH2 + path_word::Q, 0x3F80_0000)],
     }
 }
 
@@ -160,12 +164,12 @@ impl Point {
             output_length: OUTPUT,
             main_length: MAIN,
             address: ADDRESS,
-            data_length: 4_096,
-            code_length: 16_384,
-            log_length: LOG,
+            data_length: DATA_WORDS as u32,
+            code_length: CODE_BYTES as u32,
+            log_length: log::length(ENTRIES),
             fill: FILL,
             allowance: u64::MAX,
-            state: write_block(&State::reset()),
+            state: write_state(&State::reset()),
         }
     }
 
@@ -173,7 +177,7 @@ impl Point {
     fn expected(&self) -> Vec<u8> {
         let case = self.case();
         let length = 4 * self.chain.len() as u32;
-        let used = self.log.len() as u64 / 2;
+        let used = self.log.len() as u64;
         let mut out = Vec::new();
         [0, length, length]
             .iter()
@@ -189,10 +193,10 @@ impl Point {
 
         put_number(&mut out, 0);
         put_number(&mut out, self.steps);
-        let mut state = [0; 63];
-        state[0] = 1;
-        state[1] = ADDRESS + length - 16;
-        state[11] = used as u32;
+        let mut state = [0; STATE_WORDS];
+        state[chain_word::CHANNEL] = 1;
+        state[chain_word::TADR] = ADDRESS + length - 16;
+        set_used(&mut state, used);
         self.state.iter().for_each(|&(at, w)| state[at] = w);
         state.iter().for_each(|&w| put_word(&mut out, w));
         self.memories(&case).write(&mut out);
@@ -214,7 +218,8 @@ impl Point {
         for &(at, word) in self.code {
             memories.code[WORD * at..WORD * at + WORD].copy_from_slice(&word.to_le_bytes());
         }
-        memories.log[..self.log.len()].copy_from_slice(self.log);
+        let logged = self.log.concat();
+        memories.log[..logged.len()].copy_from_slice(&logged);
         memories
     }
 }

@@ -1,13 +1,15 @@
 //! Sheets by chance, and cases around them.
 
-use crate::capture_cases::{write_block, Block};
 use crate::capture_generate::{add_junk, random_state};
 use crate::chain::{self, Pending, State};
 use crate::gif::Place;
+use crate::log;
+use crate::memory::{CODE_BYTES, DATA_WORDS, INSTRUCTIONS, MOST_MAIN, QUADWORDS};
 use crate::random::Random;
 use crate::sheet::{self, record_bytes, Kind};
 use crate::sheet_cases::Case;
-use crate::vif::{self, Registers};
+use crate::state_block::{write_state, StateBlock};
+use crate::vif::Registers;
 use crate::vif_generate::{random_code, Taste};
 use crate::words::put_word;
 
@@ -64,8 +66,8 @@ pub fn random_body(random: &mut Random, kind: u8, n: u8) -> Vec<u8> {
 /// A legal address, often one from which n go round the end.
 pub fn random_address(random: &mut Random, kind: u8, n: u8) -> u16 {
     let limit = match kind {
-        DATA => 1_024,
-        CODE | START => 2_048,
+        DATA => QUADWORDS as u64,
+        CODE | START => INSTRUCTIONS as u64,
         _ => return 0,
     };
     let address = match random.below(8) {
@@ -193,9 +195,9 @@ pub fn case_around(random: &mut Random, sheet: Vec<u8>) -> Case {
         output_length: random_output(random, chain),
         main_length,
         address,
-        data_length: vif::DATA_WORDS as u32,
-        code_length: vif::CODE_BYTES as u32,
-        log_length: 2 * (used + entries + spare) as u32,
+        data_length: DATA_WORDS as u32,
+        code_length: CODE_BYTES as u32,
+        log_length: log::length(used + entries + spare),
         fill: random.number(),
         allowance: enough(random, steps),
         state: clean_block(random, main_length, used),
@@ -247,12 +249,12 @@ pub fn enough(random: &mut Random, steps: u64) -> u64 {
     ])
 }
 
-fn clean_block(random: &mut Random, main_length: u32, used: u64) -> Block {
+fn clean_block(random: &mut Random, main_length: u32, used: u64) -> StateBlock {
     let state = State {
         used,
         ..clean_state(random, main_length)
     };
-    let mut block = write_block(&state);
+    let mut block = write_state(&state);
     if random.percent(8) {
         add_junk(random, &mut block);
     }
@@ -275,7 +277,7 @@ fn clean_state(random: &mut Random, main_length: u32) -> State {
 
 /// A state in range; pending words may lie outside main memory.
 pub fn any_state(random: &mut Random, main_length: u32) -> State {
-    let length = random.pick(&[main_length.max(16), chain::MOST_MAIN as u32]);
+    let length = random.pick(&[main_length.max(16), MOST_MAIN as u32]);
     let mut state = random_state(random, length);
     if random.percent(3) {
         state.payload = Some(Pending {

@@ -2,28 +2,17 @@
 //! DIRECT and DIRECTHL.
 
 use crate::gif;
+use crate::log::{self, Entries};
+use crate::memory::{CODE_BYTES, DATA_WORDS, INSTRUCTIONS};
+use crate::refusals;
 use crate::vif_unpack::{Format, Unpack};
 
-/// The data memory in words.
-pub const DATA_WORDS: usize = 4_096;
-/// The code memory in bytes.
-pub const CODE_BYTES: usize = 16_384;
-/// The code memory in instructions.
-pub const INSTRUCTIONS: u32 = 2_048;
-/// The data memory in quadwords.
-pub const QUADWORDS: u32 = 1_024;
+/// What the ten bits of BASE, OFST, TOPS, TOP, ITOPS, ITOP and an UNPACK's address count.
+pub const ADDRESSES: u32 = 1_024;
 /// What DIRECT with IMM 0 takes.
 pub const MOST_DIRECT: u32 = 65_536;
 /// What UNPACK and MPG with NUM 0 take.
 pub const MOST_NUM: u32 = 256;
-
-pub const REFUSED_DATA: u32 = 2;
-pub const REFUSED_CODE: u32 = 3;
-pub const REFUSED_COMMAND: u32 = 20;
-pub const REFUSED_FORMAT: u32 = 21;
-pub const REFUSED_CYCLE: u32 = 22;
-pub const REFUSED_MODE: u32 = 23;
-pub const REFUSED_PLACE: u32 = 24;
 
 const ENTRY_MSCAL: u64 = 256;
 const ENTRY_MSCALF: u64 = 257;
@@ -147,7 +136,7 @@ impl Code {
     pub fn decode(word: u32) -> Result<Code, u32> {
         let imm = word & 0xFFFF;
         let num = word >> 16 & 0xFF;
-        let ten = imm & 0x3FF;
+        let ten = imm % ADDRESSES;
         let count = if num == 0 { MOST_NUM } else { num };
         let quadwords = if imm == 0 { MOST_DIRECT } else { imm };
         let code = match word >> 24 & 0x7F {
@@ -159,7 +148,7 @@ impl Code {
             0x02 => Code::Offset(ten),
             0x03 => Code::Base(ten),
             0x04 => Code::Itop(ten),
-            0x05 if imm & 3 == 3 => return Err(REFUSED_MODE),
+            0x05 if imm & 3 == 3 => return Err(refusals::MODE),
             0x05 => Code::Stmod(imm & 3),
             0x06 => Code::Mskpath3(imm >> 15 == 1),
             0x07 => Code::Mark(imm),
@@ -179,14 +168,14 @@ impl Code {
             0x50 => Code::Direct(quadwords),
             0x51 => Code::Directhl(quadwords),
             command @ 0x60..=0x7F => Code::Unpack {
-                format: Format::from_number(command & 15).ok_or(REFUSED_FORMAT)?,
+                format: Format::from_number(command & 15).ok_or(refusals::FORMAT)?,
                 masked: command >> 4 & 1 == 1,
                 address: ten,
                 add_tops: imm >> 15 & 1 == 1,
                 unsigned: imm >> 14 & 1 == 1,
                 count,
             },
-            _ => return Err(REFUSED_COMMAND),
+            _ => return Err(refusals::COMMAND),
         };
         Ok(code)
     }
@@ -205,7 +194,7 @@ pub fn take(
 ) -> Result<Taken, u32> {
     check_lengths(data.len(), code.len(), log.len(), *used)?;
     if !in_range(unit) || !gif::path_in_range(path) {
-        return Err(gif::REFUSED_RANGE);
+        return Err(refusals::RANGE);
     }
     let registers = &mut unit.registers;
     let Some(waiting) = &mut unit.waiting else {
@@ -224,7 +213,7 @@ pub fn take(
         Payload::Mpg(mpg) => mpg.take_word(waiting.due, given.word(), code),
         Payload::Direct | Payload::Directhl => {
             let Given::Quadword(quadword) = given else {
-                return Err(REFUSED_PLACE);
+                return Err(refusals::PLACE);
             };
             gif::take(path, used, log, quadword)?;
             quadword_taken = true;
@@ -246,13 +235,13 @@ pub fn take(
 /// Tests for the refusals 2, 3 and 4.
 pub fn check_lengths(data: usize, code: usize, log: usize, used: u64) -> Result<(), u32> {
     if data != DATA_WORDS {
-        return Err(REFUSED_DATA);
+        return Err(refusals::DATA);
     }
     if code != CODE_BYTES {
-        return Err(REFUSED_CODE);
+        return Err(refusals::CODE);
     }
-    if !gif::log_in_range(log, used) {
-        return Err(gif::REFUSED_LOG);
+    if !log::in_range(log, used) {
+        return Err(refusals::LOG);
     }
     Ok(())
 }
@@ -270,7 +259,7 @@ pub fn in_range(unit: &Unit) -> bool {
     ];
     registers.cl <= 255
         && registers.wl <= 255
-        && addresses.iter().all(|&address| address <= 1_023)
+        && addresses.iter().all(|&address| address < ADDRESSES)
         && registers.mode <= 2
         && registers.mark <= 65_535
         && unit
@@ -369,14 +358,14 @@ fn take_code(
             count,
         } => {
             if !cycle_legal(registers) {
-                return Err(REFUSED_CYCLE);
+                return Err(refusals::CYCLE);
             }
             let added = if add_tops { registers.tops } else { 0 };
             let unpack = Unpack {
                 format,
                 masked,
                 unsigned,
-                address: (address + added) % QUADWORDS,
+                address: (address + added) % ADDRESSES,
                 count,
                 held: [0; 3],
             };
@@ -389,23 +378,19 @@ fn take_code(
 /// MSCAL, MSCALF and MSCNT.
 fn call(
     registers: &mut Registers,
-    entry: u64,
+    register: u64,
     value: u32,
     log: &mut [u64],
     used: &mut u64,
 ) -> Result<(), u32> {
-    let at = 2 * *used as usize;
-    if log.len() - at < 2 {
-        return Err(gif::REFUSED_ROOM);
-    }
-    log[at] = entry;
-    log[at + 1] = value as u64;
-    *used += 1;
+    let mut entry = Entries::default();
+    entry.add(register, value as u64);
+    log::append(log, used, &entry)?;
     registers.itop = registers.itops;
     registers.top = registers.tops;
     registers.dbf = !registers.dbf;
     registers.tops = if registers.dbf {
-        (registers.base + registers.ofst) % QUADWORDS
+        (registers.base + registers.ofst) % ADDRESSES
     } else {
         registers.base
     };

@@ -1,31 +1,36 @@
 //! VIF case files and their results.
 
-use crate::gif::{self, Path};
-use crate::gif_cases::{self, fill_number};
-use crate::vif::{self, Given, Mpg, Payload, Registers, Unit, Waiting};
+use crate::gif::Path;
+use crate::gif_cases::fill_number;
+use crate::memory::cases::{MOST_CODE, MOST_DATA, MOST_LOG};
+use crate::refusals;
+use crate::state_block::{
+    describe_path, describe_unit, read_path, read_unit, write_path, write_unit, PathBlock,
+    UnitBlock, PATH_WORDS, UNIT_WORDS,
+};
+use crate::vif::{self, Given, Unit};
 use crate::vif_counts::{Call, Counts};
-use crate::vif_unpack::{Format, Unpack};
 use crate::words::{number, put_number, put_word, word, WORD};
 
 pub const MARK: u32 = 0x4649_5654;
-pub const MOST_DATA: u32 = 4_100;
-pub const MOST_CODE: u32 = 16_392;
-pub const MOST_LOG: u32 = 131_080;
 pub const MOST_GROUPS: u32 = 65_535;
 pub const MOST_WORDS: u32 = 262_144;
 pub const MOST_CALLS: u32 = 65_535;
+/// The words of a case at which its blocks start.
+const UNIT_AT: usize = 8;
+const PATH_AT: usize = UNIT_AT + UNIT_WORDS;
+/// The words of a case with the first word's number, the groups and the words.
+pub const NUMBER: usize = PATH_AT + PATH_WORDS;
+pub const GROUPS: usize = NUMBER + 1;
+pub const WORDS: usize = GROUPS + 1;
 /// The words of a case before its groups.
-pub const HEADER: usize = 52;
+pub const HEADER: usize = WORDS + 1;
 /// After the answers of a group.
 const ANSWERS_END: u32 = u32::MAX;
 /// Added to a refusal's number.
 pub const REFUSED: u32 = 65_536;
 /// Added where a code with its bit 31 set was completed.
 pub const INTERRUPT: u32 = 256;
-
-/// A unit block as it lies in files.
-pub type Block = [u32; 32];
-pub type PathBlock = gif_cases::Block;
 
 #[derive(Clone)]
 pub struct Case {
@@ -34,7 +39,7 @@ pub struct Case {
     pub log_length: u32,
     pub used: u64,
     pub fill: u64,
-    pub unit: Block,
+    pub unit: UnitBlock,
     pub path: PathBlock,
     /// The number of the first word in its quadword.
     pub number: u32,
@@ -74,132 +79,11 @@ impl Case {
     }
 }
 
-pub fn bit(word: u32) -> Option<bool> {
-    match word {
-        0 => Some(false),
-        1 => Some(true),
-        _ => None,
-    }
-}
-
-/// The unit of a block; none where it exists in no unit.
-pub fn read_block(block: &Block) -> Option<Unit> {
-    let registers = Registers {
-        cl: block[0],
-        wl: block[1],
-        ofst: block[2],
-        base: block[3],
-        tops: block[4],
-        top: block[5],
-        itops: block[6],
-        itop: block[7],
-        dbf: bit(block[8])?,
-        mode: block[9],
-        mskpath3: bit(block[10])?,
-        mark: block[11],
-        mask: block[12],
-        row: [block[13], block[14], block[15], block[16]],
-        col: [block[17], block[18], block[19], block[20]],
-    };
-    let payload = match block[21] {
-        0 => {
-            return Some(Unit {
-                registers,
-                waiting: None,
-            })
-        }
-        // With other than one word due it exists in no unit.
-        1 if block[23] == 1 => Payload::Stmask,
-        2 => Payload::Strow,
-        3 => Payload::Stcol,
-        4 => Payload::Mpg(Mpg {
-            address: block[24],
-            count: block[25],
-        }),
-        5 => Payload::Direct,
-        6 => Payload::Directhl,
-        7 => Payload::Unpack(Unpack {
-            address: block[24],
-            count: block[25],
-            format: Format::from_number(block[26])?,
-            unsigned: bit(block[27])?,
-            masked: bit(block[28])?,
-            held: [block[29], block[30], block[31]],
-        }),
-        _ => return None,
-    };
-    let waiting = Waiting {
-        payload,
-        interrupt: bit(block[22])?,
-        due: block[23],
-    };
-    Some(Unit {
-        registers,
-        waiting: Some(waiting),
-    })
-}
-
-pub fn write_block(unit: &Unit) -> Block {
-    let r = &unit.registers;
-    let mut block = [0; 32];
-    block[..13].copy_from_slice(&[
-        r.cl,
-        r.wl,
-        r.ofst,
-        r.base,
-        r.tops,
-        r.top,
-        r.itops,
-        r.itop,
-        r.dbf as u32,
-        r.mode,
-        r.mskpath3 as u32,
-        r.mark,
-        r.mask,
-    ]);
-    block[13..17].copy_from_slice(&r.row);
-    block[17..21].copy_from_slice(&r.col);
-    if let Some(waiting) = &unit.waiting {
-        block[21] = waiting_number(&waiting.payload);
-        block[22] = waiting.interrupt as u32;
-        block[23] = waiting.due;
-        match &waiting.payload {
-            Payload::Mpg(mpg) => {
-                block[24] = mpg.address;
-                block[25] = mpg.count;
-            }
-            Payload::Unpack(unpack) => {
-                block[24] = unpack.address;
-                block[25] = unpack.count;
-                block[26] = unpack.format.number();
-                block[27] = unpack.unsigned as u32;
-                block[28] = unpack.masked as u32;
-                block[29..32].copy_from_slice(&unpack.held);
-            }
-            _ => {}
-        }
-    }
-    block
-}
-
-/// Word 21 of the block for a code that waits.
-pub fn waiting_number(payload: &Payload) -> u32 {
-    match payload {
-        Payload::Stmask => 1,
-        Payload::Strow => 2,
-        Payload::Stcol => 3,
-        Payload::Mpg(_) => 4,
-        Payload::Direct => 5,
-        Payload::Directhl => 6,
-        Payload::Unpack(_) => 7,
-    }
-}
-
 /// What stands while the words of a case are given.
 pub struct Standing {
     /// None where a block of the case exists in no unit or path.
     pub both: Option<(Unit, Path)>,
-    given: (Block, PathBlock),
+    given: (UnitBlock, PathBlock),
     pub used: u64,
     pub data: Vec<u32>,
     pub code: Vec<u8>,
@@ -210,7 +94,7 @@ impl Standing {
     pub fn new(case: &Case) -> Standing {
         let number = |add: u64, i: u32| fill_number(case.fill.wrapping_add(add), i as u64);
         Standing {
-            both: read_block(&case.unit).zip(gif_cases::read_block(&case.path)),
+            both: read_unit(&case.unit).zip(read_path(&case.path)),
             given: (case.unit, case.path),
             used: case.used,
             data: (0..case.data_length).map(|i| number(0, i) as u32).collect(),
@@ -243,12 +127,12 @@ impl Standing {
     fn refusal(&self) -> u32 {
         vif::check_lengths(self.data.len(), self.code.len(), self.log.len(), self.used)
             .err()
-            .unwrap_or(gif::REFUSED_RANGE)
+            .unwrap_or(refusals::RANGE)
     }
 
-    pub fn blocks(&self) -> (Block, PathBlock) {
+    pub fn blocks(&self) -> (UnitBlock, PathBlock) {
         match &self.both {
-            Some((unit, path)) => (write_block(unit), gif_cases::write_block(path)),
+            Some((unit, path)) => (write_unit(unit), write_path(path)),
             None => self.given,
         }
     }
@@ -256,7 +140,7 @@ impl Standing {
     /// Writes unit and path as blocks and reads them back.
     fn restore(&mut self) {
         let (unit, path) = self.blocks();
-        self.both = read_block(&unit).zip(gif_cases::read_block(&path));
+        self.both = read_unit(&unit).zip(read_path(&path));
     }
 }
 
@@ -289,27 +173,29 @@ pub struct Results {
     pub damage: Option<usize>,
 }
 
+/// Whether the numbers in a case's header are within their limits.
+fn limits_kept(bytes: &[u8]) -> bool {
+    let limits = [
+        (1, MOST_DATA),
+        (2, MOST_CODE),
+        (3, MOST_LOG),
+        (NUMBER, 3),
+        (GROUPS, MOST_GROUPS),
+        (WORDS, MOST_WORDS),
+    ];
+    limits.iter().all(|&(at, most)| word(bytes, at) <= most)
+}
+
 /// The first case of the bytes and its length; none where it is damaged.
 pub fn first_case(bytes: &[u8]) -> Option<(Case, usize)> {
     if bytes.len() < HEADER * WORD {
         return None;
     }
-    let limits = [
-        (1, MOST_DATA),
-        (2, MOST_CODE),
-        (3, MOST_LOG),
-        (49, 3),
-        (50, MOST_GROUPS),
-        (51, MOST_WORDS),
-    ];
-    let (first, count) = (word(bytes, 49), word(bytes, 51));
-    if word(bytes, 0) != MARK
-        || limits.iter().any(|&(at, most)| word(bytes, at) > most)
-        || (first + count) % 4 != 0
-    {
+    let (first, count) = (word(bytes, NUMBER), word(bytes, WORDS));
+    if word(bytes, 0) != MARK || !limits_kept(bytes) || (first + count) % 4 != 0 {
         return None;
     }
-    let groups_end = HEADER + word(bytes, 50) as usize;
+    let groups_end = HEADER + word(bytes, GROUPS) as usize;
     let end = groups_end + count as usize;
     if bytes.len() < end * WORD {
         return None;
@@ -322,8 +208,8 @@ pub fn first_case(bytes: &[u8]) -> Option<(Case, usize)> {
         log_length: word(bytes, 3),
         used: number(bytes, 4),
         fill: number(bytes, 6),
-        unit: words(8, 40).try_into().unwrap(),
-        path: words(40, 49).try_into().unwrap(),
+        unit: std::array::from_fn(|i| word(bytes, UNIT_AT + i)),
+        path: std::array::from_fn(|i| word(bytes, PATH_AT + i)),
         number: first,
         groups: words(HEADER, groups_end),
         words: words(groups_end, end),
@@ -468,20 +354,22 @@ pub fn describe_group(bytes: &[u8], calls: usize) -> String {
             text.push_str(&format!(" {}", describe_answer(word(bytes, i))));
         }
     }
-    if have < calls + 44 {
+    // After the answers come the mark of their end, the entries used and the blocks.
+    let unit_at = calls + 3;
+    let path_at = unit_at + UNIT_WORDS;
+    let changes_at = path_at + PATH_WORDS;
+    if have < changes_at {
         text.push_str("\n    cut here");
         return text;
     }
-    let unit: Block = std::array::from_fn(|i| word(bytes, calls + 3 + i));
-    let path: PathBlock = std::array::from_fn(|i| word(bytes, calls + 35 + i));
     text.push_str(&format!(
         "\n    after the answers {:08X}; entries used {}\n    {}\n    {}",
         word(bytes, calls),
         number(bytes, calls + 1),
-        describe_block(&unit),
-        gif_cases::describe_block(&path),
+        describe_unit(&std::array::from_fn(|i| word(bytes, unit_at + i))),
+        describe_path(&std::array::from_fn(|i| word(bytes, path_at + i))),
     ));
-    text.push_str(&describe_changes(bytes, calls + 44).0);
+    text.push_str(&describe_changes(bytes, changes_at).0);
     text
 }
 
@@ -529,42 +417,6 @@ fn describe_answer(answer: u32) -> String {
     }
 }
 
-pub fn describe_block(block: &Block) -> String {
-    let waiting = [
-        "none", "STMASK", "STROW", "STCOL", "MPG", "DIRECT", "DIRECTHL", "UNPACK",
-    ];
-    let name = waiting.get(block[21] as usize).unwrap_or(&"no code");
-    format!(
-        "unit: CL {} WL {} OFST {} BASE {} TOPS {} TOP {} ITOPS {} ITOP {} DBF {} MODE {} MSKPATH3 {} MARK {:X}\n    \
-         MASK {:08X}, ROW {:08X?}, COL {:08X?}\n    \
-         waits: {name} ({}), interrupt {}, due {}, address {}, count {}, format {}, USN {}, M {}, held {:08X?}",
-        block[0],
-        block[1],
-        block[2],
-        block[3],
-        block[4],
-        block[5],
-        block[6],
-        block[7],
-        block[8],
-        block[9],
-        block[10],
-        block[11],
-        block[12],
-        &block[13..17],
-        &block[17..21],
-        block[21],
-        block[22],
-        block[23],
-        block[24],
-        block[25],
-        block[26],
-        block[27],
-        block[28],
-        &block[29..32],
-    )
-}
-
 /// The head of a case and its words from `first` to before `end`.
 pub fn describe_case(case: &Case, first: usize, end: usize) -> String {
     let mut text = format!(
@@ -577,8 +429,8 @@ pub fn describe_case(case: &Case, first: usize, end: usize) -> String {
         case.number,
         case.groups.len(),
         case.words.len(),
-        describe_block(&case.unit),
-        gif_cases::describe_block(&case.path),
+        describe_unit(&case.unit),
+        describe_path(&case.path),
     );
     let end = end.min(case.words.len());
     let from = first.max(end.saturating_sub(64));

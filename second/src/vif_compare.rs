@@ -1,9 +1,11 @@
 //! Another program's VIF results against our own.
 
 use crate::compare::{first_difference, table, zeros, Program};
+use crate::memory::cases::{MOST_CODE, MOST_DATA, MOST_LOG};
 use crate::random::Random;
 use crate::vif_cases::{
-    self, case_starts, describe_case, describe_group, first_case, Results, HEADER,
+    self, case_starts, describe_case, describe_group, first_case, Results, GROUPS, HEADER, NUMBER,
+    WORDS,
 };
 use crate::vif_counts::Counts;
 use crate::vif_generate::generate;
@@ -141,27 +143,27 @@ fn spoil_case(made: &mut Vec<(String, Vec<u8>)>, file: &[u8], start: usize, inde
         vif_cases::MARK ^ 1 << 31,
     );
     let limits = [
-        ("D", 1, vif_cases::MOST_DATA),
-        ("C", 2, vif_cases::MOST_CODE),
-        ("L", 3, vif_cases::MOST_LOG),
-        ("first number", 49, 3),
-        ("g", 50, vif_cases::MOST_GROUPS),
-        ("n", 51, vif_cases::MOST_WORDS),
+        ("D", 1, MOST_DATA),
+        ("C", 2, MOST_CODE),
+        ("L", 3, MOST_LOG),
+        ("first number", NUMBER, 3),
+        ("g", GROUPS, vif_cases::MOST_GROUPS),
+        ("n", WORDS, vif_cases::MOST_WORDS),
     ];
     for (name, at, most) in limits {
         spoil(&format!("{name} at its limit"), at, most);
         spoil(&format!("{name} one above its limit"), at, most + 1);
         spoil(&format!("{name} the greatest"), at, u32::MAX);
     }
-    for (name, at) in [("g", 50), ("n", 51)] {
+    for (name, at) in [("g", GROUPS), ("n", WORDS)] {
         spoil(&format!("{name} one more"), at, held(at) + 1);
         spoil(&format!("{name} one less"), at, held(at).saturating_sub(1));
     }
-    spoil("n four more", 51, held(51) + 4);
-    spoil("n four less", 51, held(51).saturating_sub(4));
-    spoil("first number one more", 49, held(49) + 1);
-    if held(50) > 0 {
-        let last = HEADER + held(50) as usize - 1;
+    spoil("n four more", WORDS, held(WORDS) + 4);
+    spoil("n four less", WORDS, held(WORDS).saturating_sub(4));
+    spoil("first number one more", NUMBER, held(NUMBER) + 1);
+    if held(GROUPS) > 0 {
+        let last = HEADER + held(GROUPS) as usize - 1;
         spoil("first group at its limit", HEADER, vif_cases::MOST_CALLS);
         spoil(
             "first group above its limit",

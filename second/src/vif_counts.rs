@@ -1,10 +1,15 @@
 //! What VIF cases reached.
 
 use crate::gif::{self, Path, Place};
-use crate::vif::{self, Code, Given, Payload, Registers, Unit, Waiting};
-use crate::vif_cases::{
-    read_block, waiting_number, write_block, Block, Case, Standing, INTERRUPT, REFUSED,
+use crate::log;
+use crate::memory::{CODE_BYTES, DATA_WORDS, INSTRUCTIONS, QUADWORDS};
+use crate::refusals;
+use crate::state_block::{
+    self, read_path, read_unit, unit_word, waiting_name, waiting_number, write_unit, UnitBlock,
+    REGISTERS, WAITING,
 };
+use crate::vif::{self, Code, Given, Payload, Registers, Unit, Waiting, ADDRESSES};
+use crate::vif_cases::{Case, Standing, INTERRUPT, REFUSED};
 use crate::vif_unpack::{mask_row, Format, Unpack};
 use std::collections::HashMap;
 
@@ -28,15 +33,6 @@ const KINDS: [&str; 21] = [
     "NOP", "STCYCL", "OFFSET", "BASE", "ITOP", "STMOD", "MSKPATH3", "MARK", "FLUSHE", "FLUSH",
     "FLUSHA", "MSCAL", "MSCALF", "MSCNT", "STMASK", "STROW", "STCOL", "MPG", "DIRECT", "DIRECTHL",
     "UNPACK",
-];
-
-/// The codes that wait, by word 21 of the unit block less 1.
-pub const WAITING: [&str; 7] = [
-    "STMASK", "STROW", "STCOL", "MPG", "DIRECT", "DIRECTHL", "UNPACK",
-];
-
-const REGISTER_NAMES: [&str; 12] = [
-    "CL", "WL", "OFST", "BASE", "TOPS", "TOP", "ITOPS", "ITOP", "DBF", "MODE", "MSKPATH3", "MARK",
 ];
 
 fn kind(code: &Code) -> usize {
@@ -138,8 +134,8 @@ impl Counts {
 
     pub fn note_case(&mut self, case: &Case) {
         self.cases += 1;
-        if let Some(unit) = read_block(&case.unit) {
-            let junk = write_block(&unit) != case.unit;
+        if let Some(unit) = read_unit(&case.unit) {
+            let junk = write_unit(&unit) != case.unit;
             self.add_if("unit blocks with words that mean nothing", junk);
         }
         self.add_if(
@@ -178,8 +174,8 @@ impl Counts {
         self.add_if("cases with words left over", words_left);
         if let Some((unit, _)) = &now.both {
             if let Some(waiting) = &unit.waiting {
-                let number = waiting_number(&waiting.payload) as usize - 1;
-                self.add(&format!("cases that end with {} waiting", WAITING[number]));
+                let name = waiting_name(waiting_number(&waiting.payload));
+                self.add(&format!("cases that end with {name} waiting"));
             }
         }
     }
@@ -188,11 +184,11 @@ impl Counts {
         self.calls += 1;
         let refusal = call.answer.checked_sub(REFUSED);
         match refusal {
-            Some(vif::REFUSED_DATA | vif::REFUSED_CODE | gif::REFUSED_LOG) => {
+            Some(refusals::DATA | refusals::CODE | refusals::LOG) => {
                 self.note_lengths(call, refusal.unwrap());
                 return;
             }
-            Some(gif::REFUSED_RANGE) => {
+            Some(refusals::RANGE) => {
                 self.note_range(call);
                 return;
             }
@@ -216,15 +212,15 @@ impl Counts {
 
     fn note_lengths(&mut self, call: &Call, refusal: u32) {
         let now = call.now;
-        let good_code = now.code.len() == vif::CODE_BYTES;
-        let good_log = gif::log_in_range(now.log.len(), now.used);
+        let good_code = now.code.len() == CODE_BYTES;
+        let good_log = log::in_range(now.log.len(), now.used);
         let good_range = call
             .before
             .as_ref()
             .is_some_and(|(unit, path)| vif::in_range(unit) && gif::path_in_range(path));
         match refusal {
-            vif::REFUSED_DATA => {
-                let short = now.data.len() < vif::DATA_WORDS;
+            refusals::DATA => {
+                let short = now.data.len() < DATA_WORDS;
                 self.add(if short {
                     "refused 2, data memory too short"
                 } else {
@@ -236,8 +232,8 @@ impl Counts {
                 self.add_if("refused 2, 5 would be next", only && !good_range);
                 self.add_if("refused 2, nothing else wrong", only && good_range);
             }
-            vif::REFUSED_CODE => {
-                let short = now.code.len() < vif::CODE_BYTES;
+            refusals::CODE => {
+                let short = now.code.len() < CODE_BYTES;
                 self.add(if short {
                     "refused 3, code memory too short"
                 } else {
@@ -249,11 +245,11 @@ impl Counts {
             }
             _ => {
                 let length = now.log.len();
-                self.add(if length % 2 == 1 {
+                self.add(if !log::is_whole(length) {
                     "refused 4, log length odd"
-                } else if length > gif::LOG_LIMIT {
+                } else if length > log::MOST_NUMBERS {
                     "refused 4, log too long"
-                } else if now.used.wrapping_mul(2) <= length as u64 {
+                } else if log::numbers_wrap(now.used) <= length as u64 {
                     "refused 4, twice the entries used wraps"
                 } else {
                     "refused 4, too many entries used"
@@ -267,7 +263,7 @@ impl Counts {
     fn note_range(&mut self, call: &Call) {
         let (unit_block, path_block) = call.now.blocks();
         let fields = wrong_fields(&unit_block);
-        let path_wrong = match crate::gif_cases::read_block(&path_block) {
+        let path_wrong = match read_path(&path_block) {
             None => Some("refused 5, path block in no path"),
             Some(path) if !gif::path_in_range(&path) => Some("refused 5, path out of range"),
             Some(_) => None,
@@ -282,7 +278,7 @@ impl Counts {
     fn note_writes(&mut self, call: &Call) {
         let now = call.now;
         let written = now.used - call.used_before;
-        let full = 2 * now.used == now.log.len() as u64;
+        let full = log::is_full(now.log.len(), now.used);
         self.add_if("log exactly full after a write", full && written > 0);
         self.add_if("taken without a write, log full", full && written == 0);
     }
@@ -312,7 +308,7 @@ impl Counts {
                 let sum = registers.base + registers.ofst;
                 self.add_if("DBF flips to 0", registers.dbf);
                 self.add_if("DBF flips to 1", !registers.dbf);
-                self.add_if("BASE + OFST from 1,024 up", now.dbf && sum >= 1_024);
+                self.add_if("BASE + OFST from 1,024 up", now.dbf && sum >= ADDRESSES);
                 self.add_if("TOP changes", now.top != registers.top);
                 self.add_if("TOP and TOPS differ afterwards", now.top != now.tops);
                 self.add_if("ITOP changes", now.itop != registers.itop);
@@ -321,7 +317,7 @@ impl Counts {
             }
             Code::Mpg(mpg) => {
                 self.add_if("MPG with NUM 0", word >> 16 & 0xFF == 0);
-                self.add_if("MPG with IMM from 2,048 up", word & 0xFFFF >= 2_048);
+                self.add_if("MPG with IMM from 2,048 up", word & 0xFFFF >= INSTRUCTIONS);
                 self.add_if("MPG with one instruction", mpg.count == 1);
             }
             Code::Direct(quadwords) | Code::Directhl(quadwords) => {
@@ -335,7 +331,7 @@ impl Counts {
                 self.add_if("UNPACK with TOPS added", add_tops && registers.tops != 0);
                 self.add_if(
                     "UNPACK, address + TOPS from 1,024 up",
-                    add_tops && sum >= 1_024,
+                    add_tops && sum >= ADDRESSES,
                 );
                 self.add_if("UNPACK without TOPS", !add_tops && registers.tops != 0);
             }
@@ -348,15 +344,15 @@ impl Counts {
         let interrupt = word >> 31 == 1;
         self.add_if("codes refused with their bit 31 set", interrupt);
         match refusal {
-            vif::REFUSED_COMMAND => self.add("refused 20"),
-            vif::REFUSED_FORMAT => {
+            refusals::COMMAND => self.add("refused 20"),
+            refusals::FORMAT => {
                 self.add(&format!("refused 21, vn {}", word >> 26 & 3));
                 let legal = vif::cycle_legal(registers);
                 self.add_if("refused 21 with CL and WL for 22", !legal);
             }
-            vif::REFUSED_CYCLE if registers.wl == 0 => self.add("refused 22, WL 0"),
-            vif::REFUSED_CYCLE => self.add("refused 22, WL above CL"),
-            vif::REFUSED_MODE => self.add("refused 23"),
+            refusals::CYCLE if registers.wl == 0 => self.add("refused 22, WL 0"),
+            refusals::CYCLE => self.add("refused 22, WL above CL"),
+            refusals::MODE => self.add("refused 23"),
             _ => {
                 let name = match word >> 24 & 0x7F {
                     0x14 => "MSCAL",
@@ -370,8 +366,8 @@ impl Counts {
 
     fn note_direct_refused(&mut self, path: &Path, call: &Call, refusal: u32) {
         match (refusal, &path.place) {
-            (vif::REFUSED_PLACE, _) => self.add(&format!("refused 24, word {}", call.number)),
-            (gif::REFUSED_DESCRIPTOR, _) => self.add("refused 30 inside DIRECT"),
+            (refusals::PLACE, _) => self.add(&format!("refused 24, word {}", call.number)),
+            (refusals::DESCRIPTOR, _) => self.add("refused 30 inside DIRECT"),
             (_, Place::Idle) => self.add("refused 31 inside DIRECT, at a tag"),
             (_, Place::Data { tag, .. }) => {
                 self.add(&format!("refused 31 inside DIRECT, {:?}", tag.format));
@@ -381,8 +377,8 @@ impl Counts {
 
     fn note_payload(&mut self, registers: &Registers, waiting: &Waiting, path: &Path, call: &Call) {
         let number = waiting_number(&waiting.payload) as usize - 1;
-        self.payload_words[number] += 1;
         let name = WAITING[number];
+        self.payload_words[number] += 1;
         if call.first {
             self.add(&format!("waiting at a case's start, {name}"));
         } else if call.restored {
@@ -396,7 +392,7 @@ impl Counts {
         match &waiting.payload {
             Payload::Mpg(mpg) => {
                 let taken = mpg.all_words() - waiting.due;
-                let wraps = mpg.address + taken / 2 >= vif::INSTRUCTIONS;
+                let wraps = mpg.address + taken / 2 >= INSTRUCTIONS;
                 self.add_if("MPG words stored round the end", wraps);
                 let whole = last && mpg.count == vif::MOST_NUM;
                 self.add_if("MPG of 256 instructions completed", whole);
@@ -433,10 +429,10 @@ impl Counts {
         for i in first..end {
             self.vectors += 1;
             let position = unpack.position(registers, i);
-            self.add_if("vectors written round the end", position >= vif::QUADWORDS);
+            self.add_if("vectors written round the end", position >= QUADWORDS);
             self.add_if(
                 "vectors written twice round the end",
-                position >= 2 * vif::QUADWORDS,
+                position >= 2 * QUADWORDS,
             );
             self.add_if("vectors with i mod WL above 3", i % registers.wl > 3);
             self.add_if("V4-5 vectors with MODE set", five && registers.mode > 0);
@@ -561,79 +557,82 @@ impl Counts {
 
 /// Whether STMASK waits with other than one word due in a block that has words that mean nothing
 /// and would be a unit's else.
-fn junk_beside_stmask(block: &Block) -> bool {
+fn junk_beside_stmask(block: &UnitBlock) -> bool {
     let mut mended = *block;
-    mended[23] = 1;
-    let junk = read_block(&mended).is_some_and(|unit| write_block(&unit) != mended);
-    block[21] == 1 && block[23] != 1 && junk
+    mended[unit_word::DUE] = 1;
+    let junk = read_unit(&mended).is_some_and(|unit| write_unit(&unit) != mended);
+    block[unit_word::WAITING] == state_block::STMASK && block[unit_word::DUE] != 1 && junk
 }
 
 /// The fields of a unit block that are out of their range, by name.
-pub fn wrong_fields(block: &Block) -> Vec<String> {
-    let limits = [
-        255, 255, 1_023, 1_023, 1_023, 1_023, 1_023, 1_023, 1, 2, 1, 65_535,
-    ];
-    let mut wrong: Vec<String> = (0..12)
-        .filter(|&i| block[i] > limits[i])
-        .map(|i| REGISTER_NAMES[i].to_string())
+pub fn wrong_fields(block: &UnitBlock) -> Vec<String> {
+    let mut wrong: Vec<String> = REGISTERS
+        .iter()
+        .zip(block)
+        .filter(|((_, limit), word)| *word > limit)
+        .map(|((name, _), _)| name.to_string())
         .collect();
-    let waiting = block[21];
-    if waiting == 0 {
-        return wrong;
-    }
-    if waiting > 7 {
-        wrong.push("waiting code".to_string());
-        return wrong;
-    }
-    let name = WAITING[waiting as usize - 1];
-    let mut add = |field: &str| wrong.push(format!("{name} {field}"));
-    if block[22] > 1 {
-        add("interrupt");
-    }
-    let counted = waiting == 4 || waiting == 7;
-    if counted {
-        if block[24] > if waiting == 4 { 2_047 } else { 1_023 } {
-            add("address");
+    match block[unit_word::WAITING] {
+        state_block::NONE => {}
+        number @ state_block::STMASK..=state_block::UNPACK => {
+            let name = waiting_name(number);
+            let fields = wrong_waiting_fields(block);
+            wrong.extend(fields.iter().map(|field| format!("{name} {field}")));
         }
-        if !(1..=256).contains(&block[25]) {
-            add("count");
-        }
-    }
-    let count = block[25].min(256);
-    let mut all = match waiting {
-        1 => 1,
-        2 | 3 => 4,
-        4 => 2 * count,
-        _ => 65_536,
-    };
-    if waiting == 7 {
-        match Format::from_number(block[26]) {
-            None => add("format"),
-            Some(format) => all = (count * format.vector_bits()).div_ceil(32),
-        }
-        if block[27] > 1 {
-            add("USN");
-        }
-        if block[28] > 1 {
-            add("M");
-        }
-        if block[1] == 0 {
-            add("beside WL 0");
-        } else if block[1] > block[0] {
-            add("beside WL above CL");
-        }
-    }
-    if block[23] == 0 {
-        add("due 0");
-    } else if block[23] > all && (!counted || (1..=256).contains(&block[25])) {
-        add("due too many");
+        _ => wrong.push("waiting code".to_string()),
     }
     wrong
 }
 
+/// The fields of the waiting code that are out of their range.
+fn wrong_waiting_fields(block: &UnitBlock) -> Vec<&'static str> {
+    let waiting = block[unit_word::WAITING];
+    let (due, count) = (block[unit_word::DUE], block[unit_word::COUNT]);
+    let addresses = match waiting {
+        state_block::MPG => Some(INSTRUCTIONS),
+        state_block::UNPACK => Some(ADDRESSES),
+        _ => None,
+    };
+    let count_right = addresses.is_none() || (1..=vif::MOST_NUM).contains(&count);
+    let unpack = waiting == state_block::UNPACK;
+    let (cl, wl) = (block[unit_word::CL], block[unit_word::WL]);
+    let format = Format::from_number(block[unit_word::FORMAT]);
+    let fields = [
+        ("interrupt", block[unit_word::INTERRUPT] > 1),
+        (
+            "address",
+            addresses.is_some_and(|limit| block[unit_word::ADDRESS] >= limit),
+        ),
+        ("count", !count_right),
+        ("format", unpack && format.is_none()),
+        ("USN", unpack && block[unit_word::USN] > 1),
+        ("M", unpack && block[unit_word::M] > 1),
+        ("beside WL 0", unpack && wl == 0),
+        ("beside WL above CL", unpack && wl > cl && wl > 0),
+        ("due 0", due == 0),
+        ("due too many", count_right && due > all_due(block)),
+    ];
+    fields.iter().filter(|f| f.1).map(|f| f.0).collect()
+}
+
+/// What a waiting code has due at most, as far as its other fields say it.
+fn all_due(block: &UnitBlock) -> u32 {
+    let count = block[unit_word::COUNT];
+    match block[unit_word::WAITING] {
+        state_block::STMASK => 1,
+        state_block::STROW | state_block::STCOL => 4,
+        state_block::MPG => 2 * count,
+        state_block::UNPACK => match Format::from_number(block[unit_word::FORMAT]) {
+            Some(format) => (count * format.vector_bits()).div_ceil(32),
+            None => vif::MOST_DIRECT,
+        },
+        _ => vif::MOST_DIRECT,
+    }
+}
+
 /// All names that `wrong_fields` gives.
 pub fn field_names() -> Vec<String> {
-    let mut names: Vec<String> = REGISTER_NAMES.iter().map(|name| name.to_string()).collect();
+    let mut names: Vec<String> = REGISTERS.iter().map(|(name, _)| name.to_string()).collect();
     names.push("waiting code".to_string());
     for name in WAITING {
         for field in ["interrupt", "due 0", "due too many"] {

@@ -5,15 +5,26 @@ use crate::gif_generate::{
     random_block as random_gif_block, random_held_block, random_log, random_no_path_block,
     random_out_of_range_block, random_tag, tag_quadword,
 };
+use crate::log;
+use crate::memory::cases::{MOST_CODE, MOST_DATA, MOST_LOG};
+use crate::memory::{CODE_BYTES, DATA_WORDS, INSTRUCTIONS, QUADWORDS};
 use crate::random::Random;
-use crate::vif::{cycle_legal, Code, Given, Mpg, Payload, Registers, Unit, Waiting};
-use crate::vif_cases::{
-    taken_quadword, write_block, Block, Case, PathBlock, Standing, MOST_CODE, MOST_DATA, REFUSED,
+use crate::refusals;
+use crate::state_block::{
+    self, first_unused, path_word, unit_word, write_unit, PathBlock, UnitBlock, IDLE_PATH,
+    REGISTERS, RESET_UNIT, UNIT_WORDS,
 };
+use crate::vif::{
+    cycle_legal, Code, Given, Mpg, Payload, Registers, Unit, Waiting, ADDRESSES, MOST_DIRECT,
+    MOST_NUM,
+};
+use crate::vif_cases::{taken_quadword, Case, Standing, REFUSED};
 use crate::vif_counts::all_formats;
 use crate::vif_unpack::{Format, Unpack};
 
-const IDLE: PathBlock = [0; 9];
+/// The right lengths of the memories, as cases give them.
+const DATA: u32 = DATA_WORDS as u32;
+const CODE: u32 = CODE_BYTES as u32;
 const FILL: u64 = 0x0123_4567_89AB_CDEF;
 /// Words due that a waiting STMASK cannot have.
 pub const NOT_ONE: [u32; 5] = [0, 2, 3, 257, u32::MAX];
@@ -63,8 +74,8 @@ impl Maker {
     }
 
     /// A case with right lengths of the memories and no entries used.
-    fn with(unit: &Unit, log_length: u32, number: u32) -> Maker {
-        Maker::new(plain_case(write_block(unit), log_length, number))
+    fn with(unit: &Unit, entries: u64, number: u32) -> Maker {
+        Maker::new(plain_case(write_unit(unit), entries, number))
     }
 
     fn unit(&self) -> Option<&Unit> {
@@ -182,15 +193,16 @@ impl Maker {
     }
 }
 
-fn plain_case(unit: Block, log_length: u32, number: u32) -> Case {
+/// A case with room for so many entries in the log.
+fn plain_case(unit: UnitBlock, entries: u64, number: u32) -> Case {
     Case {
-        data_length: 4_096,
-        code_length: 16_384,
-        log_length,
+        data_length: DATA,
+        code_length: CODE,
+        log_length: log::length(entries),
         used: 0,
         fill: FILL,
         unit,
-        path: IDLE,
+        path: IDLE_PATH,
         number,
         groups: Vec::new(),
         words: Vec::new(),
@@ -222,18 +234,14 @@ fn random_groups(random: &mut Random, calls: u32) -> Vec<u32> {
 
 /// The bench points and other cases that are the same in every file.
 fn fixed_cases() -> Vec<Case> {
-    let fed = |log_length: u32, used: u64, number: u32, words: &[u32]| {
-        let mut case = plain_case([0; 32], log_length, number);
-        case.used = used;
-        let mut maker = Maker::new(case);
+    let fed = |entries: u64, words: &[u32]| {
+        let mut maker = Maker::with(&Unit::default(), entries, 0);
         maker.words(words);
         maker.finish()
     };
     let mut cases = vec![
         // S-8 byte FF, then with USN.
         fed(
-            0,
-            0,
             0,
             &[
                 stcycl(1, 1),
@@ -245,8 +253,6 @@ fn fixed_cases() -> Vec<Case> {
         ),
         // V3-8, NUM 5: 4 words; then MARK shows that it ended.
         fed(
-            0,
-            0,
             0,
             &[
                 stcycl(1, 1),
@@ -269,11 +275,9 @@ fn fixed_cases() -> Vec<Case> {
             maker.finish()
         },
         // V4-5 FFFF.
-        fed(0, 0, 0, &[stcycl(1, 1), code_word(0x6F, 1, 0), 0xFFFF]),
+        fed(0, &[stcycl(1, 1), code_word(0x6F, 1, 0), 0xFFFF]),
         // MODE 2, ROW FFFFFFFF, data 2.
         fed(
-            0,
-            0,
             0,
             &[
                 stcycl(1, 1),
@@ -288,23 +292,21 @@ fn fixed_cases() -> Vec<Case> {
             ],
         ),
         // CL 4, WL 2, NUM 4, A 0: 0, 1, 4, 5.
-        fed(0, 0, 0, &[stcycl(4, 2), code_word(0x60, 4, 0), 1, 2, 3, 4]),
+        fed(0, &[stcycl(4, 2), code_word(0x60, 4, 0), 1, 2, 3, 4]),
         // CL 2, WL 3: refused 22.
-        fed(0, 0, 0, &[stcycl(2, 3), code_word(0x60, 4, 0), 0, 0]),
+        fed(0, &[stcycl(2, 3), code_word(0x60, 4, 0), 0, 0]),
         // MPG at 2,047, two instructions.
-        fed(0, 0, 0, &[code_word(0x4A, 2, 2_047), 1, 2, 3, 4]),
+        fed(0, &[code_word(0x4A, 2, 2_047), 1, 2, 3, 4]),
     ];
     // DIRECT as a sheet's kind 3 record has it.
-    let mut maker = Maker::with(&Unit::default(), 4, 0);
+    let mut maker = Maker::with(&Unit::default(), 2, 0);
     maker.words(&[0, 0, 0, code_word(0x50, 0, 2)]);
     maker.quadword(0x0000_0000_0000_000E_1000_0000_0000_8001);
     maker.quadword(0x0042_0000_0000_0000_7777);
     cases.push(maker.finish());
     // MSCAL moves TOP, DBF and TOPS; the third has no room.
     cases.push(fed(
-        4,
-        0,
-        0,
+        2,
         &[
             code_word(0x03, 0, 1_000),
             code_word(0x02, 0, 100),
@@ -318,16 +320,16 @@ fn fixed_cases() -> Vec<Case> {
     ));
     // STMOD 3: refused 23, MODE stays.
     let stmod = |mode| code_word(0x05, 0, mode);
-    cases.push(fed(0, 0, 0, &[stmod(2), stmod(3), stmod(0xFFFF), stmod(1)]));
+    cases.push(fed(0, &[stmod(2), stmod(3), stmod(0xFFFF), stmod(1)]));
     // No groups, and no words.
-    cases.push(plain_case([0; 32], 0, 0));
-    let mut case = plain_case([0; 32], 2, 0);
+    cases.push(plain_case(RESET_UNIT, 0, 0));
+    let mut case = plain_case(RESET_UNIT, 1, 0);
     case.groups = vec![0, 3, 0];
     cases.push(case);
     // STMASK with other than one word due: refused, both blocks as given.
     for due in NOT_ONE {
-        let mut case = plain_case(stmask_block(due), 8, due % 4);
-        case.path[2..].fill(due);
+        let mut case = plain_case(stmask_block(due), 4, due % 4);
+        case.path[path_word::FIRST_HELD..].fill(due);
         let mut maker = Maker::new(case);
         maker.words(&[0, 0x0102_0304]);
         cases.push(maker.finish());
@@ -340,11 +342,11 @@ fn fixed_cases() -> Vec<Case> {
 }
 
 /// A block in which STMASK waits with so many words due, among words that mean nothing.
-pub fn stmask_block(due: u32) -> Block {
-    let mut block = [0; 32];
-    block[21] = 1;
-    block[23] = due;
-    block[24..].fill(7);
+pub fn stmask_block(due: u32) -> UnitBlock {
+    let mut block = RESET_UNIT;
+    block[unit_word::WAITING] = state_block::STMASK;
+    block[unit_word::DUE] = due;
+    block[first_unused(state_block::STMASK)..].fill(7);
     block
 }
 
@@ -381,72 +383,86 @@ fn short_case(random: &mut Random, mut case: Case) -> Case {
 
 /// Each length from both sides, and several inputs wrong at once.
 fn add_length_cases(random: &mut Random, cases: &mut Vec<Case>) {
-    let case = plain_case([0; 32], 8, 0);
-    for data_length in [0, 1, 4_092, 4_095, 4_097, MOST_DATA] {
+    let case = plain_case(RESET_UNIT, 4, 0);
+    for data_length in [0, 1, DATA - 4, DATA - 1, DATA + 1, MOST_DATA] {
         let case = Case {
             data_length,
             ..case.clone()
         };
         cases.push(short_case(random, case));
     }
-    for code_length in [0, 1, 16_380, 16_383, 16_385, 16_388, MOST_CODE] {
+    for code_length in [0, 1, CODE - 4, CODE - 1, CODE + 1, CODE + 4, MOST_CODE] {
         let case = Case {
             code_length,
             ..case.clone()
         };
         cases.push(short_case(random, case));
     }
-    let logs = [
-        (0, 0),
-        (0, 1),
-        (1, 0),
-        (2, 1),
-        (2, 2),
-        (2, 1 << 63),
-        (2, (1 << 63) + 1),
-        (2, u64::MAX),
-        (64, 1 << 32),
-        (131_071, 0),
-        (131_072, 65_535),
-        (131_072, 65_536),
-        (131_072, 65_537),
-        (131_073, 0),
-        (131_074, 0),
-        (131_080, 0),
-    ];
-    for (log_length, used) in logs {
-        let mut case = plain_case([0; 32], log_length, 0);
-        case.used = used;
-        let mut maker = Maker::new(case);
+    for (log_length, used) in edge_logs() {
+        let mut maker = Maker::new(Case {
+            log_length,
+            used,
+            ..case.clone()
+        });
         maker.words(&[code_word(0x14, 0, 3), code_word(0x17, 0, 3), 0, 0]);
         cases.push(maker.finish());
     }
     for wrong in 0..64 {
         let mut case = case.clone();
-        let bit = |i: u32| wrong >> i & 1 == 1;
-        if bit(0) {
-            case.data_length = random.pick(&[4_095, 4_097]);
-        }
-        if bit(1) {
-            case.code_length = random.pick(&[16_383, 16_385]);
-        }
-        if bit(2) {
-            case.used = 5;
-        }
-        if bit(3) {
-            case.unit[9] = 3;
-        }
-        if bit(4) {
-            case.path = random_out_of_range_block(random);
-        }
-        if bit(5) {
-            let unit = &mut case.unit;
-            match random.below(2) {
-                0 => unit[8] = 2,
-                _ => case.path = random_no_path_block(random),
-            }
-        }
+        spoil_case(random, &mut case, wrong);
         cases.push(short_case(random, case));
+    }
+}
+
+/// Lengths of logs and entries used at the limits of refusal 4.
+fn edge_logs() -> Vec<(u32, u64)> {
+    let one = log::length(1);
+    let most = log::MOST_NUMBERS as u32;
+    let entries = log::MOST_ENTRIES;
+    vec![
+        (0, 0),
+        (0, 1),
+        (1, 0),
+        (one, 1),
+        (one, 2),
+        (one, log::WRAPS),
+        (one, log::WRAPS + 1),
+        (one, u64::MAX),
+        (log::length(32), 1 << 32),
+        (most - 1, 0),
+        (most, entries - 1),
+        (most, entries),
+        (most, entries + 1),
+        (most + 1, 0),
+        (most + one, 0),
+        (MOST_LOG, 0),
+    ]
+}
+
+/// Makes wrong what the bits 0 to 5 say: data memory, code memory, entries used, a register, the
+/// path's range, a block that exists in no unit or path.
+fn spoil_case(random: &mut Random, case: &mut Case, wrong: u32) {
+    let bit = |i: u32| wrong >> i & 1 == 1;
+    if bit(0) {
+        case.data_length = random.pick(&[DATA - 1, DATA + 1]);
+    }
+    if bit(1) {
+        case.code_length = random.pick(&[CODE - 1, CODE + 1]);
+    }
+    if bit(2) {
+        case.used = 5;
+    }
+    if bit(3) {
+        case.unit[unit_word::MODE] = 3;
+    }
+    if bit(4) {
+        case.path = random_out_of_range_block(random);
+    }
+    if bit(5) {
+        match random.below(2) {
+            0 => case.unit[unit_word::DBF] = 2,
+            _ => case.path = random_no_path_block(random),
+        }
     }
 }
 
@@ -459,9 +475,9 @@ fn add_path_cases(random: &mut Random, cases: &mut Vec<Case>) {
             random_no_path_block(random),
         ] {
             let unit = random_waiting_unit(random);
-            let mut case = plain_case(write_block(&unit), 8, 0);
+            let mut case = plain_case(write_unit(&unit), 4, 0);
             // Words that mean nothing are kept beside a path that is none.
-            case.unit[31] = random.word();
+            case.unit[UNIT_WORDS - 1] = random.word();
             case.path = path;
             cases.push(short_case(random, case));
         }
@@ -470,92 +486,110 @@ fn add_path_cases(random: &mut Random, cases: &mut Vec<Case>) {
 
 /// Each field of the unit block at its limits and just outside.
 fn add_field_cases(random: &mut Random, cases: &mut Vec<Case>) {
-    let mut add = |random: &mut Random, unit: Block| {
-        let case = plain_case(unit, 8, 0);
-        cases.push(short_case(random, case));
-    };
-    let limits = [
-        255, 255, 1_023, 1_023, 1_023, 1_023, 1_023, 1_023, 1, 2, 1, 65_535,
-    ];
-    for (field, limit) in limits.into_iter().enumerate() {
-        for value in [
-            limit,
-            limit + 1,
-            limit + 1 + random.word() % 1_000,
-            u32::MAX,
-        ] {
-            let mut unit = write_block(&Unit::default());
-            unit[field] = value;
-            add(random, unit);
-        }
+    for (field, (_, limit)) in REGISTERS.into_iter().enumerate() {
+        let any = random.word() % 1_000;
+        let values = [limit, limit + 1, limit + 1 + any, u32::MAX];
+        let blocks = values.map(|value| changed(&RESET_UNIT, &[(field, value)]));
+        add_blocks(random, cases, &blocks);
     }
     for code in [8, 9, 15, 256, 257, u32::MAX] {
-        let mut unit = write_block(&random_unit(random));
-        unit[21] = code;
-        add(random, unit);
+        let unit = write_unit(&random_unit(random));
+        let block = changed(&unit, &[(unit_word::WAITING, code)]);
+        add_blocks(random, cases, &[block]);
     }
-    // What means nothing is ignored.
-    for code in 0..7 {
-        let mut unit = [0; 32];
-        unit[21] = code;
-        unit[22] = 1;
-        unit[23] = 1;
-        unit[24..].fill(u32::MAX);
-        match code {
-            0 => unit[22..].fill(u32::MAX),
-            4 => unit[24..26].copy_from_slice(&[2_047, 256]),
-            _ => {}
-        }
-        add(random, unit);
-    }
+    let unused: Vec<UnitBlock> = (state_block::NONE..state_block::UNPACK)
+        .map(block_with_unused)
+        .collect();
+    add_blocks(random, cases, &unused);
     for payload in some_payloads(random) {
-        let mut unit = random_unit(random);
-        make_cycle_legal(random, &mut unit.registers);
-        let all = all_units(&payload);
-        unit.waiting = Some(Waiting {
-            payload,
-            interrupt: random.percent(50),
-            due: all,
-        });
-        let good = write_block(&unit);
-        let mut change = |random: &mut Random, changes: &[(usize, u32)]| {
-            let mut block = good;
-            for &(field, value) in changes {
-                block[field] = value;
-            }
-            add(random, block);
-        };
-        for due in [0, 1, all, all + 1, u32::MAX] {
-            change(random, &[(23, due)]);
-        }
-        for interrupt in [2, u32::MAX] {
-            change(random, &[(22, interrupt)]);
-        }
-        let last_address = match payload {
-            Payload::Mpg(_) => 2_047,
-            Payload::Unpack(_) => 1_023,
-            _ => continue,
-        };
-        for address in [last_address, last_address + 1, u32::MAX] {
-            change(random, &[(24, address), (23, 1)]);
-        }
-        for count in [0, 256, 257, 1 << 31, u32::MAX] {
-            change(random, &[(25, count), (23, 1)]);
-        }
-        if let Payload::Unpack(_) = payload {
-            for format in [3, 7, 11, 16, 19, u32::MAX] {
-                change(random, &[(26, format), (23, 1)]);
-            }
-            for field in [27, 28] {
-                change(random, &[(field, 2)]);
-                change(random, &[(field, u32::MAX)]);
-            }
-            change(random, &[(1, 0)]);
-            change(random, &[(0, 5), (1, 6)]);
-            change(random, &[(0, 6), (1, 6)]);
-            change(random, &[(0, 0), (1, 255)]);
-            change(random, &[(0, 255), (1, 255)]);
-        }
+        let blocks = payload_blocks(random, payload);
+        add_blocks(random, cases, &blocks);
+    }
+}
+
+fn add_blocks(random: &mut Random, cases: &mut Vec<Case>, blocks: &[UnitBlock]) {
+    for &block in blocks {
+        let case = plain_case(block, 4, 0);
+        cases.push(short_case(random, case));
+    }
+}
+
+/// A block with some words changed.
+fn changed(block: &UnitBlock, changes: &[(usize, u32)]) -> UnitBlock {
+    let mut block = *block;
+    for &(field, value) in changes {
+        block[field] = value;
+    }
+    block
+}
+
+/// A block in which every word that means nothing for what waits is the greatest.
+fn block_with_unused(waiting: u32) -> UnitBlock {
+    let mut block = RESET_UNIT;
+    block[unit_word::WAITING] = waiting;
+    block[unit_word::INTERRUPT] = 1;
+    block[unit_word::DUE] = 1;
+    block[unit_word::ADDRESS] = INSTRUCTIONS - 1;
+    block[unit_word::COUNT] = MOST_NUM;
+    block[first_unused(waiting)..].fill(u32::MAX);
+    block
+}
+
+/// Blocks in which a payload waits, right but for a field at or over its limits.
+fn payload_blocks(random: &mut Random, payload: Payload) -> Vec<UnitBlock> {
+    let mut unit = random_unit(random);
+    make_cycle_legal(random, &mut unit.registers);
+    let all = all_units(&payload);
+    unit.waiting = Some(Waiting {
+        payload,
+        interrupt: random.percent(50),
+        due: all,
+    });
+    let mut changes: Vec<Vec<(usize, u32)>> = Vec::new();
+    for due in [0, 1, all, all + 1, u32::MAX] {
+        changes.push(vec![(unit_word::DUE, due)]);
+    }
+    for interrupt in [2, u32::MAX] {
+        changes.push(vec![(unit_word::INTERRUPT, interrupt)]);
+    }
+    let addresses = match payload {
+        Payload::Mpg(_) => INSTRUCTIONS,
+        Payload::Unpack(_) => ADDRESSES,
+        _ => 0,
+    };
+    if addresses > 0 {
+        add_counted_changes(&mut changes, addresses);
+    }
+    if let Payload::Unpack(_) = payload {
+        add_unpack_changes(&mut changes);
+    }
+    let good = write_unit(&unit);
+    changes.iter().map(|list| changed(&good, list)).collect()
+}
+
+/// Addresses and counts at their limits, with one word due.
+fn add_counted_changes(changes: &mut Vec<Vec<(usize, u32)>>, addresses: u32) {
+    let mut add = |field, value| changes.push(vec![(field, value), (unit_word::DUE, 1)]);
+    for address in [addresses - 1, addresses, u32::MAX] {
+        add(unit_word::ADDRESS, address);
+    }
+    for count in [0, MOST_NUM, MOST_NUM + 1, 1 << 31, u32::MAX] {
+        add(unit_word::COUNT, count);
+    }
+}
+
+/// The fields that only UNPACK has, and the CL and WL beside it.
+fn add_unpack_changes(changes: &mut Vec<Vec<(usize, u32)>>) {
+    for format in [3, 7, 11, 16, 19, u32::MAX] {
+        changes.push(vec![(unit_word::FORMAT, format), (unit_word::DUE, 1)]);
+    }
+    for field in [unit_word::USN, unit_word::M] {
+        changes.push(vec![(field, 2)]);
+        changes.push(vec![(field, u32::MAX)]);
+    }
+    changes.push(vec![(unit_word::WL, 0)]);
+    for (cl, wl) in [(5, 6), (6, 6), (0, 255), (255, 255)] {
+        changes.push(vec![(unit_word::CL, cl), (unit_word::WL, wl)]);
     }
 }
 
@@ -582,7 +616,7 @@ fn all_units(payload: &Payload) -> u32 {
         Payload::Stmask => 1,
         Payload::Strow | Payload::Stcol => 4,
         Payload::Mpg(mpg) => mpg.all_words(),
-        Payload::Direct | Payload::Directhl => 65_536,
+        Payload::Direct | Payload::Directhl => MOST_DIRECT,
         Payload::Unpack(unpack) => unpack.all_words(),
     }
 }
@@ -592,7 +626,7 @@ fn add_waiting_cases(random: &mut Random, cases: &mut Vec<Case>) {
     let mut payloads = vec![Payload::Stmask, Payload::Strow, Payload::Stcol];
     for count in [1, 2, 5] {
         payloads.push(Payload::Mpg(Mpg {
-            address: random.pick(&[0, 2_046, 2_047]),
+            address: random.pick(&[0, INSTRUCTIONS - 2, INSTRUCTIONS - 1]),
             count,
         }));
     }
@@ -608,7 +642,7 @@ fn add_waiting_cases(random: &mut Random, cases: &mut Vec<Case>) {
         }
     }
     for payload in [Payload::Direct, Payload::Directhl] {
-        for due in [1, 2, 3, 65_536] {
+        for due in [1, 2, 3, MOST_DIRECT] {
             for number in 0..4 {
                 add_waiting_case(random, cases, payload, due, number);
             }
@@ -630,7 +664,7 @@ fn add_waiting_case(
         interrupt: random.percent(50),
         due,
     });
-    let mut maker = Maker::with(&unit, 32, number);
+    let mut maker = Maker::with(&unit, 16, number);
     maker.run_out(random, 60);
     maker.word(code_word(0x07, 0, 0x4321));
     cases.push(maker.finish_in_groups(random));
@@ -640,7 +674,7 @@ fn add_waiting_case(
 fn add_command_cases(random: &mut Random, cases: &mut Vec<Case>) {
     for interrupt in 0..2 {
         for cycle in [stcycl(1, 1), stcycl(7, 5), stcycl(1, 0), stcycl(3, 4)] {
-            let mut maker = Maker::with(&random_unit(random), 64, 0);
+            let mut maker = Maker::with(&random_unit(random), 32, 0);
             for command in 0..128 {
                 maker.word(cycle);
                 let num = random.within(1..=5) as u32;
@@ -681,8 +715,8 @@ fn add_unpack_cases(random: &mut Random, cases: &mut Vec<Case>) {
 /// An UNPACK code: M is bit 0 of the flags, USN bit 1.
 fn unpack_word(random: &mut Random, format: Format, flags: u32, num: u32) -> u32 {
     let command = 0x60 | format.number() | (flags & 1) << 4;
-    let near_end = 1_024 - random.within(1..=12) as u32;
-    let any = random.word() & 0x3FF;
+    let near_end = QUADWORDS - random.within(1..=12) as u32;
+    let any = random.word() % QUADWORDS;
     let address = random.pick(&[0, any, any, near_end]);
     // The unused bits and the one that adds TOPS are free.
     let rest = random.word() & 0xBC00;
@@ -718,7 +752,7 @@ fn add_direct_cases(random: &mut Random, cases: &mut Vec<Case>) {
         for number in 0..4 {
             for imm in [0, 1, 2] {
                 let interrupt = random.below(2) as u32;
-                let mut maker = Maker::with(&random_unit(random), 16, 0);
+                let mut maker = Maker::with(&random_unit(random), 8, 0);
                 maker.pad(number);
                 maker.word(interrupt << 31 | code_word(command, 0, imm));
                 while !maker.wants_quadword() {
@@ -740,7 +774,7 @@ fn add_direct_cases(random: &mut Random, cases: &mut Vec<Case>) {
         ];
         for tag in tags {
             for free in 0..3 {
-                let mut case = plain_case([0; 32], 8, 3);
+                let mut case = plain_case(RESET_UNIT, 4, 3);
                 case.used = 4 - free;
                 let mut maker = Maker::new(case);
                 maker.word(code_word(command, 0, 2));
@@ -755,7 +789,7 @@ fn add_direct_cases(random: &mut Random, cases: &mut Vec<Case>) {
 /// MSCAL, MSCALF and MSCNT with a log that has room for three more, and MSCNT again.
 fn add_call_cases(random: &mut Random, cases: &mut Vec<Case>) {
     for free in 0..4 {
-        let mut case = plain_case(write_block(&random_unit(random)), 40, 0);
+        let mut case = plain_case(write_unit(&random_unit(random)), 20, 0);
         case.used = 20 - free;
         let mut maker = Maker::new(case);
         for command in [0x14, 0x15, 0x17, 0x17] {
@@ -782,8 +816,8 @@ fn random_case(random: &mut Random, left: u64) -> Case {
         _ => random.within(500..=3_000),
     };
     let (mut log_length, used) = random_log(random);
-    if wanted > 100 && used < 20 && log_length <= 1_200 && random.percent(60) {
-        log_length = 2 * random.within(100..=1_000) as u32;
+    if wanted > 100 && used < 20 && log_length <= log::length(600) && random.percent(60) {
+        log_length = log::length(random.within(100..=1_000));
     }
     let mut case = Case {
         log_length,
@@ -791,7 +825,7 @@ fn random_case(random: &mut Random, left: u64) -> Case {
         fill: random.number(),
         unit: random_unit_block(random),
         path: random_path_block(random),
-        ..plain_case([0; 32], 0, random.below(4) as u32)
+        ..plain_case(RESET_UNIT, 0, random.below(4) as u32)
     };
     if random.percent(4) {
         spoil_lengths(random, &mut case);
@@ -803,10 +837,10 @@ fn random_case(random: &mut Random, left: u64) -> Case {
 
 fn spoil_lengths(random: &mut Random, case: &mut Case) {
     if random.percent(60) {
-        case.data_length = random.pick(&[0, 1, 1_024, 4_092, 4_095, 4_097, MOST_DATA]);
+        case.data_length = random.pick(&[0, 1, DATA / 4, DATA - 4, DATA - 1, DATA + 1, MOST_DATA]);
     }
     if random.percent(60) {
-        case.code_length = random.pick(&[0, 4, 2_048, 16_383, 16_385, 16_391, MOST_CODE]);
+        case.code_length = random.pick(&[0, 4, CODE / 8, CODE - 1, CODE + 1, CODE + 7, MOST_CODE]);
     }
 }
 
@@ -825,8 +859,10 @@ fn fill_case(random: &mut Random, maker: &mut Maker, wanted: u64) {
         };
         left -= (maker.case.words.len() - before) as i64;
         match answer.saturating_sub(REFUSED) {
-            2..=5 => left = left.min(random.below(3) as i64),
-            30 | 31 if maker.waits_for_quadwords() => left = left.min(random.below(9) as i64),
+            refusals::DATA..=refusals::RANGE => left = left.min(random.below(3) as i64),
+            refusals::DESCRIPTOR | refusals::ROOM if maker.waits_for_quadwords() => {
+                left = left.min(random.below(9) as i64);
+            }
             _ => {}
         }
     }
@@ -926,7 +962,7 @@ fn illegal_code(random: &mut Random) -> u32 {
             let near = random.pick(&[0x08, 0x12, 0x16, 0x21, 0x32, 0x4B, 0x49, 0x52, 0x5F, 0x0A]);
             let any = random.below(128) as u32;
             let word = code_word(random.pick(&[near, any]), 0, 0) | rest;
-            if Code::decode(word) == Err(20) {
+            if Code::decode(word) == Err(refusals::COMMAND) {
                 return word;
             }
         },
@@ -970,8 +1006,8 @@ fn random_num(random: &mut Random) -> u32 {
 }
 
 fn random_mpg(random: &mut Random, most: u64) -> Mpg {
-    let any = random.word() % 2_048;
-    let near_end = 2_048 - random.within(1..=4) as u32;
+    let any = random.word() % INSTRUCTIONS;
+    let near_end = INSTRUCTIONS - random.within(1..=4) as u32;
     Mpg {
         address: random.pick(&[any, any, 0, near_end]),
         count: random.within(1..=most) as u32,
@@ -980,8 +1016,8 @@ fn random_mpg(random: &mut Random, most: u64) -> Mpg {
 
 /// An UNPACK under way, with held words that no run need have left.
 fn random_unpack(random: &mut Random, format: Format, count: u32) -> Unpack {
-    let any = random.word() % 1_024;
-    let near_end = 1_024 - random.within(1..=6) as u32;
+    let any = random.word() % QUADWORDS;
+    let near_end = QUADWORDS - random.within(1..=6) as u32;
     Unpack {
         format,
         masked: random.percent(50),
@@ -1079,7 +1115,7 @@ fn random_quadword(random: &mut Random, maker: &Maker, b_percent: u64) -> u128 {
 
 /// A unit in range with nothing waiting.
 pub fn random_unit(random: &mut Random) -> Unit {
-    let mut ten = || random.word() & 0x3FF;
+    let mut ten = || random.word() % ADDRESSES;
     let (ofst, base, tops, top, itops, itop) = (ten(), ten(), ten(), ten(), ten(), ten());
     let mut registers = Registers {
         ofst,
@@ -1146,37 +1182,39 @@ pub fn random_waiting_unit(random: &mut Random) -> Unit {
     unit
 }
 
-pub fn random_unit_block(random: &mut Random) -> Block {
+pub fn random_unit_block(random: &mut Random) -> UnitBlock {
     match random.below(100) {
-        0..=24 => [0; 32],
-        25..=44 => write_block(&random_unit(random)),
+        0..=24 => RESET_UNIT,
+        25..=44 => write_unit(&random_unit(random)),
         45..=51 => {
             // Words that mean nothing for what waits.
-            let mut block = write_block(&random_waiting_unit(random));
-            let from = match block[21] {
-                7 => return block,
-                4 => 26,
-                _ => 24,
-            };
-            block[from..].iter_mut().for_each(|w| *w = random.word());
+            let mut block = write_unit(&random_waiting_unit(random));
+            let waiting = block[unit_word::WAITING];
+            if waiting == state_block::UNPACK {
+                return block;
+            }
+            for word in &mut block[first_unused(waiting)..] {
+                *word = random.word();
+            }
             if random.percent(40) {
-                block[21] = 0;
+                block[unit_word::WAITING] = state_block::NONE;
             }
             block
         }
-        52..=91 => write_block(&random_waiting_unit(random)),
+        52..=91 => write_unit(&random_waiting_unit(random)),
         92..=97 => random_spoiled_block(random),
         _ => std::array::from_fn(|_| random.word()),
     }
 }
 
 /// A block in range but for one or two of its words.
-pub fn random_spoiled_block(random: &mut Random) -> Block {
-    let mut block = write_block(&random_waiting_unit(random));
+pub fn random_spoiled_block(random: &mut Random) -> UnitBlock {
+    let mut block = write_unit(&random_waiting_unit(random));
+    let fields: Vec<usize> = (0..unit_word::LIMITED)
+        .chain(unit_word::WAITING..unit_word::HELD)
+        .collect();
     for _ in 0..random.within(1..=2) {
-        let field = random.pick(&[
-            0, 1, 2, 3, 4, 5, 6, 7, 8, 9, 10, 11, 21, 22, 23, 24, 25, 26, 27, 28,
-        ]);
+        let field = random.pick(&fields);
         let one_more = block[field].wrapping_add(1);
         block[field] = random.pick(&[
             0,
@@ -1197,7 +1235,7 @@ pub fn random_spoiled_block(random: &mut Random) -> Block {
 
 pub fn random_path_block(random: &mut Random) -> PathBlock {
     match random.below(100) {
-        0..=59 => IDLE,
+        0..=59 => IDLE_PATH,
         60..=89 => random_held_block(random),
         90..=97 => random_gif_block(random),
         98 => random_out_of_range_block(random),

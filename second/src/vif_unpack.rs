@@ -1,6 +1,7 @@
 //! UNPACK: from payload words to vectors in the data memory.
 
-use crate::vif::{Registers, MOST_NUM, QUADWORDS};
+use crate::memory::QUADWORDS;
+use crate::vif::{Registers, ADDRESSES, MOST_NUM};
 
 /// The form of a vector: vl and vn of the code.
 #[derive(Clone, Copy, PartialEq, Eq, Debug)]
@@ -108,7 +109,7 @@ pub fn mask_row(mask: u32, row: u32) -> [u32; 4] {
 impl Unpack {
     /// Whether address and count are in range.
     pub fn in_range(&self) -> bool {
-        self.address < QUADWORDS && (1..=MOST_NUM).contains(&self.count)
+        self.address < ADDRESSES && (1..=MOST_NUM).contains(&self.count)
     }
 
     /// All words of the payload.

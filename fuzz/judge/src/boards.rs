@@ -1,6 +1,6 @@
 //! Two boards compared, element by element.
 
-use crate::gif;
+use crate::log;
 use crate::vif;
 
 pub struct Board<'a> {
@@ -13,7 +13,7 @@ pub struct Board<'a> {
 impl Board<'_> {
     /// The log's entries that are used. The lengths have been tested.
     fn entries(&self) -> &[u64] {
-        &self.log[..2 * self.used as usize]
+        &self.log[..log::numbers(self.used)]
     }
 }
 
@@ -25,7 +25,7 @@ pub fn compare(a: &Board, b: &Board) -> Result<(bool, [u64; 6]), u32> {
     }
     let (quadword, quadwords) = differences(a.data, b.data, 4);
     let (instruction, instructions) = differences(a.code, b.code, 8);
-    let (entry, entries) = differences(a.entries(), b.entries(), 2);
+    let (entry, entries) = differences(a.entries(), b.entries(), log::ENTRY);
     let same = a.data == b.data && a.code == b.code && a.entries() == b.entries();
     let numbers = [
         quadword,
@@ -40,16 +40,8 @@ pub fn compare(a: &Board, b: &Board) -> Result<(bool, [u64; 6]), u32> {
 
 /// The first of the refusals 2, 3 and 4 that a board earns.
 fn refusal(board: &Board) -> Option<u32> {
-    if board.data.len() != vif::DATA_WORDS {
-        return Some(vif::REFUSED_DATA);
-    }
-    if board.code.len() != vif::CODE_BYTES {
-        return Some(vif::REFUSED_CODE);
-    }
-    if !gif::log_in_range(board.log.len(), board.used) {
-        return Some(gif::REFUSED_LOG);
-    }
-    None
+    let (data, code, log) = (board.data.len(), board.code.len(), board.log.len());
+    vif::check_lengths(data, code, log, board.used).err()
 }
 
 /// The first element that differs (the number compared where none does) and how many differ.

@@ -4,26 +4,22 @@
 // The modules bring more than the interface needs.
 #![allow(dead_code)]
 
-#[path = "../../../second/src/capture_cases.rs"]
-mod capture_cases;
-#[path = "../../../second/src/capture_counts.rs"]
-mod capture_counts;
 #[path = "../../../second/src/chain.rs"]
 mod chain;
 #[path = "../../../second/src/gif.rs"]
 mod gif;
-#[path = "../../../second/src/gif_cases.rs"]
-mod gif_cases;
-#[path = "../../../second/src/gif_counts.rs"]
-mod gif_counts;
+#[path = "../../../second/src/log.rs"]
+mod log;
+#[path = "../../../second/src/memory.rs"]
+mod memory;
+#[path = "../../../second/src/refusals.rs"]
+mod refusals;
 #[path = "../../../second/src/sheet.rs"]
 mod sheet;
+#[path = "../../../second/src/state_block.rs"]
+mod state_block;
 #[path = "../../../second/src/vif.rs"]
 mod vif;
-#[path = "../../../second/src/vif_cases.rs"]
-mod vif_cases;
-#[path = "../../../second/src/vif_counts.rs"]
-mod vif_counts;
 #[path = "../../../second/src/vif_unpack.rs"]
 mod vif_unpack;
 #[path = "../../../second/src/words.rs"]
@@ -32,8 +28,8 @@ mod words;
 mod boards;
 
 use boards::Board;
-use capture_cases::Block;
 use chain::{Memories, State};
+use state_block::{bit, read_state, write_state, StateBlock, STATE_WORDS};
 use std::slice::{from_raw_parts, from_raw_parts_mut};
 
 const SHORT: u32 = 60;
@@ -53,19 +49,12 @@ unsafe fn lent<'a, T>(start: *mut T, count: usize) -> &'a mut [T] {
     from_raw_parts_mut(start, count)
 }
 
-/// The state of a block of 63 words; none where it exists in no state.
-fn read_block(block: &[u32]) -> Option<State> {
-    let block: &Block = block.try_into().unwrap();
-    capture_cases::read_block(block)
-}
-
-fn write_block(block: &mut [u32], state: &State) {
-    block.copy_from_slice(&capture_cases::write_block(state));
-}
-
-/// The entries used of a block that may be no state's.
-fn used_in_block(block: &[u32]) -> u64 {
-    block[11] as u64 | (block[12] as u64) << 32
+/// The lent words as a state block; none where there are more or fewer.
+unsafe fn lent_block<'a>(start: *mut u32, words: usize) -> Option<&'a mut StateBlock> {
+    if words != STATE_WORDS {
+        return None;
+    }
+    lent(start, words).try_into().ok()
 }
 
 #[no_mangle]
@@ -100,16 +89,13 @@ pub unsafe extern "C" fn judge_steps(
 fn meaning(sheet: &[u8], memories: &mut Memories, used: u64) -> Result<u64, sheet::Refusal> {
     let (data, code, log) = (&mut memories.data, &mut memories.code, &mut memories.log);
     vif::check_lengths(data.len(), code.len(), log.len(), used).map_err(|refusal| (refusal, 0))?;
-    let after = used + sheet::entries(sheet)?;
-    if 2 * after > log.len() as u64 {
-        return Err((gif::REFUSED_ROOM, 0));
+    if sheet::entries(sheet)? > log::room(log.len(), used) {
+        return Err((refusals::ROOM, 0));
     }
+    let mut after = used;
     let mut entries = Vec::new();
     sheet::meaning(sheet, data, code, &mut entries)?;
-    let free = log[2 * used as usize..].chunks_mut(2);
-    for (place, (register, value)) in free.zip(entries) {
-        place.copy_from_slice(&[register, value]);
-    }
+    log::append_all(log, &mut after, &entries).map_err(|refusal| (refusal, 0))?;
     Ok(after)
 }
 
@@ -146,10 +132,10 @@ pub unsafe extern "C" fn judge_meaning(
 
 #[no_mangle]
 pub unsafe extern "C" fn judge_reset(block: *mut u32, block_words: usize) -> u32 {
-    if block_words != 63 {
+    let Some(block) = lent_block(block, block_words) else {
         return SHORT;
-    }
-    write_block(lent(block, block_words), &State::reset());
+    };
+    *block = write_state(&State::reset());
     0
 }
 
@@ -161,26 +147,25 @@ pub unsafe extern "C" fn judge_start(
     tadr: u32,
     tte: u32,
 ) -> u32 {
-    if block_words != 63 {
+    let Some(block) = lent_block(block, block_words) else {
         return SHORT;
-    }
-    let block = lent(block, block_words);
-    let (Some(tte), Some(mut state)) = (vif_cases::bit(tte), read_block(block)) else {
-        return gif::REFUSED_RANGE;
+    };
+    let (Some(tte), Some(mut state)) = (bit(tte), read_state(block)) else {
+        return refusals::RANGE;
     };
     let started = chain::start(&mut state, channel, tadr, tte);
-    write_block(block, &state);
+    *block = write_state(&state);
     started.err().unwrap_or(0)
 }
 
 /// The answer and the steps completed.
-fn run(memories: &mut Memories, block: &mut [u32], allowance: u64) -> (u32, u64) {
-    let Some(mut state) = read_block(block) else {
-        let lengths = chain::check_lengths(memories, used_in_block(block));
-        return (lengths.err().unwrap_or(gif::REFUSED_RANGE), 0);
+fn run(memories: &mut Memories, block: &mut StateBlock, allowance: u64) -> (u32, u64) {
+    let Some(mut state) = read_state(block) else {
+        let lengths = chain::check_lengths(memories, state_block::used(block));
+        return (lengths.err().unwrap_or(refusals::RANGE), 0);
     };
     let done = chain::run(&mut state, memories, allowance, |_, _, _| {});
-    write_block(block, &state);
+    *block = write_state(&state);
     done
 }
 
@@ -200,16 +185,19 @@ pub unsafe extern "C" fn judge_run(
     result: *mut u64,
     result_numbers: usize,
 ) -> u32 {
-    if block_words != 63 || result_numbers < 1 {
+    if result_numbers < 1 {
         return SHORT;
     }
+    let Some(block) = lent_block(block, block_words) else {
+        return SHORT;
+    };
     let mut memories = Memories {
         main: view(main, main_bytes),
         data: lent(data, data_words),
         code: lent(code, code_bytes),
         log: lent(log, log_numbers),
     };
-    let (answer, steps) = run(&mut memories, lent(block, block_words), allowance);
+    let (answer, steps) = run(&mut memories, block, allowance);
     lent(result, result_numbers)[0] = steps;
     answer
 }
@@ -220,15 +208,15 @@ fn build_and_start(
     sheet: &[u8],
     main: &mut [u8],
     address: u32,
-    block: &mut [u32],
+    block: &mut StateBlock,
 ) -> Result<(), sheet::Refusal> {
-    let given = read_block(block).ok_or((gif::REFUSED_RANGE, 0))?;
-    write_block(block, &given);
+    let given = read_state(block).ok_or((refusals::RANGE, 0))?;
+    *block = write_state(&given);
     let mut started = given;
     chain::start(&mut started, 1, address, false).map_err(|refusal| (refusal, 0))?;
     let from = main.len().min(address as usize);
     sheet::build(sheet, &mut main[from..])?;
-    write_block(block, &started);
+    *block = write_state(&started);
     Ok(())
 }
 
@@ -251,10 +239,13 @@ pub unsafe extern "C" fn judge_build_and_run(
     result: *mut u64,
     result_numbers: usize,
 ) -> u32 {
-    if block_words != 63 || result_numbers < 2 {
+    if result_numbers < 2 {
         return SHORT;
     }
-    let (main, block) = (lent(main, main_bytes), lent(block, block_words));
+    let Some(block) = lent_block(block, block_words) else {
+        return SHORT;
+    };
+    let main = lent(main, main_bytes);
     let (data, code) = (lent(data, data_words), lent(code, code_bytes));
     let log = lent(log, log_numbers);
     let result = &mut lent(result, result_numbers)[..2];
@@ -265,9 +256,9 @@ pub unsafe extern "C" fn judge_build_and_run(
         code,
         log,
     };
-    if let Err(refusal) = chain::check_lengths(&lengths, used_in_block(block)) {
-        if let Some(state) = read_block(block) {
-            write_block(block, &state);
+    if let Err(refusal) = chain::check_lengths(&lengths, state_block::used(block)) {
+        if let Some(state) = read_state(block) {
+            *block = write_state(&state);
         }
         return refusal;
     }

@@ -1,0 +1,36 @@
+//! The refusal numbers.
+
+// At a call's entry.
+pub const MAIN: u32 = 1;
+pub const DATA: u32 = 2;
+pub const CODE: u32 = 3;
+pub const LOG: u32 = 4;
+pub const RANGE: u32 = 5;
+
+// At a tag; 14 at entry too.
+pub const TADR: u32 = 10;
+pub const ADDR: u32 = 11;
+pub const SPR: u32 = 12;
+pub const CALL: u32 = 13;
+pub const OUTSIDE: u32 = 14;
+
+// At a word of VIF1.
+pub const COMMAND: u32 = 20;
+pub const FORMAT: u32 = 21;
+pub const CYCLE: u32 = 22;
+pub const MODE: u32 = 23;
+pub const PLACE: u32 = 24;
+
+// At a quadword of the GIF; 31 at MSCAL, MSCALF and MSCNT too.
+pub const DESCRIPTOR: u32 = 30;
+pub const ROOM: u32 = 31;
+
+// The builder's.
+pub const MARK: u32 = 40;
+pub const KIND: u32 = 41;
+pub const COUNT: u32 = 42;
+pub const ADDRESS: u32 = 43;
+pub const CUT: u32 = 44;
+pub const PAD: u32 = 45;
+pub const LONG: u32 = 46;
+pub const OUTPUT: u32 = 47;
