@@ -1,7 +1,7 @@
 //! The GIF by itself: a path takes one quadword at a time and appends its
 //! register writes to the log.
 
-use crate::log::{self, Entry};
+use crate::log::{self, Entries};
 use crate::refusals;
 
 /// Q after every tag.
@@ -38,24 +38,6 @@ pub enum Place {
 pub struct Path {
     pub q: u32,
     pub place: Place,
-}
-
-/// The writes of one step, at most two, in order.
-#[derive(Clone, Copy, Default)]
-struct Writes {
-    entries: [Entry; 2],
-    count: usize,
-}
-
-impl Writes {
-    fn add(&mut self, register: u64, value: u64) {
-        self.entries[self.count] = Entry { register, value };
-        self.count += 1;
-    }
-
-    fn entries(&self) -> &[Entry] {
-        &self.entries[..self.count]
-    }
 }
 
 /// Bits `from` to `from + count - 1` of the quadword; `count` is at most 64.
@@ -142,7 +124,7 @@ pub fn take(path: &mut Path, used: &mut u64, log: &mut [u64], quadword: u128) ->
     }
     match &mut path.place {
         Place::Idle => {
-            log::append(log, used, tag_writes(quadword).entries())?;
+            log::append(log, used, &tag_writes(quadword))?;
             path.q = TAG_Q;
             let tag = Tag::decode(quadword);
             if tag.nloop > 0 {
@@ -152,7 +134,7 @@ pub fn take(path: &mut Path, used: &mut u64, log: &mut [u64], quadword: u128) ->
         }
         Place::Data { tag, due } => {
             let (q, writes) = data_writes(path.q, tag, *due, quadword)?;
-            log::append(log, used, writes.entries())?;
+            log::append(log, used, &writes)?;
             path.q = q;
             *due -= 1;
             if *due == 0 {
@@ -164,10 +146,10 @@ pub fn take(path: &mut Path, used: &mut u64, log: &mut [u64], quadword: u128) ->
 }
 
 /// The writes of a tag's own step.
-fn tag_writes(quadword: u128) -> Writes {
+fn tag_writes(quadword: u128) -> Entries {
     let tag = Tag::decode(quadword);
     let pre = bits(quadword, 46, 1) == 1;
-    let mut writes = Writes::default();
+    let mut writes = Entries::default();
     if tag.nloop > 0 && tag.format == Format::Packed && pre {
         writes.add(0, bits(quadword, 47, 11));
     }
@@ -175,9 +157,9 @@ fn tag_writes(quadword: u128) -> Writes {
 }
 
 /// Q afterwards and the writes of a data quadword.
-fn data_writes(q: u32, tag: &Tag, due: u32, quadword: u128) -> Result<(u32, Writes), u32> {
+fn data_writes(q: u32, tag: &Tag, due: u32, quadword: u128) -> Result<(u32, Entries), u32> {
     let mut next_q = q;
-    let mut writes = Writes::default();
+    let mut writes = Entries::default();
     match tag.format {
         Format::Packed => {
             let descriptor = tag.packed_descriptor(due);
@@ -199,7 +181,7 @@ fn data_writes(q: u32, tag: &Tag, due: u32, quadword: u128) -> Result<(u32, Writ
 }
 
 /// One PACKED quadword; hands back Q afterwards.
-fn packed(descriptor: u8, q: u32, quadword: u128, writes: &mut Writes) -> Result<u32, u32> {
+fn packed(descriptor: u8, q: u32, quadword: u128, writes: &mut Entries) -> Result<u32, u32> {
     let field = |from, count| bits(quadword, from, count);
     let low = field(0, 64);
     match descriptor {
@@ -234,7 +216,7 @@ fn packed(descriptor: u8, q: u32, quadword: u128, writes: &mut Writes) -> Result
 }
 
 /// One half of a REGLIST quadword.
-fn reglist_half(descriptor: u8, value: u64, writes: &mut Writes) -> Result<(), u32> {
+fn reglist_half(descriptor: u8, value: u64, writes: &mut Entries) -> Result<(), u32> {
     match descriptor {
         0xB => return Err(refusals::DESCRIPTOR),
         0xE | 0xF => {}

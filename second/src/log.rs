@@ -23,15 +23,31 @@ pub struct Entry {
 }
 
 impl Entry {
-    pub fn numbers(&self) -> [u64; ENTRY] {
-        let mut numbers = [0; ENTRY];
-        numbers[REGISTER] = self.register;
-        numbers[VALUE] = self.value;
-        numbers
+    /// Writes the entry's numbers from number `at` on.
+    #[inline]
+    fn put(&self, log: &mut [u64], at: usize) {
+        log[at + REGISTER] = self.register;
+        log[at + VALUE] = self.value;
+    }
+}
+
+/// The entries of one step, at most two, in order.
+#[derive(Clone, Copy, Default)]
+pub struct Entries {
+    entries: [Entry; 2],
+    count: usize,
+}
+
+impl Entries {
+    #[inline]
+    pub fn add(&mut self, register: u64, value: u64) {
+        self.entries[self.count] = Entry { register, value };
+        self.count += 1;
     }
 }
 
 /// The numbers of so many entries, which a log can have.
+#[inline]
 pub fn numbers(entries: u64) -> usize {
     ENTRY * entries as usize
 }
@@ -47,16 +63,19 @@ pub fn length(entries: u64) -> u32 {
 }
 
 /// Whether a log of `length` numbers has whole entries only.
+#[inline]
 pub fn is_whole(length: usize) -> bool {
     length % ENTRY == 0
 }
 
 /// Whether a log of `length` numbers holds so many entries.
+#[inline]
 pub fn holds(length: usize, used: u64) -> bool {
     ENTRY as u128 * used as u128 <= length as u128
 }
 
 /// Whether a log of `length` numbers with `used` entries passes refusal 4.
+#[inline]
 pub fn in_range(length: usize, used: u64) -> bool {
     is_whole(length) && length <= MOST_NUMBERS && holds(length, used)
 }
@@ -71,16 +90,29 @@ pub fn is_full(length: usize, used: u64) -> bool {
     room(length, used) == 0
 }
 
-/// Appends all the entries to a log in range, or none.
-pub fn append(log: &mut [u64], used: &mut u64, entries: &[Entry]) -> Result<(), u32> {
+/// Appends the entries of a step to a log in range, all or none.
+#[inline]
+pub fn append(log: &mut [u64], used: &mut u64, step: &Entries) -> Result<(), u32> {
+    let at = numbers(*used);
+    if log.len() - at < ENTRY * step.count {
+        return Err(refusals::ROOM);
+    }
+    for (i, entry) in step.entries[..step.count].iter().enumerate() {
+        entry.put(log, at + ENTRY * i);
+    }
+    *used += step.count as u64;
+    Ok(())
+}
+
+/// Appends any number of entries to a log in range, all or none.
+pub fn append_all(log: &mut [u64], used: &mut u64, entries: &[Entry]) -> Result<(), u32> {
     if room(log.len(), *used) < entries.len() as u64 {
         return Err(refusals::ROOM);
     }
-    let free = log[numbers(*used)..].chunks_mut(ENTRY);
-    for (place, entry) in free.zip(entries) {
-        place.copy_from_slice(&entry.numbers());
+    for entry in entries {
+        entry.put(log, numbers(*used));
+        *used += 1;
     }
-    *used += entries.len() as u64;
     Ok(())
 }
 
@@ -108,13 +140,21 @@ mod tests {
     #[test]
     fn all_or_none() {
         let entry = |register, value| Entry { register, value };
+        let mut step = Entries::default();
+        step.add(1, 2);
+        step.add(3, 4);
+        let all = [entry(1, 2), entry(3, 4)];
         let (mut log, mut used) = ([9; 6], 1);
-        let two = [entry(1, 2), entry(3, 4)];
-        assert_eq!(append(&mut log, &mut used, &two), Ok(()));
+        assert_eq!(append(&mut log, &mut used, &step), Ok(()));
         assert_eq!((log, used), ([9, 9, 1, 2, 3, 4], 3));
-        let mut used = 2;
-        assert_eq!(append(&mut log, &mut used, &two), Err(31));
-        assert_eq!((log, used), ([9, 9, 1, 2, 3, 4], 2));
-        assert_eq!(append(&mut log, &mut used, &[]), Ok(()));
+        let (mut log, mut used) = ([9; 6], 1);
+        assert_eq!(append_all(&mut log, &mut used, &all), Ok(()));
+        assert_eq!((log, used), ([9, 9, 1, 2, 3, 4], 3));
+        let (mut log, mut used) = ([9; 6], 2);
+        assert_eq!(append(&mut log, &mut used, &step), Err(31));
+        assert_eq!(append_all(&mut log, &mut used, &all), Err(31));
+        assert_eq!((log, used), ([9; 6], 2));
+        assert_eq!(append(&mut log, &mut used, &Entries::default()), Ok(()));
+        assert_eq!((log, used), ([9; 6], 2));
     }
 }

@@ -339,7 +339,8 @@ mod tests {
         assert_eq!(done, (chain::DONE, steps(sheet).unwrap()));
         let (mut plain_data, mut plain_code, _) = machine();
         meaning(sheet, &mut plain_data, &mut plain_code, &mut entries).unwrap();
-        let meant: Vec<u64> = entries.iter().flat_map(Entry::numbers).collect();
+        let mut meant = vec![9; log::numbers(state.used)];
+        assert_eq!(log::append_all(&mut meant, &mut 0, &entries), Ok(()));
         assert!(data == plain_data && code == plain_code);
         assert_eq!(log[..log::numbers(state.used)], meant);
         (data, code, entries)

@@ -207,7 +207,7 @@ fn mean_on(sheet: &[u8], memories: &mut Filled, used: u64) -> Result<u64, Refusa
     let mut entries = Vec::new();
     sheet::meaning(sheet, &mut after.data, &mut after.code, &mut entries)?;
     let mut used = used;
-    log::append(&mut after.log, &mut used, &entries).map_err(|refusal| (refusal, 0))?;
+    log::append_all(&mut after.log, &mut used, &entries).map_err(|refusal| (refusal, 0))?;
     *memories = after;
     Ok(used)
 }

@@ -2,7 +2,7 @@
 //! DIRECT and DIRECTHL.
 
 use crate::gif;
-use crate::log::{self, Entry};
+use crate::log::{self, Entries};
 use crate::memory::{CODE_BYTES, DATA_WORDS, INSTRUCTIONS};
 use crate::refusals;
 use crate::vif_unpack::{Format, Unpack};
@@ -383,8 +383,9 @@ fn call(
     log: &mut [u64],
     used: &mut u64,
 ) -> Result<(), u32> {
-    let value = value as u64;
-    log::append(log, used, &[Entry { register, value }])?;
+    let mut entry = Entries::default();
+    entry.add(register, value as u64);
+    log::append(log, used, &entry)?;
     registers.itop = registers.itops;
     registers.top = registers.tops;
     registers.dbf = !registers.dbf;

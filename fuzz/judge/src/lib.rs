@@ -95,7 +95,7 @@ fn meaning(sheet: &[u8], memories: &mut Memories, used: u64) -> Result<u64, shee
     let mut after = used;
     let mut entries = Vec::new();
     sheet::meaning(sheet, data, code, &mut entries)?;
-    log::append(log, &mut after, &entries).map_err(|refusal| (refusal, 0))?;
+    log::append_all(log, &mut after, &entries).map_err(|refusal| (refusal, 0))?;
     Ok(after)
 }
 
