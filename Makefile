@@ -23,7 +23,7 @@ JUDGE = build/judge/release/libjudge.a
 test:
 	rt fmt --check
 	mkdir -p build
-	{ rt ci 2>&1; echo $$? > build/ci.status; } | tee build/ci.log; test "$$(cat build/ci.status)" = 0
+	{ RT_JOBS=4 rt ci 2>&1; echo $$? > build/ci.status; } | tee build/ci.log; test "$$(cat build/ci.status)" = 0
 	$(MAKE) second
 	cargo test --quiet --release --offline --manifest-path second/Cargo.toml --target-dir build/second
 	$(SECOND) compare-gif target/bin/gif_replay 1,2,3 20000
