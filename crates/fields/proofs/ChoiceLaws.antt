@@ -44,10 +44,6 @@ pub not-false : (b : Bool) → not b ≡ false → b ≡ true
 not-false true h = refl
 not-false false h = sym h
 
-pub not-true : (b : Bool) → not b ≡ true → b ≡ false
-not-true true h = sym h
-not-true false h = refl
-
 -- ---- tests in turn
 
 -- the first of them fails, a later one does, or the first holds and the rest decide
