@@ -4,22 +4,24 @@ use mathlib.Core.Bool.{Bool, true, false, not, _&&_, _||_, or-true}
 use mathlib.Core.List.{List}
 use Prim.Native.Nat.{ℕ, _+_, _*_, _-_, _/_, _%_, _^_, _<_, _≤_}
 use native.Mathlib.Omega.{arith}
-use borrow.Author.Tests.{leb-true, leb-false, le-leb, ltb-true, ltb-false, lt-ltb, eqb-true, eqb-false, eq-eqb, ne-eqb}
+use borrow.Author.Tests.{leb-true, leb-false, le-leb, ltb-false, lt-ltb, eqb-true, eqb-false, eq-eqb, ne-eqb, not-false}
 use lib.ListN.{length}
 use lib.Dec.{eqb, leb, ltb}
-use Rattle.fields.specs.Fields.{if, bits}
+use Rattle.fields.specs.Fields.{if}
+use Rattle.fields.specs.Refusals.{tadrOutside, addrUnaligned, scratchpadSet, stackFull, payloadOutside}
 use Rattle.fields.proofs.FieldLaws.{bits-below}
-use Rattle.fields.proofs.ChoiceLaws.{and-left, and-right, or-left, or-right, if-ind, if-ind-by, if-zero}
+use Rattle.fields.proofs.ChoiceLaws.{and-left, and-right, if-ind, if-ind-by, if-zero}
 use Rattle.gif.specs.declared.GifAnswer.{GifAnswer}
 use Rattle.gif.specs.declared.GifAnswer.the-variants.{Taken, Refused as GifRefused}
 use Rattle.gif.specs.Step.{Left as GifLeft, gifStep}
 use Rattle.gif.proofs.LogLaws.{logged-length}
 use Rattle.gif.proofs.RangeLaws.{log-fits}
 use Rattle.gif.proofs.StepLaws.{step-ranged, step-wrote}
+use Rattle.memories.specs.declared.VifUnit.the-variants.{Vif1}
+use Rattle.memories.specs.Lengths.{Lent}
 use Rattle.vif.specs.declared.VifAnswer.{VifAnswer}
 use Rattle.vif.specs.declared.VifAnswer.the-variants.{Word, Quadword, Refused as VifRefused}
-use Rattle.vif.specs.Inner.{StepReady}
-use Rattle.vif.specs.Step.{Lent, lent, Left as VifLeft, vifStep}
+use Rattle.vif.specs.Step.{Left as VifLeft, vifStep}
 use Rattle.vif.proofs.KeepLaws.{log-stays}
 use Rattle.vif.proofs.RangeKept.{step-ready}
 use Rattle.chain.specs.declared.Stack.{Stack}
@@ -28,19 +30,18 @@ use Rattle.chain.specs.declared.TagWords.{TagWords}
 use Rattle.chain.specs.declared.TagWords.the-variants.{Nothing as NoTagWords, From}
 use Rattle.chain.specs.declared.Payload.{Payload}
 use Rattle.chain.specs.declared.Payload.the-variants.{Nothing as NoPayload, Words}
-use Rattle.chain.specs.declared.StepAnswer.{StepAnswer}
 use Rattle.chain.specs.declared.StepAnswer.the-variants.{Completed, Refused}
 use Rattle.chain.specs.declared.StepResult.{StepResult}
 use Rattle.chain.specs.declared.State.{State}
 use Rattle.fields.specs.Memory.{longAt, quadwordAt}
-use Rattle.chain.specs.Setters.{withPending, withUnit, withPath3}
-use Rattle.chain.specs.Tags.{qwcOf, idOf, addrOf, sprOf, usesAddr, payloadAt, afterPayload, returnTo, nextTadr, isFull, pushed, popped, nextStack, tagWordsOf, payloadOf, tagRefusal, tagState, stepResult, tagRead, tagStep}
+use Rattle.chain.specs.Setters.{withPending, withUnit}
+use Rattle.chain.specs.Tags.{qwcOf, idOf, addrOf, sprOf, usesAddr, payloadAt, afterPayload, returnTo, nextTadr, isFull, pushed, popped, nextStack, tagWordsOf, payloadOf, tagRefusal, tagState, tagRead, tagStep}
 use Rattle.vif.specs.Words.{incomingAt}
 use Rattle.chain.specs.Pending.{tagsAfter, payloadAfter}
 use Rattle.chain.specs.Range.{channelInRange, startInRange, entryInRange, stackInRange, tagWordInRange, tagsInRange, wordsInRange, payloadInRange, tagsInside, payloadInside}
-use Rattle.chain.specs.Inner.{Ready, WordInside, PayloadInside}
-use Rattle.chain.specs.Step.{Machine, Stepped, stepped, steppedBy, afterVif, vifGiven, afterGif, gifGiven, payloadStep, payloadOrTag, pendingOrTag, stepOf}
-use Rattle.chain.proofs.ReadyLaws.{not-false, Fields, Facts, facts-of, ready-of, main-most, main-whole, unit-ready, tadr-below, tadr-whole, tag-word-inside, payload-ready}
+use Rattle.chain.specs.Inner.{Ready, PayloadInside}
+use Rattle.chain.specs.Step.{Stepped, stepped, steppedBy, afterVif, vifGiven, afterGif, gifGiven, payloadStep, payloadOrTag, pendingOrTag, stepOf}
+use Rattle.chain.proofs.ReadyLaws.{Facts, facts-of, ready-of, main-most, unit-ready, tadr-whole, payload-ready}
 
 -- ---- a tag
 
@@ -71,11 +72,11 @@ record Accepted (size tadr id addr qwc : ℕ) (k : Stack) : Type 0 where
 accepted-of : (size tadr id addr : ℕ) (spr : Bool) (qwc : ℕ) (k : Stack) → tagRefusal size tadr id addr spr qwc k ≡ 0 → Accepted size tadr id addr qwc k
 unfolding tagRefusal
 accepted-of size tadr id addr spr qwc k h =
-    let e1 = if-zero (ltb size (tadr + 16)) 10 (omega arith) h in
-    let e2 = if-zero (usesAddr id && not (eqb (addr % 16) 0)) 11 (omega arith) (e1 .1) in
-    let e3 = if-zero (usesAddr id && spr) 12 (omega arith) (e2 .1) in
-    let e4 = if-zero (eqb id 5 && isFull k) 13 (omega arith) (e3 .1) in
-    let e5 = if-zero (not (eqb qwc 0) && ltb size (payloadAt id addr tadr + 16 * qwc)) 14 (omega arith) (e4 .1) in
+    let e1 = if-zero (ltb size (tadr + 16)) tadrOutside (omega arith) h in
+    let e2 = if-zero (usesAddr id && not (eqb (addr % 16) 0)) addrUnaligned (omega arith) (e1 .1) in
+    let e3 = if-zero (usesAddr id && spr) scratchpadSet (omega arith) (e2 .1) in
+    let e4 = if-zero (eqb id 5 && isFull k) stackFull (omega arith) (e3 .1) in
+    let e5 = if-zero (not (eqb qwc 0) && ltb size (payloadAt id addr tadr + 16 * qwc)) payloadOutside (omega arith) (e4 .1) in
     record {
       tag-in = ltb-false size (tadr + 16) (e1 .0);
       addr-whole = λ u. eqb-true (addr % 16) 0 (not-false _ (rw u at (e2 .0)));
@@ -219,9 +220,7 @@ module _ {main : List ℕ} {s : State} {m : Lent} (r : Ready main s m) where
       ready-of
       (record {
         size = f .size;
-        long = f .long;
-        wide = f .wide;
-        logged = f .logged;
+        fit = f .fit;
         fields =
             record {
               start = rw (c, eq-eqb _ 0 (p .whole), lt-ltb _ (2 ^ 31) (p .below));
@@ -253,20 +252,18 @@ module _ {main : List ℕ} {s : State} {m : Lent} (r : Ready main s m) where
 
   vif-stays : (a : ℕ) (t : TagWords) (p : ℕ → Payload) → Pending t (p 1) → Pending t (p 4) → Stays main (vifGiven main a t p s m)
   unfolding vifGiven
-  vif-stays a t p one four = go (vifStep (s .vif) (s .path2) (incomingAt main a) (s .used) m .answer)
+  vif-stays a t p one four = go (vifStep Vif1 (s .vif) (s .path2) (incomingAt main a) (s .used) m .answer)
     where
       o : VifLeft
-      o = vifStep (s .vif) (s .path2) (incomingAt main a) (s .used) m
+      o = vifStep Vif1 (s .vif) (s .path2) (incomingAt main a) (s .used) m
 
       again : (q : Payload) → Pending t q → Ready main (withPending (withUnit s (o .unit) (o .path2) (o .used)) t q) (o .memories)
       again q w =
-          let u = step-ready (s .vif) (s .path2) (s .used) m (unit-ready r) (incomingAt main a) o refl in
+          let u = step-ready Vif1 (s .vif) (s .path2) (s .used) m (unit-ready r) (incomingAt main a) o refl in
           ready-of
           (record {
             size = f .size;
-            long = u .long;
-            wide = u .wide;
-            logged = u .gif .logged;
+            fit = u .fit;
             fields =
                 record {
                   start = f .fields .start;
@@ -274,7 +271,7 @@ module _ {main : List ℕ} {s : State} {m : Lent} (r : Ready main s m) where
                   tags = w .tags-ranged;
                   payload = w .payload-ranged;
                   unit = u .ranged;
-                  path2 = u .gif .ranged;
+                  path2 = u .path-ranged;
                   path3 = f .fields .path3;
                 };
             tags-in = w .tags-within;
@@ -350,7 +347,7 @@ module _ {main : List ℕ} {s : State} {m : Lent} (r : Ready main s m) where
 
       go : (b : GifAnswer) → Stays main (afterGif b o q s m)
       go Taken =
-          let g = step-wrote (s .path3) (s .used) (m .log) (log-fits (m .log) (s .used) (f .logged) .holds) (quadwordAt main a) in
+          let g = step-wrote (s .path3) (s .used) (m .log) (log-fits (m .log) (s .used) (f .fit .logged) .holds) (quadwordAt main a) in
           let l : length (o .log) ≡ length (m .log) = rw (g .stored) (logged-length (m .log) (s .used) (g .entries)) in
           record {
             stays =
@@ -358,9 +355,12 @@ module _ {main : List ℕ} {s : State} {m : Lent} (r : Ready main s m) where
                 ready-of
                 (record {
                   size = f .size;
-                  long = f .long;
-                  wide = f .wide;
-                  logged = log-stays (s .used) (o .used) (m .log) (o .log) (f .logged) (record { same-length = l; room = g .room });
+                  fit =
+                      record {
+                        long = f .fit .long;
+                        wide = f .fit .wide;
+                        logged = log-stays (s .used) (o .used) (m .log) (o .log) (f .fit .logged) (record { same-length = l; room = g .room });
+                      };
                   fields =
                       record {
                         start = f .fields .start;
@@ -421,9 +421,9 @@ module _ (main : List ℕ) (s : State) (m : Lent) where
 
   vif-given-same : (a : ℕ) (t : TagWords) (p : ℕ → Payload) → Same s m (vifGiven main a t p s m)
   unfolding vifGiven
-  vif-given-same a t p = go (vifStep (s .vif) (s .path2) (incomingAt main a) (s .used) m .answer)
+  vif-given-same a t p = go (vifStep Vif1 (s .vif) (s .path2) (incomingAt main a) (s .used) m .answer)
     where
-      go : (b : VifAnswer) → Same s m (afterVif b (vifStep (s .vif) (s .path2) (incomingAt main a) (s .used) m) t p s m)
+      go : (b : VifAnswer) → Same s m (afterVif b (vifStep Vif1 (s .vif) (s .path2) (incomingAt main a) (s .used) m) t p s m)
       go (Word i) = completed-same i _ _
       go (Quadword i) = completed-same i _ _
       go (VifRefused n) = refused-same n

@@ -17,10 +17,12 @@ use Rattle.gif.specs.declared.QuadwordsResult.{QuadwordsResult}
 use Rattle.gif.specs.Step.{Left as GifLeft, gifStep}
 use Rattle.gif.specs.Feed.{Fed as GifFed, fed as gifFed, fedBy, afterQuadword, feedsOf as gifFeedsOf, feedOf as gifFeedOf}
 use Rattle.gif.proofs.FeedLaws.{feed-few}
+use Rattle.memories.specs.declared.VifUnit.the-variants.{Vif1}
+use Rattle.memories.specs.Lengths.{Lent, lent}
 use Rattle.vif.specs.declared.VifAnswer.{VifAnswer}
 use Rattle.vif.specs.declared.VifAnswer.the-variants.{Word, Quadword, Refused as VifRefused}
 use Rattle.vif.specs.declared.WordsResult.{WordsResult}
-use Rattle.vif.specs.Step.{Lent, lent, Left as VifLeft, vifStep}
+use Rattle.vif.specs.Step.{Left as VifLeft, vifStep}
 use Rattle.vif.specs.Words.{incomingAt}
 use Rattle.vif.specs.Feeds.{Fed, fed}
 use Rattle.vif.specs.Feed.{FedOn, fedOn, fedOnBy, fedTo, stepMore, afterWord, feedsOf, feedOf}
@@ -195,7 +197,7 @@ abbrev pub feeding : State → Fed → Payload → Machine
 feeding s x p = machine (withPending (withUnit s (x .unit) (x .path2) (x .used)) NoTagWords p) (x .memories)
 
 abbrev givenWord : List ℕ → ℕ → Fed → VifLeft
-givenWord main a x = vifStep (x .unit) (x .path2) (incomingAt main a) (x .used) (x .memories)
+givenWord main a x = vifStep Vif1 (x .unit) (x .path2) (incomingAt main a) (x .used) (x .memories)
 
 -- each step takes a word or a quadword, so they end within four times the words that were there
 record FewWords (count : ℕ) (r : FedOn) : Type 0 where
@@ -213,14 +215,14 @@ module _ (main : List ℕ) where
   answer-few f h (Quadword false) o a count x z = let i = h (a + 16) (count - 4) (fedTo o) .few-words in record { few-words = omega arith }
   answer-few f h (VifRefused c) o a count x z = no-words count x
 
-  feeds-few : (n a count : ℕ) (x : Fed) → FewWords count (feedsOf main n a count x)
+  feeds-few : (n a count : ℕ) (x : Fed) → FewWords count (feedsOf Vif1 main n a count x)
   unfolding feedsOf
   feeds-few zero a count x = no-words count x
   feeds-few (suc n) a count x =
       if-ind-by (FewWords count) (eqb count 0) (λ e. no-words count x)
-      (λ e. answer-few (feedsOf main n) (feeds-few n) (givenWord main a x .answer) (givenWord main a x) a count x (eqb-false count 0 e))
+      (λ e. answer-few (feedsOf Vif1 main n) (feeds-few n) (givenWord main a x .answer) (givenWord main a x) a count x (eqb-false count 0 e))
 
-  pub words-few : (n a count : ℕ) (x : Fed) {r : FedOn} → r ≡ feedOf main n a count x → r .words ≤ 4 * count
+  pub words-few : (n a count : ℕ) (x : Fed) {r : FedOn} → r ≡ feedOf Vif1 main n a count x → r .words ≤ 4 * count
   unfolding feedOf
   words-few n a count x e = rw e (if-ind (FewWords count) _ (feeds-few n a count x) (no-words count x) .few-words)
 
@@ -240,8 +242,8 @@ module _ (main : List ℕ) (s : State) (channel : s .channel ≡ 2 → ⊥) wher
 
   -- a word or quadword, by the answer to it
   word-fed : (n a count : ℕ) (x : Fed) → (count ≡ 0 → ⊥) → (b : VifAnswer) → givenWord main a x .answer ≡ b
-      → ((a′ count′ : ℕ) (y : Fed) → FedBurst n a′ count′ y (feedsOf main n a′ count′ y))
-      → FedBurst (suc n) a count x (afterWord (feedsOf main n) b (givenWord main a x) a count x)
+      → ((a′ count′ : ℕ) (y : Fed) → FedBurst n a′ count′ y (feedsOf Vif1 main n a′ count′ y))
+      → FedBurst (suc n) a count x (afterWord (feedsOf Vif1 main n) b (givenWord main a x) a count x)
   word-fed n a count x z b q f = go b q
     where
       o : VifLeft
@@ -259,21 +261,21 @@ module _ (main : List ℕ) (s : State) (channel : s .channel ≡ 2 → ⊥) wher
       stop-after k e h w = record { fed-burst = rw (← w) (burst-stops main n _ going e h) }
 
       go-after : (k : ℕ) {y : Stepped} → stepFrom main (feeding s x (payloadAfter a count 0)) ≡ y → y .answer ≡ Completed false
-          → y .after ≡ feeding s (fedTo o) (payloadAfter a count k) → FedBurst (suc n) a count x (stepMore k (feedsOf main n (a + 4 * k) (count - k) (fedTo o)))
+          → y .after ≡ feeding s (fedTo o) (payloadAfter a count k) → FedBurst (suc n) a count x (stepMore k (feedsOf Vif1 main n (a + 4 * k) (count - k) (fedTo o)))
       go-after k e h w =
-          let r = feedsOf main n (a + 4 * k) (count - k) (fedTo o) in
+          let r = feedsOf Vif1 main n (a + 4 * k) (count - k) (fedTo o) in
           let i = f (a + 4 * k) (count - k) (fedTo o) .fed-burst in
           let p = payload-more a count k 0 ∙ ap (payloadAfter a count) (add-zero k) in
           record { fed-burst = burst-goes main n _ going e h (rw (w, ← payload-more a count k (r .words), ← p) i) }
 
-      go : (b : VifAnswer) → o .answer ≡ b → FedBurst (suc n) a count x (afterWord (feedsOf main n) b o a count x)
+      go : (b : VifAnswer) → o .answer ≡ b → FedBurst (suc n) a count x (afterWord (feedsOf Vif1 main n) b o a count x)
       go (Word true) q = stop-after 1 (at-word (Word true) q) refl refl
       go (Word false) q = go-after 1 (at-word (Word false) q) refl refl
       go (Quadword true) q = stop-after 4 (at-word (Quadword true) q) refl refl
       go (Quadword false) q = go-after 4 (at-word (Quadword false) q) refl refl
       go (VifRefused c) q = none-fed (suc n) a count x
 
-  words-fed : (n a count : ℕ) (x : Fed) → FedBurst n a count x (feedsOf main n a count x)
+  words-fed : (n a count : ℕ) (x : Fed) → FedBurst n a count x (feedsOf Vif1 main n a count x)
   unfolding feedsOf
   words-fed zero a count x = none-fed 0 a count x
   words-fed (suc n) a count x =
@@ -281,7 +283,7 @@ module _ (main : List ℕ) (s : State) (channel : s .channel ≡ 2 → ⊥) wher
       (λ e. word-fed n a count x (eqb-false count 0 e) (givenWord main a x .answer) refl (words-fed n))
 
   -- whatever was tested
-  pub words-burst : (n a count : ℕ) (x : Fed) {r : FedOn} → r ≡ feedOf main n a count x
+  pub words-burst : (n a count : ℕ) (x : Fed) {r : FedOn} → r ≡ feedOf Vif1 main n a count x
       → Burst main n (feeding s x (payloadAfter a count 0)) (r .interrupt) (r .steps) (feeding s (r .after) (payloadAfter a count (r .words)))
   unfolding feedOf
   words-burst n a count x e = rw e (if-ind (FedBurst n a count x) _ (words-fed n a count x) (none-fed n a count x) .fed-burst)
@@ -291,7 +293,7 @@ module _ {s : State} {a count : ℕ} (p : PayloadNext s a count) where
   as-feeding m = rw (payload-whole a count (p .some), ← p .payload, ← p .no-tags)
 
   -- words that VIF1 tested and took
-  module _ (main : List ℕ) (n : ℕ) (m : Lent) {v : WordsResult} {m′ : Lent} (e : fedOnBy v m′ ≡ feedOf main n a count (fed (s .vif) (s .path2) (s .used) m)) where
+  module _ (main : List ℕ) (n : ℕ) (m : Lent) {v : WordsResult} {m′ : Lent} (e : fedOnBy v m′ ≡ feedOf Vif1 main n a count (fed (s .vif) (s .path2) (s .used) m)) where
     pub words-given : (s .channel ≡ 2 → ⊥) → {t : State} → t ≡ withPending (withUnit s (v .unit) (v .path2) (v .used)) NoTagWords (payloadAfter a count (v .words))
         → Burst main n (machine s m) (v .interrupt) (v .steps) (machine t m′)
     words-given c q = rw (q, as-feeding m) (words-burst main s c n a count _ e)

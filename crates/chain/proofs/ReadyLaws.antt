@@ -1,31 +1,27 @@
 -- The entry tests as facts.
-use mathlib.Core.Path.{_≡_, refl, sym, ap, _∙_}
-use mathlib.Core.Bool.{Bool, true, false, not, _&&_, _||_}
+use mathlib.Core.Path.{_≡_, _∙_}
+use mathlib.Core.Bool.{true, false, not, _&&_, _||_}
 use mathlib.Core.List.{List}
-use Prim.Native.Nat.{ℕ, _+_, _*_, _-_, _/_, _%_, _^_, _<_, _≤_}
+use Prim.Native.Nat.{ℕ, _+_, _*_, _/_, _%_, _^_, _<_, _≤_}
 use native.Mathlib.Omega.{arith}
-use borrow.Author.Tests.{leb-true, le-leb, ltb-true, ltb-false, lt-ltb, le-ltb, eqb-true, eqb-false, eq-eqb, ne-eqb}
+use borrow.Author.Tests.{leb-true, ltb-true, ltb-false, eqb-true, ne-eqb, not-false}
 use lib.ListN.{length}
-use lib.Dec.{eqb, leb, ltb}
+use lib.Dec.{eqb, leb}
 use Rattle.fields.specs.Fields.{if}
+use Rattle.fields.specs.Refusals.{mainLength, outOfRange, payloadOutside}
 use Rattle.fields.proofs.ChoiceLaws.{if-zero, and-left, and-right, or-left, or-right}
-use Rattle.gif.specs.Log.{logRefused}
 use Rattle.gif.specs.Range.{pathInRange}
-use Rattle.vif.specs.Step.{Lent}
+use Rattle.memories.specs.declared.VifUnit.the-variants.{Vif1}
+use Rattle.memories.specs.Lengths.{Lent, LengthsFit}
+use Rattle.memories.proofs.LengthLaws.{fit-lengths, fit-first}
 use Rattle.vif.specs.Range.{unitInRange}
-use Rattle.vif.specs.Inner.{GifReady, StepReady}
-use Rattle.chain.specs.declared.Stack.{Stack}
-use Rattle.chain.specs.declared.TagWords.{TagWords}
+use Rattle.vif.specs.Inner.{StepReady}
 use Rattle.chain.specs.declared.TagWords.the-variants.{Nothing as NoTagWords, From}
 use Rattle.chain.specs.declared.Payload.{Payload}
 use Rattle.chain.specs.declared.Payload.the-variants.{Words}
 use Rattle.chain.specs.declared.State.{State}
-use Rattle.chain.specs.Range.{channelInRange, startInRange, stackInRange, tagWordInRange, tagsInRange, wordsInRange, payloadInRange, stateInRange, mainRefused, tagsInside, payloadInside, entryRefusal}
+use Rattle.chain.specs.Range.{channelInRange, startInRange, stackInRange, tagsInRange, wordsInRange, payloadInRange, stateInRange, mainRefused, tagsInside, payloadInside, entryRefusal}
 use Rattle.chain.specs.Inner.{Ready, WordInside, PayloadInside, PayloadNext}
-
-pub not-false : (b : Bool) → not b ≡ false → b ≡ true
-not-false true h = refl
-not-false false h = sym h
 
 -- the fields of a state in range
 pub record Fields (s : State) : Type 0 where
@@ -33,7 +29,7 @@ pub record Fields (s : State) : Type 0 where
   pub stack : stackInRange (s .stack) ≡ true
   pub tags : tagsInRange (s .tags) (s .tte) ≡ true
   pub payload : payloadInRange (s .payload) (s .channel) ≡ true
-  pub unit : unitInRange (s .vif) ≡ true
+  pub unit : unitInRange Vif1 (s .vif) ≡ true
   pub path2 : pathInRange (s .path2) ≡ true
   pub path3 : pathInRange (s .path3) ≡ true
 
@@ -44,7 +40,7 @@ fields-of s h =
     let h2 = and-right (stackInRange (s .stack)) _ h1 in
     let p : (tagsInRange (s .tags) (s .tte) && payloadInRange (s .payload) (s .channel)) ≡ true = and-left _ _ h2 in
     let d = and-right (tagsInRange (s .tags) (s .tte) && payloadInRange (s .payload) (s .channel)) _ h2 in
-    let e = and-right (unitInRange (s .vif)) _ d in
+    let e = and-right (unitInRange Vif1 (s .vif)) _ d in
     record {
       start = and-left _ _ h;
       stack = and-left _ _ h1;
@@ -62,9 +58,7 @@ state-of s f = rw (f .start, f .stack, f .tags, f .payload, f .unit, f .path2, f
 -- what the entry tests say
 pub record Facts (main : List ℕ) (s : State) (m : Lent) : Type 0 where
   pub size : mainRefused (length main) ≡ false
-  pub long : length (m .mem) ≡ 4096
-  pub wide : length (m .code) ≡ 16384
-  pub logged : logRefused (m .log) (s .used) ≡ false
+  pub fit : LengthsFit Vif1 m (s .used)
   pub fields : Fields s
   pub tags-in : tagsInside (s .tags) (length main) ≡ true
   pub payload-in : payloadInside (s .payload) (length main) ≡ true
@@ -72,19 +66,15 @@ pub record Facts (main : List ℕ) (s : State) (m : Lent) : Type 0 where
 pub facts-of : {main : List ℕ} {s : State} {m : Lent} → Ready main s m → Facts main s m
 unfolding entryRefusal
 facts-of {main} {s} {m} r =
-    let e1 = if-zero (mainRefused (length main)) 1 (omega arith) (r .passed) in
-    let e2 = if-zero (not (eqb (length (m .mem)) 4096)) 2 (omega arith) (e1 .1) in
-    let e3 = if-zero (not (eqb (length (m .code)) 16384)) 3 (omega arith) (e2 .1) in
-    let e4 = if-zero (logRefused (m .log) (s .used)) 4 (omega arith) (e3 .1) in
-    let e5 = if-zero (not (stateInRange s)) 5 (omega arith) (e4 .1) in
-    let e6 = if-zero (not (tagsInside (s .tags) (length main) && payloadInside (s .payload) (length main))) 14 (omega arith) (e5 .1) in
-    let i = not-false (tagsInside (s .tags) (length main) && payloadInside (s .payload) (length main)) (e6 .0) in
+    let e1 = if-zero (mainRefused (length main)) mainLength (omega arith) (r .passed) in
+    let e2 = fit-first Vif1 m (s .used) (e1 .1) in
+    let e3 = if-zero (not (stateInRange s)) outOfRange (omega arith) (e2 .1) in
+    let e4 = if-zero (not (tagsInside (s .tags) (length main) && payloadInside (s .payload) (length main))) payloadOutside (omega arith) (e3 .1) in
+    let i = not-false (tagsInside (s .tags) (length main) && payloadInside (s .payload) (length main)) (e4 .0) in
     record {
       size = e1 .0;
-      long = eqb-true (length (m .mem)) 4096 (not-false _ (e2 .0));
-      wide = eqb-true (length (m .code)) 16384 (not-false _ (e3 .0));
-      logged = e4 .0;
-      fields = fields-of s (not-false _ (e5 .0));
+      fit = e2 .0;
+      fields = fields-of s (not-false _ (e3 .0));
       tags-in = and-left _ _ i;
       payload-in = and-right (tagsInside (s .tags) (length main)) _ i;
     }
@@ -92,10 +82,7 @@ facts-of {main} {s} {m} r =
 pub ready-of : {main : List ℕ} {s : State} {m : Lent} → Facts main s m → Ready main s m
 unfolding entryRefusal if
 ready-of {main} {s} {m} f =
-    record {
-      passed =
-          rw (f .size, eq-eqb (length (m .mem)) 4096 (f .long), eq-eqb (length (m .code)) 16384 (f .wide), f .logged, state-of s (f .fields), f .tags-in, f .payload-in);
-    }
+    record { passed = rw (f .size, fit-lengths Vif1 m (s .used) (f .fit), state-of s (f .fields), f .tags-in, f .payload-in) }
 
 module _ {main : List ℕ} {s : State} {m : Lent} (r : Ready main s m) where
   facts : Facts main s m
@@ -113,14 +100,8 @@ module _ {main : List ℕ} {s : State} {m : Lent} (r : Ready main s m) where
       let a = or-right (eqb (length main) 0) _ (facts .size) in
       eqb-true (length main % 16) 0 (not-false (eqb (length main % 16) 0) (or-left _ _ a))
 
-  pub unit-ready : StepReady (s .vif) (s .path2) (s .used) (m .mem) (m .code) (m .log)
-  unit-ready =
-      record {
-        long = facts .long;
-        wide = facts .wide;
-        gif = record { logged = facts .logged; ranged = facts .fields .path2 };
-        ranged = facts .fields .unit;
-      }
+  pub unit-ready : StepReady Vif1 (s .vif) (s .path2) (s .used) m
+  unit-ready = record { fit = facts .fit; path-ranged = facts .fields .path2; ranged = facts .fields .unit }
 
   pub tadr-below : s .tadr < 2 ^ 31
   unfolding startInRange

@@ -7,7 +7,7 @@ use native.Mathlib.Nat.{zero-add, add-zero, sub-zero}
 use native.Mathlib.Omega.{arith}
 use borrow.Author.Tests.{ne-eqb}
 use Rattle.fields.specs.Fields.{if}
-use Rattle.vif.specs.Step.{Lent}
+use Rattle.memories.specs.Lengths.{Lent}
 use Rattle.chain.specs.declared.Answer.the-variants.{Done, Allowance, Interrupt, Refused}
 use Rattle.chain.specs.declared.StepAnswer.{StepAnswer}
 use Rattle.chain.specs.declared.StepAnswer.the-variants.{Completed, Refused as StepRefused}

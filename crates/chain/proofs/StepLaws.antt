@@ -1,27 +1,27 @@
 -- The step from what its parts give.
 use mathlib.Core.Path.{_≡_, refl, sym, ap, _∙_}
-use mathlib.Core.Bool.{Bool, true, false}
 use mathlib.Core.List.{List}
-use Prim.Native.Nat.{ℕ, _+_, _*_, _-_, _/_, _%_, _^_, _<_, _≤_}
+use Prim.Native.Nat.{ℕ, _+_}
 use native.Mathlib.Omega.{arith}
-use lib.ListN.{length}
 use Rattle.fields.specs.Fields.{if, quadword}
 use Rattle.gif.specs.declared.GifAnswer.{GifAnswer}
-use Rattle.gif.specs.declared.GifAnswer.the-variants.{Taken, Refused as GifRefused}
+use Rattle.gif.specs.declared.GifAnswer.the-variants.{Refused as GifRefused}
 use Rattle.gif.specs.declared.GifResult.{GifResult}
 use Rattle.gif.specs.Step.{Left as GifLeft, left as gifLeft, gifStep, takeOf as gifTakeOf}
 use Rattle.gif.proofs.RangeLaws.{log-fits}
 use Rattle.gif.proofs.StepLaws.{tested, step-wrote}
+use Rattle.memories.specs.declared.VifUnit.the-variants.{Vif1}
+use Rattle.memories.specs.Lengths.{Lent, lent}
 use Rattle.vif.specs.declared.Incoming.{Incoming}
 use Rattle.vif.specs.declared.VifAnswer.{VifAnswer}
 use Rattle.vif.specs.declared.VifAnswer.the-variants.{Word, Quadword, Refused as VifRefused}
 use Rattle.vif.specs.declared.VifResult.{VifResult}
-use Rattle.vif.specs.Step.{Lent, lent, Left as VifLeft, left as vifLeft, vifStep, takeOf as vifTakeOf}
+use Rattle.vif.specs.Step.{Left as VifLeft, left as vifLeft, vifStep, takeOf as vifTakeOf}
 use Rattle.vif.proofs.StepLaws.{vif-tested}
 use Rattle.vif.proofs.KeepLaws.{step-kept}
 use Rattle.chain.specs.declared.TagWords.{TagWords}
 use Rattle.chain.specs.declared.Payload.{Payload}
-use Rattle.chain.specs.declared.StepAnswer.the-variants.{Completed, Refused}
+use Rattle.chain.specs.declared.StepAnswer.the-variants.{Refused}
 use Rattle.chain.specs.declared.StepResult.{StepResult}
 use Rattle.chain.specs.declared.State.{State}
 use Rattle.fields.specs.Memory.{longAt}
@@ -51,18 +51,18 @@ by-tags e p main s m h = rw e h
 pub same-pending : (main : List ℕ) (a : ℕ) (t : TagWords) (p : ℕ → Payload) (s : State) (m : Lent)
     → vifGiven main a t (byTaken (p 1) (p 4)) s m ≡ vifGiven main a t p s m
 unfolding vifGiven if
-same-pending main a t p s m = go (vifStep (s .vif) (s .path2) (incomingAt main a) (s .used) m .answer)
+same-pending main a t p s m = go (vifStep Vif1 (s .vif) (s .path2) (incomingAt main a) (s .used) m .answer)
   where
-    go : (b : VifAnswer) → afterVif b (vifStep (s .vif) (s .path2) (incomingAt main a) (s .used) m) t (byTaken (p 1) (p 4)) s m ≡ afterVif b (vifStep (s .vif) (s .path2) (incomingAt main a) (s .used) m) t p s m
+    go : (b : VifAnswer) → afterVif b (vifStep Vif1 (s .vif) (s .path2) (incomingAt main a) (s .used) m) t (byTaken (p 1) (p 4)) s m ≡ afterVif b (vifStep Vif1 (s .vif) (s .path2) (incomingAt main a) (s .used) m) t p s m
     go (Word i) = refl
     go (Quadword i) = refl
     go (VifRefused n) = refl
 
 -- a word that VIF1 tested
 module _ {main : List ℕ} {s : State} {m : Lent} (r : Ready main s m) (a : ℕ) (t : TagWords) (p : ℕ → Payload) {n : Incoming} (en : n ≡ incomingAt main a)
-    {v : VifResult} {m′ : Lent} (e : vifLeft v m′ ≡ vifTakeOf (s .vif) (s .path2) n (s .used) m) where
-  taken-as : vifLeft v m′ ≡ vifStep (s .vif) (s .path2) (incomingAt main a) (s .used) m
-  taken-as = rw en at e ∙ vif-tested (s .vif) (s .path2) (incomingAt main a) (s .used) m (unit-ready r)
+    {v : VifResult} {m′ : Lent} (e : vifLeft v m′ ≡ vifTakeOf Vif1 (s .vif) (s .path2) n (s .used) m) where
+  taken-as : vifLeft v m′ ≡ vifStep Vif1 (s .vif) (s .path2) (incomingAt main a) (s .used) m
+  taken-as = rw en at e ∙ vif-tested Vif1 (s .vif) (s .path2) (incomingAt main a) (s .used) m (unit-ready r)
 
   pub vif-gave : {x : Stepped} → x ≡ givenVif (vifLeft v m′) t p s m → x ≡ vifGiven main a t p s m
   unfolding vifGiven
@@ -71,7 +71,7 @@ module _ {main : List ℕ} {s : State} {m : Lent} (r : Ready main s m) (a : ℕ)
   -- a refused word left the memories as they were
   pub vif-same : {k : ℕ} → v .answer ≡ VifRefused k → m′ ≡ m
   vif-same {k} q =
-      let w = step-kept (s .vif) (s .path2) (s .used) m (log-fits (m .log) (s .used) (unit-ready r .gif .logged) .holds) (incomingAt main a) in
+      let w = step-kept Vif1 (s .vif) (s .path2) (s .used) m (log-fits (m .log) (s .used) (unit-ready r .fit .logged) .holds) (incomingAt main a) in
       ap (λ (o : VifLeft). o .memories) (taken-as ∙ w .same k (ap (λ (o : VifLeft). o .answer) (sym taken-as) ∙ q))
 
 -- a quadword that the GIF tested
@@ -99,7 +99,7 @@ quadword-ready {main} {s} {m} {at} {n} r p c =
     let w = p .whole in
     let q = p .quadwords c in
     let k = p .some in
-    record { inside = omega arith; most = p .most; logged = f .logged; ranged = f .fields .path3 }
+    record { inside = omega arith; most = p .most; logged = f .fit .logged; ranged = f .fields .path3 }
 
 -- a pending word and what follows it in its quadword
 pub word-inside : {main : List ℕ} {s : State} {at n : ℕ} → PayloadInside main s at n → WordInside main at
@@ -112,7 +112,7 @@ word-inside p =
 
 -- a word that VIF1 refused
 pub vif-refuses : {main : List ℕ} {s : State} {m : Lent} → Ready main s m → (a : ℕ) (t : TagWords) (p : ℕ → Payload) {n : Incoming} → n ≡ incomingAt main a
-    → {v : VifResult} {m′ : Lent} → vifLeft v m′ ≡ vifTakeOf (s .vif) (s .path2) n (s .used) m → {k : ℕ} → v .answer ≡ VifRefused k
+    → {v : VifResult} {m′ : Lent} → vifLeft v m′ ≡ vifTakeOf Vif1 (s .vif) (s .path2) n (s .used) m → {k : ℕ} → v .answer ≡ VifRefused k
     → {r : StepResult} → r ≡ stepResult (Refused k) s → steppedBy r m′ ≡ vifGiven main a t p s m
 vif-refuses {main} {s} {m} r a t p en {v} {m′} e {k} q er =
     vif-gave r a t p en e

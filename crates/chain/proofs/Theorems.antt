@@ -1,20 +1,20 @@
 -- Theorems about whole runs.
-use mathlib.Core.Path.{_≡_, refl, sym, ap, _∙_}
+use mathlib.Core.Path.{_≡_, refl, ap, _∙_}
 use mathlib.Core.Bool.{Bool, true, false}
 use mathlib.Core.List.{List}
-use Prim.Native.Nat.{ℕ, zero, suc, _+_, _≤_}
+use Prim.Native.Nat.{ℕ, zero, suc, _+_}
 use native.Mathlib.Nat.{zero-add, suc-add}
 use native.Mathlib.Omega.{arith}
 use Rattle.fields.specs.Fields.{if}
-use Rattle.vif.specs.Step.{Lent}
-use Rattle.chain.specs.declared.Answer.the-variants.{Done, Allowance, Interrupt, Refused}
+use Rattle.memories.specs.Lengths.{Lent}
+use Rattle.chain.specs.declared.Answer.the-variants.{Done}
 use Rattle.chain.specs.declared.StepAnswer.{StepAnswer}
 use Rattle.chain.specs.declared.StepAnswer.the-variants.{Completed, Refused as StepRefused}
 use Rattle.chain.specs.declared.State.{State}
 use Rattle.chain.specs.Range.{entryRefusal}
 use Rattle.chain.specs.Inner.{Ready}
-use Rattle.chain.specs.Step.{Machine, machine, Stepped, stepOf}
-use Rattle.chain.specs.Run.{Ran, ran, done, oneMore, afterStep, onStep, stepsOf, runOf}
+use Rattle.chain.specs.Step.{Machine, machine}
+use Rattle.chain.specs.Run.{Ran, ran, done, oneMore, afterStep, stepsOf}
 use Rattle.chain.specs.Stops.{stepFrom, Reaches, here, step, Stops, at-end, at-allowance, at-interrupt, at-refusal}
 use Rattle.chain.proofs.AfterLaws.{step-stays}
 use Rattle.chain.proofs.RunLaws.{plus, run-goes}

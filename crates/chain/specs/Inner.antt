@@ -8,7 +8,7 @@ use lib.Dec.{eqb}
 use Rattle.fields.specs.Fields.{if}
 use Rattle.gif.specs.Log.{logRefused}
 use Rattle.gif.specs.Range.{pathInRange}
-use Rattle.vif.specs.Step.{Lent}
+use Rattle.memories.specs.Lengths.{Lent}
 use Rattle.chain.specs.declared.Answer.the-variants.{Interrupt, Refused as AnswerRefused}
 use Rattle.chain.specs.declared.BurstResult.{BurstResult}
 use Rattle.chain.specs.declared.TagWords.the-variants.{Nothing as NoTagWords}

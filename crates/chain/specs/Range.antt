@@ -5,9 +5,10 @@ use mathlib.Core.List.{List}
 use lib.ListN.{length}
 use lib.Dec.{eqb, leb, ltb}
 use Rattle.fields.specs.Fields.{if}
-use Rattle.gif.specs.Log.{logRefused}
+use Rattle.fields.specs.Refusals.{mainLength, outOfRange, payloadOutside}
 use Rattle.gif.specs.Range.{pathInRange}
-use Rattle.vif.specs.Step.{Lent}
+use Rattle.memories.specs.declared.VifUnit.the-variants.{Vif1}
+use Rattle.memories.specs.Lengths.{Lent, lengthsRefusal}
 use Rattle.vif.specs.Range.{unitInRange}
 use Rattle.chain.specs.declared.Stack.{Stack}
 use Rattle.chain.specs.declared.Stack.the-variants.{Empty, One, Two}
@@ -57,7 +58,7 @@ stateInRange s =
     startInRange (s .channel) (s .tadr) (s .tte)
     && (stackInRange (s .stack)
     && ((tagsInRange (s .tags) (s .tte) && payloadInRange (s .payload) (s .channel))
-    && (unitInRange (s .vif) && (pathInRange (s .path2) && pathInRange (s .path3)))))
+    && (unitInRange Vif1 (s .vif) && (pathInRange (s .path2) && pathInRange (s .path3)))))
 
 -- "1 main memory length 0, not a multiple of 16 or above 1,048,576"
 unfoldable pub mainRefused : ℕ → Bool
@@ -75,10 +76,8 @@ payloadInside (Words at n) size = eqb n 0 || leb (at + 4 * n) size
 -- the entry refusal, 0 where there is none
 unfoldable pub entryRefusal : List ℕ → Lent → State → ℕ
 entryRefusal main m s =
-    if (mainRefused (length main)) 1
-    (if (not (eqb (length (m .mem)) 4096)) 2
-    (if (not (eqb (length (m .code)) 16384)) 3
-    (if (logRefused (m .log) (s .used)) 4
-    (if (not (stateInRange s)) 5
-    (if (not (tagsInside (s .tags) (length main) && payloadInside (s .payload) (length main))) 14
-    0)))))
+    if (mainRefused (length main)) mainLength
+    (if (not (eqb (lengthsRefusal Vif1 m (s .used)) 0)) (lengthsRefusal Vif1 m (s .used))
+    (if (not (stateInRange s)) outOfRange
+    (if (not (tagsInside (s .tags) (length main) && payloadInside (s .payload) (length main))) payloadOutside
+    0)))

@@ -6,7 +6,8 @@ use mathlib.Core.Bool.{Bool, true, false, _&&_}
 use mathlib.Core.List.{List}
 use lib.Dec.{eqb}
 use Rattle.fields.specs.Fields.{if}
-use Rattle.vif.specs.Step.{Lent}
+use Rattle.fields.specs.Refusals.{allowanceUsed, interruptMet}
+use Rattle.memories.specs.Lengths.{Lent}
 use Rattle.chain.specs.declared.Answer.{Answer}
 use Rattle.chain.specs.declared.Answer.the-variants.{Done, Allowance, Interrupt, Refused}
 use Rattle.chain.specs.declared.StepAnswer.{StepAnswer}
@@ -20,8 +21,8 @@ use Rattle.chain.specs.Step.{Machine, machine, Stepped, stepOf}
 -- the number of an answer
 abbrev pub numberOf : Answer → ℕ
 numberOf Done = 0
-numberOf Allowance = 90
-numberOf Interrupt = 91
+numberOf Allowance = allowanceUsed
+numberOf Interrupt = interruptMet
 numberOf (Refused n) = n
 
 -- what a run leaves: the answer and its number, the state and the memories, and the step count

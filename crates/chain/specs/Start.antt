@@ -5,6 +5,7 @@ use Prim.Native.Nat.{ℕ}
 use mathlib.Core.Bool.{Bool, false, _&&_}
 use mathlib.Core.List.{List, [], _∷_}
 use Rattle.fields.specs.Fields.{if}
+use Rattle.fields.specs.Refusals.{outOfRange}
 use Rattle.gif.specs.declared.Place.the-variants.{Idle}
 use Rattle.gif.specs.declared.Path.{Path}
 use Rattle.vif.specs.declared.Waiting.the-variants.{Nothing}
@@ -77,4 +78,4 @@ startedFrom s channel tadr tte = withStart s channel tadr tte false Empty NoTagW
 -- "A start tests 5 only": the given state and the start values
 unfoldable pub startOf : State → ℕ → ℕ → Bool → StartResult
 startOf s channel tadr tte =
-    if (stateInRange s && startInRange channel tadr tte) (startResult Started (startedFrom s channel tadr tte)) (startResult (Refused 5) s)
+    if (stateInRange s && startInRange channel tadr tte) (startResult Started (startedFrom s channel tadr tte)) (startResult (Refused outOfRange) s)

@@ -7,9 +7,11 @@ use Rattle.fields.specs.Fields.{if}
 use Rattle.gif.specs.declared.GifAnswer.{GifAnswer}
 use Rattle.gif.specs.declared.GifAnswer.the-variants.{Taken, Refused as GifRefused}
 use Rattle.gif.specs.Step.{Left as GifLeft, gifStep}
+use Rattle.memories.specs.declared.VifUnit.the-variants.{Vif1}
+use Rattle.memories.specs.Lengths.{Lent, lent}
 use Rattle.vif.specs.declared.VifAnswer.{VifAnswer}
 use Rattle.vif.specs.declared.VifAnswer.the-variants.{Word, Quadword, Refused as VifRefused}
-use Rattle.vif.specs.Step.{Lent, lent, Left as VifLeft, vifStep}
+use Rattle.vif.specs.Step.{Left as VifLeft, vifStep}
 use Rattle.chain.specs.declared.TagWords.{TagWords}
 use Rattle.chain.specs.declared.TagWords.the-variants.{Nothing as NoTagWords, From}
 use Rattle.chain.specs.declared.Payload.{Payload}
@@ -53,7 +55,7 @@ abbrev pub givenVif : VifLeft → TagWords → (ℕ → Payload) → State → L
 givenVif o t p s m = afterVif (o .answer) o t p s m
 
 unfoldable pub vifGiven : List ℕ → ℕ → TagWords → (ℕ → Payload) → State → Lent → Stepped
-vifGiven main a t p s m = givenVif (vifStep (s .vif) (s .path2) (incomingAt main a) (s .used) m) t p s m
+vifGiven main a t p s m = givenVif (vifStep Vif1 (s .vif) (s .path2) (incomingAt main a) (s .used) m) t p s m
 
 -- a quadword that path 3 was given
 abbrev pub afterGif : GifAnswer → GifLeft → Payload → State → Lent → Stepped

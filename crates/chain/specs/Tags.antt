@@ -5,6 +5,7 @@ use mathlib.Core.List.{List}
 use lib.ListN.{length}
 use lib.Dec.{eqb, ltb, leb}
 use Rattle.fields.specs.Fields.{if, bits}
+use Rattle.fields.specs.Refusals.{tadrOutside, addrUnaligned, scratchpadSet, stackFull, payloadOutside}
 use Rattle.chain.specs.declared.Stack.{Stack}
 use Rattle.chain.specs.declared.Stack.the-variants.{Empty, One, Two}
 use Rattle.chain.specs.declared.TagWords.{TagWords}
@@ -96,11 +97,11 @@ payloadOf at qwc = if (eqb qwc 0) NoPayload (Words at (4 * qwc))
 -- outside memory, only if QWC > 0"; 0 where the tag is accepted
 unfoldable pub tagRefusal : ℕ → ℕ → ℕ → ℕ → Bool → ℕ → Stack → ℕ
 tagRefusal size tadr id addr spr qwc k =
-    if (ltb size (tadr + 16)) 10
-    (if (usesAddr id && not (eqb (addr % 16) 0)) 11
-    (if (usesAddr id && spr) 12
-    (if (eqb id 5 && isFull k) 13
-    (if (not (eqb qwc 0) && ltb size (payloadAt id addr tadr + 16 * qwc)) 14
+    if (ltb size (tadr + 16)) tadrOutside
+    (if (usesAddr id && not (eqb (addr % 16) 0)) addrUnaligned
+    (if (usesAddr id && spr) scratchpadSet
+    (if (eqb id 5 && isFull k) stackFull
+    (if (not (eqb qwc 0) && ltb size (payloadAt id addr tadr + 16 * qwc)) payloadOutside
     0))))
 
 -- the state after an accepted tag: everything takes effect in the tag's own step

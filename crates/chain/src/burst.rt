@@ -7,11 +7,12 @@ use super::pending::payload_after;
 use super::setters::with_path3;
 use super::setters::with_pending;
 use super::setters::with_unit;
+use memories::VifUnit;
 ghost use mathlib.Core.Path.{_≡_};
 ghost use mathlib.Core.Bool.{false};
 ghost use mathlib.Core.List.{List};
 ghost use Prim.Native.Nat.{ℕ, _≤_};
-ghost use Rattle.vif.specs.Step.{lent};
+ghost use Rattle.memories.specs.Lengths.{lent};
 ghost use Rattle.chain.specs.declared.TagWords.the-variants.{Nothing};
 ghost use Rattle.chain.specs.Inner.{Ready, PayloadNext, PayloadInside, Burst, burstResult};
 ghost use Rattle.chain.specs.Step.{machine};
@@ -28,11 +29,24 @@ fn give_words(
     log: &mut [u64],
 ) -> BurstResult
     requires { ⌜ PayloadNext s at count × (PayloadInside (now main) s at count × (s .channel ≡ 2 → ⊥)) ⌝ }
-    ensures { λ r. ⌜ Burst (now (main .entry)) limit (machine s (lent (now («data» .entry)) (now (code .entry)) (now (log .entry)))) (r .interrupt) (r .steps) (machine (r .state) (lent (now («data» .exit)) (now (code .exit)) (now (log .exit)))) ⌝ }
+    ensures { λ r. ⌜ Burst (now (main .entry)) limit (machine s (lent (now («data» .entry)) (now (code .entry)) (now (log .entry))))
+        (r .interrupt) (r .steps) (machine (r .state) (lent (now («data» .exit)) (now (code .exit)) (now (log .exit)))) ⌝ }
 {
     let unit = s.vif;
     let path2 = s.path2;
-    let r = vif::take_words(unit, path2, main, at, count, limit, data, code, log, s.used);
+    let r = vif::take_words(
+        VifUnit::Vif1,
+        unit,
+        path2,
+        main,
+        at,
+        count,
+        limit,
+        data,
+        code,
+        log,
+        s.used,
+    );
     let after = r.unit;
     let path = r.path2;
     let rest = payload_after(at, count, r.words);
@@ -60,7 +74,8 @@ fn give_quadwords(
     log: &mut [u64],
 ) -> BurstResult
     requires { ⌜ PayloadNext s at count × (PayloadInside (now main) s at count × (s .channel ≡ 2)) ⌝ }
-    ensures { λ r. ⌜ ((mem code : List ℕ) → Burst (now (main .entry)) limit (machine s (lent mem code (now (log .entry)))) (r .interrupt) (r .steps) (machine (r .state) (lent mem code (now (log .exit))))) ⌝ }
+    ensures { λ r. ⌜ ((mem code : List ℕ) → Burst (now (main .entry)) limit (machine s (lent mem code (now (log .entry))))
+        (r .interrupt) (r .steps) (machine (r .state) (lent mem code (now (log .exit))))) ⌝ }
 {
     let path3 = s.path3;
     let r = gif::take_quadwords(path3, main, at, smaller(count / 4, limit), log, s.used);
@@ -95,7 +110,8 @@ fn give_payload(
     log: &mut [u64],
 ) -> BurstResult
     requires { ⌜ Ready (now main) s (lent (now «data») (now code) (now log)) × ((s .tags ≡ Nothing) × (s .payload ≡ payload)) ⌝ }
-    ensures { λ r. ⌜ Burst (now (main .entry)) limit (machine s (lent (now («data» .entry)) (now (code .entry)) (now (log .entry)))) (r .interrupt) (r .steps) (machine (r .state) (lent (now («data» .exit)) (now (code .exit)) (now (log .exit)))) ⌝ }
+    ensures { λ r. ⌜ Burst (now (main .entry)) limit (machine s (lent (now («data» .entry)) (now (code .entry)) (now (log .entry))))
+        (r .interrupt) (r .steps) (machine (r .state) (lent (now («data» .exit)) (now (code .exit)) (now (log .exit)))) ⌝ }
 {
     match payload {
         Payload::Nothing => no_burst(s),
@@ -121,7 +137,8 @@ pub(crate) fn burst(
     log: &mut [u64],
 ) -> BurstResult
     requires { ⌜ Ready (now main) s (lent (now «data») (now code) (now log)) ⌝ }
-    ensures { λ r. ⌜ Burst (now (main .entry)) limit (machine s (lent (now («data» .entry)) (now (code .entry)) (now (log .entry)))) (r .interrupt) (r .steps) (machine (r .state) (lent (now («data» .exit)) (now (code .exit)) (now (log .exit)))) ⌝ }
+    ensures { λ r. ⌜ Burst (now (main .entry)) limit (machine s (lent (now («data» .entry)) (now (code .entry)) (now (log .entry))))
+        (r .interrupt) (r .steps) (machine (r .state) (lent (now («data» .exit)) (now (code .exit)) (now (log .exit)))) ⌝ }
 {
     let tags = s.tags;
     let payload = s.payload;

@@ -8,6 +8,7 @@ use super::TagWords;
 use super::range::start_in_range;
 use super::range::state_in_range;
 use super::setters::with_start;
+use fields::refusals;
 use gif::Path;
 use gif::Place;
 use vif::Vif;
@@ -106,7 +107,7 @@ pub fn start(s: State, channel: u32, tadr: u32, tte: bool) -> StartResult
         }
     } else {
         StartResult {
-            answer: StartAnswer::Refused(5),
+            answer: StartAnswer::Refused(refusals::OUT_OF_RANGE),
             state: s,
         }
     }

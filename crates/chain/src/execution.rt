@@ -11,7 +11,7 @@ use super::step::step;
 ghost use mathlib.Core.Path.{_≡_};
 ghost use mathlib.Core.Bool.{false};
 ghost use Prim.Native.Nat.{_≤_};
-ghost use Rattle.vif.specs.Step.{lent};
+ghost use Rattle.memories.specs.Lengths.{lent};
 ghost use Rattle.chain.specs.Inner.{Ready, Advance, completedBy};
 ghost use Rattle.chain.specs.Step.{machine};
 ghost use Rattle.chain.specs.Run.{done, leftBy, stepsOf, runOf};
@@ -36,7 +36,8 @@ fn advance(
     log: &mut [u64],
 ) -> AdvanceResult
     requires { ⌜ Ready (now main) s (lent (now «data») (now code) (now log)) × ((done s ≡ false) × (1 ≤ limit)) ⌝ }
-    ensures { λ r. ⌜ Advance (now (main .entry)) limit (machine s (lent (now («data» .entry)) (now (code .entry)) (now (log .entry)))) (r .answer) (r .steps) (machine (r .state) (lent (now («data» .exit)) (now (code .exit)) (now (log .exit)))) ⌝ }
+    ensures { λ r. ⌜ Advance (now (main .entry)) limit (machine s (lent (now («data» .entry)) (now (code .entry)) (now (log .entry))))
+        (r .answer) (r .steps) (machine (r .state) (lent (now («data» .exit)) (now (code .exit)) (now (log .exit)))) ⌝ }
 {
     let b = burst(main, s, limit, data, code, log);
     let after = b.state;
@@ -67,7 +68,8 @@ fn steps_of(
     allowance: u64,
 ) -> RunResult
     requires { ⌜ Ready (now main) state (lent (now «data») (now code) (now log)) ⌝ }
-    ensures { λ r. ⌜ leftBy r (lent (now («data» .exit)) (now (code .exit)) (now (log .exit))) ≡ stepsOf (now (main .entry)) allowance state (lent (now («data» .entry)) (now (code .entry)) (now (log .entry))) ⌝ }
+    ensures { λ r. ⌜ leftBy r (lent (now («data» .exit)) (now (code .exit)) (now (log .exit)))
+        ≡ stepsOf (now (main .entry)) allowance state (lent (now («data» .entry)) (now (code .entry)) (now (log .entry))) ⌝ }
 {
     let mut s = state;
     let mut steps: u64 = 0;
@@ -107,7 +109,8 @@ pub fn run(
     state: State,
     allowance: u64,
 ) -> RunResult
-    ensures { λ r. ⌜ leftBy r (lent (now («data» .exit)) (now (code .exit)) (now (log .exit))) ≡ runOf (now (main .entry)) allowance state (lent (now («data» .entry)) (now (code .entry)) (now (log .entry))) ⌝ }
+    ensures { λ r. ⌜ leftBy r (lent (now («data» .exit)) (now (code .exit)) (now (log .exit)))
+        ≡ runOf (now (main .entry)) allowance state (lent (now («data» .entry)) (now (code .entry)) (now (log .entry))) ⌝ }
 {
     let refused = entry_refusal(main, data, code, log, state);
     if refused != 0 {

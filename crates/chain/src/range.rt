@@ -3,12 +3,16 @@ use super::Payload;
 use super::Stack;
 use super::State;
 use super::TagWords;
+use fields::refusals;
+use memories::VifUnit;
+use memories::lengths_refusal;
 ghost use mathlib.Core.Path.{_≡_};
 ghost use mathlib.Core.Bool.{_&&_, _||_};
 ghost use Prim.Native.Nat.{_+_, _*_, _%_};
 ghost use lib.Dec.{eqb, leb};
 ghost use Rattle.gif.specs.Range.{pathInRange};
-ghost use Rattle.vif.specs.Step.{lent};
+ghost use Rattle.memories.specs.declared.VifUnit.the-variants.{Vif1};
+ghost use Rattle.memories.specs.Lengths.{lent};
 ghost use Rattle.vif.specs.Range.{unitInRange};
 ghost use Rattle.chain.specs.Range.{channelInRange, startInRange, entryInRange, stackInRange, tagWordInRange, tagsInRange, wordsInRange, payloadInRange, stateInRange, mainRefused, tagsInside, payloadInside, entryRefusal};
 
@@ -120,12 +124,12 @@ fn payload_in_range(payload: Payload, channel: u32) -> bool
 }
 
 fn devices_in_range(s: State) -> bool
-    ensures { λ r. ⌜ r ≡ (unitInRange (s .vif) && (pathInRange (s .path2) && pathInRange (s .path3))) ⌝ }
+    ensures { λ r. ⌜ r ≡ (unitInRange Vif1 (s .vif) && (pathInRange (s .path2) && pathInRange (s .path3))) ⌝ }
 {
     let unit = s.vif;
     let path2 = s.path2;
     let path3 = s.path3;
-    if vif::unit_in_range(unit) {
+    if vif::unit_in_range(VifUnit::Vif1, unit) {
         if gif::path_in_range(path2) {
             return gif::path_in_range(path3);
         }
@@ -211,25 +215,21 @@ fn pending_inside(s: State, size: usize) -> bool
 
 // The entry refusal, 0 for none.
 pub(crate) fn entry_refusal(main: &[u8], data: &[u32], code: &[u8], log: &[u64], s: State) -> u32
-    ensures { λ r. ⌜ r ≡ entryRefusal (now (main .entry)) (lent (now («data» .entry)) (now (code .entry)) (now (log .entry))) s ⌝ }
+    ensures { λ r. ⌜ r
+        ≡ entryRefusal (now (main .entry)) (lent (now («data» .entry)) (now (code .entry)) (now (log .entry))) s ⌝ }
 {
     if main_refused(main.len()) {
-        return 1;
+        return refusals::MAIN_LENGTH;
     }
-    if data.len() != 4096 {
-        return 2;
-    }
-    if code.len() != 16384 {
-        return 3;
-    }
-    if gif::log_refused(log, s.used) {
-        return 4;
+    let refusal = lengths_refusal(VifUnit::Vif1, data, code, log, s.used);
+    if refusal != 0 {
+        return refusal;
     }
     if state_in_range(s) {
         if pending_inside(s, main.len()) {
             return 0;
         }
-        return 14;
+        return refusals::PAYLOAD_OUTSIDE;
     }
-    5
+    refusals::OUT_OF_RANGE
 }

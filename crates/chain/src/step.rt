@@ -13,12 +13,13 @@ use super::tags::answered;
 use super::tags::take_tag;
 use fields::long_at;
 use gif::GifAnswer;
+use memories::VifUnit;
 use vif::VifAnswer;
 use vif::incoming_at;
 ghost use mathlib.Core.Path.{_≡_};
 ghost use mathlib.Core.List.{List};
 ghost use Prim.Native.Nat.{ℕ};
-ghost use Rattle.vif.specs.Step.{lent};
+ghost use Rattle.memories.specs.Lengths.{lent};
 ghost use Rattle.chain.specs.Step.{steppedBy, vifGiven, gifGiven, payloadStep, payloadOrTag, stepOf};
 ghost use Rattle.chain.specs.Inner.{Ready, WordInside, PayloadInside, QuadwordReady, byTaken};
 
@@ -35,11 +36,13 @@ fn give_vif(
     log: &mut [u64],
 ) -> StepResult
     requires { ⌜ Ready (now main) s (lent (now «data») (now code) (now log)) × WordInside (now main) a ⌝ }
-    ensures { λ r. ⌜ steppedBy r (lent (now («data» .exit)) (now (code .exit)) (now (log .exit))) ≡ vifGiven (now (main .entry)) a tags (byTaken one four) s (lent (now («data» .entry)) (now (code .entry)) (now (log .entry))) ⌝ }
+    ensures { λ r. ⌜ steppedBy r (lent (now («data» .exit)) (now (code .exit)) (now (log .exit)))
+        ≡ vifGiven (now (main .entry)) a tags (byTaken one four) s (lent (now («data» .entry)) (now (code .entry)) (now (log .entry))) ⌝ }
 {
     let unit = s.vif;
     let path2 = s.path2;
-    let r = vif::take(unit, path2, incoming_at(main, a), data, code, log, s.used);
+    let next = incoming_at(main, a);
+    let r = vif::take(VifUnit::Vif1, unit, path2, next, data, code, log, s.used);
     let answer = r.answer;
     let after = r.unit;
     let path = r.path2;
@@ -59,7 +62,8 @@ fn give_vif(
 // The quadword at an address given to path 3; then `rest` of the payload is pending.
 fn give_gif(main: &[u8], a: u32, rest: Payload, s: State, log: &mut [u64]) -> StepResult
     requires { ⌜ QuadwordReady (now main) a s (now log) ⌝ }
-    ensures { λ r. ⌜ ((mem code : List ℕ) → steppedBy r (lent mem code (now (log .exit))) ≡ gifGiven (now (main .entry)) a rest s (lent mem code (now (log .entry)))) ⌝ }
+    ensures { λ r. ⌜ ((mem code : List ℕ) → steppedBy r (lent mem code (now (log .exit)))
+        ≡ gifGiven (now (main .entry)) a rest s (lent mem code (now (log .entry)))) ⌝ }
 {
     let path3 = s.path3;
     let r = gif::take_quadword(path3, long_at(main, a), long_at(main, a + 8), log, s.used);
@@ -86,7 +90,8 @@ fn take_payload(
     log: &mut [u64],
 ) -> StepResult
     requires { ⌜ Ready (now main) s (lent (now «data») (now code) (now log)) × PayloadInside (now main) s at n ⌝ }
-    ensures { λ r. ⌜ steppedBy r (lent (now («data» .exit)) (now (code .exit)) (now (log .exit))) ≡ payloadStep (now (main .entry)) at n s (lent (now («data» .entry)) (now (code .entry)) (now (log .entry))) ⌝ }
+    ensures { λ r. ⌜ steppedBy r (lent (now («data» .exit)) (now (code .exit)) (now (log .exit)))
+        ≡ payloadStep (now (main .entry)) at n s (lent (now («data» .entry)) (now (code .entry)) (now (log .entry))) ⌝ }
 {
     let four = payload_after(at, n, 4);
     if s.channel == 2 {
@@ -116,7 +121,8 @@ fn take_payload_or_tag(
     log: &mut [u64],
 ) -> StepResult
     requires { ⌜ Ready (now main) s (lent (now «data») (now code) (now log)) × (s .payload ≡ payload) ⌝ }
-    ensures { λ r. ⌜ steppedBy r (lent (now («data» .exit)) (now (code .exit)) (now (log .exit))) ≡ payloadOrTag payload (now (main .entry)) s (lent (now («data» .entry)) (now (code .entry)) (now (log .entry))) ⌝ }
+    ensures { λ r. ⌜ steppedBy r (lent (now («data» .exit)) (now (code .exit)) (now (log .exit)))
+        ≡ payloadOrTag payload (now (main .entry)) s (lent (now («data» .entry)) (now (code .entry)) (now (log .entry))) ⌝ }
 {
     match payload {
         Payload::Nothing => take_tag(main, s),
@@ -139,7 +145,8 @@ pub(crate) fn step(
     log: &mut [u64],
 ) -> StepResult
     requires { ⌜ Ready (now main) s (lent (now «data») (now code) (now log)) ⌝ }
-    ensures { λ r. ⌜ steppedBy r (lent (now («data» .exit)) (now (code .exit)) (now (log .exit))) ≡ stepOf (now (main .entry)) s (lent (now («data» .entry)) (now (code .entry)) (now (log .entry))) ⌝ }
+    ensures { λ r. ⌜ steppedBy r (lent (now («data» .exit)) (now (code .exit)) (now (log .exit)))
+        ≡ stepOf (now (main .entry)) s (lent (now («data» .entry)) (now (code .entry)) (now (log .entry))) ⌝ }
 {
     let tags = s.tags;
     let payload = s.payload;

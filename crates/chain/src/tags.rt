@@ -6,6 +6,7 @@ use super::StepAnswer;
 use super::StepResult;
 use super::TagWords;
 use super::setters::with_tag;
+use fields::refusals;
 use fields::word_at;
 ghost use mathlib.Core.Path.{_≡_};
 ghost use mathlib.Core.Bool.{_||_, _&&_, not};
@@ -207,19 +208,19 @@ fn tag_refusal(size: usize, tadr: u32, id: u32, addr: u32, spr: bool, qwc: u32, 
     ensures { λ r. ⌜ r ≡ tagRefusal size tadr id addr spr qwc stack ⌝ }
 {
     if size < (tadr + 16) as usize {
-        return 10;
+        return refusals::TADR_OUTSIDE;
     }
     if misaligned(id, addr) {
-        return 11;
+        return refusals::ADDR_UNALIGNED;
     }
     if scratchpad(id, spr) {
-        return 12;
+        return refusals::SCRATCHPAD_SET;
     }
     if call_refused(id, stack) {
-        return 13;
+        return refusals::STACK_FULL;
     }
     if payload_refused(size, id, addr, tadr, qwc) {
-        return 14;
+        return refusals::PAYLOAD_OUTSIDE;
     }
     0
 }
@@ -269,7 +270,7 @@ pub(crate) fn take_tag(main: &[u8], s: State) -> StepResult
 {
     let tadr = s.tadr;
     if main.len() < (tadr + 16) as usize {
-        return answered(StepAnswer::Refused(10), s);
+        return answered(StepAnswer::Refused(refusals::TADR_OUTSIDE), s);
     }
     read_tag(main.len(), word_at(main, tadr), word_at(main, tadr + 4), s)
 }

@@ -1,9 +1,9 @@
 -- The lengths that are refused, as facts.
-use mathlib.Core.Path.{_≡_}
-use mathlib.Core.Bool.{not}
+use mathlib.Core.Path.{_≡_, refl}
+use mathlib.Core.Bool.{Bool, true, false, not}
 use Prim.Native.Nat.{ℕ, _≤_}
 use native.Mathlib.Omega.{arith}
-use borrow.Author.Tests.{eq-eqb, eqb-true, not-false}
+use borrow.Author.Tests.{eq-eqb, eqb-true, eqb-false, not-false}
 use lib.ListN.{length}
 use lib.Dec.{eqb}
 use Rattle.fields.specs.Fields.{if}
@@ -35,3 +35,13 @@ pub lengths-most : (u : VifUnit) (m : Lent) (used : ℕ) → lengthsRefusal u m 
 unfolding lengthsRefusal
 lengths-most u m used =
     if-ind (λ (n : ℕ). n ≤ logLength) _ (omega arith) (if-ind (λ (n : ℕ). n ≤ logLength) _ (omega arith) (if-ind (λ (n : ℕ). n ≤ logLength) _ (omega arith) (omega arith)))
+
+-- where the lengths are the first of several refusals and there is none, they fit
+pub fit-first : (u : VifUnit) (m : Lent) (used : ℕ) {next : ℕ} → if (not (eqb (lengthsRefusal u m used) 0)) (lengthsRefusal u m used) next ≡ 0
+    → LengthsFit u m used × (next ≡ 0)
+unfolding if
+fit-first u m used {next} e = by (eqb (lengthsRefusal u m used) 0) refl e
+  where
+    by : (b : Bool) → eqb (lengthsRefusal u m used) 0 ≡ b → if (not b) (lengthsRefusal u m used) next ≡ 0 → LengthsFit u m used × (next ≡ 0)
+    by true q e = (lengths-fit u m used (eqb-true _ 0 q), e)
+    by false q e = absurd (eqb-false _ 0 q e)

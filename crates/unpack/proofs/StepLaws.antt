@@ -5,11 +5,11 @@ use mathlib.Core.List.{List}
 use Prim.Native.Nat.{ℕ, _+_, _*_, _-_, _%_, _<_, _≤_}
 use native.Mathlib.Nat.{le-refl}
 use native.Mathlib.Omega.{arith}
-use borrow.Author.Tests.{leb-true, eqb-true, eqb-false, le-leb}
+use borrow.Author.Tests.{leb-true, eqb-true, eqb-false, le-leb, not-true}
 use lib.ListN.{length}
 use lib.Dec.{eqb, leb}
 use Rattle.fields.specs.Fields.{if}
-use Rattle.fields.proofs.ChoiceLaws.{and-left, and-right, or-left, not-true, if-ind-by}
+use Rattle.fields.proofs.ChoiceLaws.{and-left, and-right, or-left, if-ind-by}
 use Rattle.unpack.specs.declared.Format.{Format}
 use Rattle.unpack.specs.declared.Unpacking.{Unpacking}
 use Rattle.unpack.specs.declared.Registers.{Registers}
