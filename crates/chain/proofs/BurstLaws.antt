@@ -323,10 +323,10 @@ module _ (main : List ℕ) (s : State) (m : Lent) (channel : s .channel ≡ 2) w
 
   -- the burst that quadwords given to path 3 are
   record DrawnBurst (n a count : ℕ) (p : Path) (used : ℕ) (log : List ℕ) (r : GifFed) : Type 0 where
-    drawn-burst : Burst main n (drawing s m (gifFed p used log 0) (payloadAfter a count 0)) false (r .taken) (drawing s m r (payloadAfter a count (4 * r .taken)))
+    drawn-burst : Burst main n (drawing s m (gifFed p used log 0 Taken) (payloadAfter a count 0)) false (r .taken) (drawing s m r (payloadAfter a count (4 * r .taken)))
 
-  none-drawn : (n a count : ℕ) (p : Path) (used : ℕ) (log : List ℕ) → DrawnBurst n a count p used log (gifFed p used log 0)
-  none-drawn n a count p used log = record { drawn-burst = burst-none main n _ }
+  none-drawn : (n a count : ℕ) (p : Path) (used : ℕ) (log : List ℕ) (g : GifAnswer) → DrawnBurst n a count p used log (gifFed p used log 0 g)
+  none-drawn n a count p used log g = record { drawn-burst = burst-none main n _ }
 
   -- a quadword, by the answer to it
   quadword-drawn : (n a count : ℕ) (p : Path) (used : ℕ) (log : List ℕ) (f : Path → ℕ → List ℕ → GifFed) → (count ≡ 0 → ⊥)
@@ -336,20 +336,20 @@ module _ (main : List ℕ) (s : State) (m : Lent) (channel : s .channel ≡ 2) w
   quadword-drawn n a count p used log f z i Taken q =
       let o = givenQuadword main a p used log in
       let r = f (o .path) (o .used) (o .log) in
-      let x = drawing s m (gifFed p used log 0) (Words a count) in
+      let x = drawing s m (gifFed p used log 0 Taken) (Words a count) in
       let e : 4 * suc (r .taken) ≡ 4 + 4 * r .taken = omega arith in
-      let j : stepFrom main x ≡ afterGif Taken o (payloadAfter a count 4) (x .state) (x .memories) = drawn-step (gifFed p used log 0) a count z ∙ rw q in
+      let j : stepFrom main x ≡ afterGif Taken o (payloadAfter a count 4) (x .state) (x .memories) = drawn-step (gifFed p used log 0 Taken) a count z ∙ rw q in
       record {
         drawn-burst =
             rw (payload-whole a count z, e, ← payload-more a count 4 (4 * r .taken))
             (burst-goes main n x (pending-going _ a count refl z) j refl
             (rw (← payload-more a count 4 0) (i (o .path) (o .used) (o .log) .drawn-burst)));
       }
-  quadword-drawn n a count p used log f z i (GifRefused c) q = none-drawn (suc n) a count p used log
+  quadword-drawn n a count p used log f z i (GifRefused c) q = none-drawn (suc n) a count p used log (GifRefused c)
 
   quadwords-drawn : (n a count : ℕ) (p : Path) (used : ℕ) (log : List ℕ) → 4 * n ≤ count → DrawnBurst n a count p used log (gifFeedsOf main a n p used log)
   unfolding gifFeedsOf
-  quadwords-drawn zero a count p used log l = none-drawn 0 a count p used log
+  quadwords-drawn zero a count p used log l = none-drawn 0 a count p used log Taken
   quadwords-drawn (suc n) a count p used log l =
       quadword-drawn n a count p used log (gifFeedsOf main (a + 16) n) (λ z. omega arith)
       (λ p′ used′ log′. quadwords-drawn n (a + 16) (count - 4) p′ used′ log′ (omega arith))
@@ -358,13 +358,13 @@ module _ (main : List ℕ) (s : State) (m : Lent) (channel : s .channel ≡ 2) w
 
   -- whatever was tested
   pub quadwords-burst : (n a count : ℕ) (p : Path) (used : ℕ) (log : List ℕ) → 4 * n ≤ count → {r : GifFed} → r ≡ gifFeedOf main a n p used log
-      → Burst main n (drawing s m (gifFed p used log 0) (payloadAfter a count 0)) false (r .taken) (drawing s m r (payloadAfter a count (4 * r .taken)))
+      → Burst main n (drawing s m (gifFed p used log 0 Taken) (payloadAfter a count 0)) false (r .taken) (drawing s m r (payloadAfter a count (4 * r .taken)))
   unfolding gifFeedOf
   quadwords-burst n a count p used log l e =
-      rw e (if-ind (DrawnBurst n a count p used log) _ (quadwords-drawn n a count p used log l) (none-drawn n a count p used log) .drawn-burst)
+      rw e (if-ind (DrawnBurst n a count p used log) _ (quadwords-drawn n a count p used log l) (none-drawn n a count p used log _) .drawn-burst)
 
 module _ {s : State} {a count : ℕ} (p : PayloadNext s a count) where
-  as-drawing : (m : Lent) → machine s m ≡ drawing s m (gifFed (s .path3) (s .used) (m .log) 0) (payloadAfter a count 0)
+  as-drawing : (m : Lent) → machine s m ≡ drawing s m (gifFed (s .path3) (s .used) (m .log) 0 Taken) (payloadAfter a count 0)
   as-drawing m = rw (payload-whole a count (p .some), ← p .payload, ← p .no-tags)
 
   -- quadwords that the GIF tested and took
