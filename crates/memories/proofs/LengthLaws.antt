@@ -1,13 +1,14 @@
 -- The lengths that are refused, as facts.
 use mathlib.Core.Path.{_≡_, refl}
 use mathlib.Core.Bool.{Bool, true, false, not}
-use Prim.Native.Nat.{ℕ}
+use Prim.Native.Nat.{ℕ, _≤_}
 use native.Mathlib.Omega.{arith}
 use borrow.Author.Tests.{eq-eqb, eqb-true, eqb-false}
 use lib.ListN.{length}
 use lib.Dec.{eqb}
 use Rattle.fields.specs.Fields.{if}
-use Rattle.fields.proofs.ChoiceLaws.{if-zero, not-false}
+use Rattle.fields.specs.Refusals.{logLength}
+use Rattle.fields.proofs.ChoiceLaws.{if-ind, if-zero, not-false}
 use Rattle.gif.specs.Log.{logRefused}
 use Rattle.memories.specs.declared.VifUnit.{VifUnit}
 use Rattle.memories.specs.Units.{dataWords, codeBytes}
@@ -38,3 +39,10 @@ fit-first u m used {next} e = by (eqb (lengthsRefusal u m used) 0) refl e
     by : (b : Bool) → eqb (lengthsRefusal u m used) 0 ≡ b → if (not b) (lengthsRefusal u m used) next ≡ 0 → LengthsFit u m used × (next ≡ 0)
     by true q e = (lengths-fit u m used (eqb-true _ 0 q), e)
     by false q e = absurd (eqb-false _ 0 q e)
+
+-- their refusals are 2, 3 and 4
+pub lengths-most : (u : VifUnit) (m : Lent) (used : ℕ) → lengthsRefusal u m used ≤ logLength
+unfolding lengthsRefusal
+lengths-most u m used =
+    if-ind (λ (n : ℕ). n ≤ logLength) _ (omega arith)
+    (if-ind (λ (n : ℕ). n ≤ logLength) _ (omega arith) (if-ind (λ (n : ℕ). n ≤ logLength) _ (omega arith) (omega arith)))

@@ -5,7 +5,7 @@ use super::results::put_two;
 use super::runs::run_number;
 use conformance::PlayAnswer;
 ghost use mathlib.Core.Path.{_≡_};
-ghost use Rattle.vif.specs.Step.{lent};
+ghost use Rattle.memories.specs.Lengths.{lent};
 ghost use Rattle.conformance.specs.Play.{playNumber};
 ghost use Rattle.tejborun.specs.Play.{playOffset, left, playCall};
 

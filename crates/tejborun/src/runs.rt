@@ -6,7 +6,7 @@ use super::results::put_one;
 use chain::Answer;
 use chain::StartAnswer;
 ghost use mathlib.Core.Path.{_≡_};
-ghost use Rattle.vif.specs.Step.{lent};
+ghost use Rattle.memories.specs.Lengths.{lent};
 ghost use Rattle.chain.specs.Start.{startNumber};
 ghost use Rattle.chain.specs.Run.{numberOf};
 ghost use Rattle.tejborun.specs.Runs.{blocked, resetCall, startCall, left, runCall};
