@@ -9,9 +9,10 @@ use lib.ListN.{length, take, drop, take-append-drop, length-drop, drop-of-length
 use lib.Seq.{take-all}
 use lib.Dec.{eqb, ltb}
 use Rattle.fields.specs.Fields.{if}
+use Rattle.fields.specs.Refusals.{mainLength, outOfRange}
 use Rattle.fields.proofs.ChoiceLaws.{if-ind-by}
-use Rattle.gif.specs.Log.{logRefused}
-use Rattle.vif.specs.Step.{Lent}
+use Rattle.memories.specs.declared.VifUnit.the-variants.{Vif1}
+use Rattle.memories.specs.Lengths.{Lent, lengthsRefusal}
 use Rattle.chain.specs.declared.RunResult.{RunResult}
 use Rattle.chain.specs.declared.StartAnswer.the-variants.{Started, Refused as StartRefused}
 use Rattle.chain.specs.declared.StartResult.{StartResult}
@@ -26,7 +27,7 @@ use Rattle.sheet.specs.Layout.{chainOf}
 use Rattle.sheet.specs.Build.{Left, left, builtFrom, buildOf}
 use Rattle.conformance.specs.declared.PlayAnswer.the-variants.{Ended, Refused}
 use Rattle.conformance.specs.Play.{played, playRan, playRefusal, playOf}
-use Rattle.conformance.specs.Inner.{lengthsRefusal, placeOf, builtAt}
+use Rattle.conformance.specs.Inner.{memoriesRefusal, placeOf, builtAt}
 
 -- ---- the lengths
 
@@ -52,20 +53,20 @@ parted-at main a =
 -- ---- the refusals before the sheet's
 
 -- the lengths' refusals come first
-lengths-first : (b c d e : Bool) (n : ℕ)
-    → if b 1 (if c 2 (if d 3 (if e 4 n))) ≡ if (eqb (if b 1 (if c 2 (if d 3 (if e 4 0)))) 0) n (if b 1 (if c 2 (if d 3 (if e 4 0))))
+lengths-first : (b : Bool) (r n : ℕ) → if b mainLength (if (not (eqb r 0)) r n) ≡ if (eqb (if b mainLength r) 0) n (if b mainLength r)
 unfolding if
-lengths-first true c d e n = refl
-lengths-first false true d e n = refl
-lengths-first false false true e n = refl
-lengths-first false false false true n = refl
-lengths-first false false false false n = refl
+lengths-first true r n = refl
+lengths-first false r n = go (eqb r 0) refl
+  where
+    go : (c : Bool) → eqb r 0 ≡ c → if (not (eqb r 0)) r n ≡ if (eqb r 0) n r
+    go true q = rw q
+    go false q = rw q
 
--- a refused start gives 5
-start-refused : (s : State) (a : ℕ) {n : ℕ} → startOf s 1 a false .answer ≡ StartRefused n → ((stateInRange s && startInRange 1 a false) ≡ false) × (n ≡ 5)
+-- a refused start is out of range
+start-refused : (s : State) (a : ℕ) {n : ℕ} → startOf s 1 a false .answer ≡ StartRefused n → ((stateInRange s && startInRange 1 a false) ≡ false) × (n ≡ outOfRange)
 unfolding startOf
 start-refused s a {n} h =
-    if-ind-by (λ (r : StartResult). r .answer ≡ StartRefused n → ((stateInRange s && startInRange 1 a false) ≡ false) × (n ≡ 5)) (stateInRange s && startInRange 1 a false)
+    if-ind-by (λ (r : StartResult). r .answer ≡ StartRefused n → ((stateInRange s && startInRange 1 a false) ≡ false) × (n ≡ outOfRange)) (stateInRange s && startInRange 1 a false)
     (λ t q. absurd (let z : _≡_ {A = ℕ} 0 1 = cc in omega arith)) (λ t q. (t, (cc))) h
 
 start-passed : (s : State) (a : ℕ) → startOf s 1 a false .answer ≡ Started → (stateInRange s && startInRange 1 a false) ≡ true
@@ -99,10 +100,10 @@ built-placed sheet main a {p} e b =
     let b′ = rw (w, q .1) at b in
     rw (z, append-nil, q .0, ← b′)
 
-module _ (sheet main : List ℕ) (a : ℕ) (s : State) (m : Lent) (allowance : ℕ) {n : ℕ} (l : n ≡ lengthsRefusal main m (s .used)) where
-  refusal-is : playRefusal main m s a ≡ if (eqb n 0) (if (not (stateInRange s && startInRange 1 a false)) 5 0) n
-  unfolding playRefusal lengthsRefusal
-  refusal-is = rw l (lengths-first (mainRefused (length main)) (not (eqb (length (m .mem)) 4096)) (not (eqb (length (m .code)) 16384)) (logRefused (m .log) (s .used)) _)
+module _ (sheet main : List ℕ) (a : ℕ) (s : State) (m : Lent) (allowance : ℕ) {n : ℕ} (l : n ≡ memoriesRefusal main m (s .used)) where
+  refusal-is : playRefusal main m s a ≡ if (eqb n 0) (if (not (stateInRange s && startInRange 1 a false)) outOfRange 0) n
+  unfolding playRefusal memoriesRefusal
+  refusal-is = rw l (lengths-first (mainRefused (length main)) (lengthsRefusal Vif1 m (s .used)) _)
 
   pub play-lengths : (n ≡ 0 → ⊥) → played (Refused n 0) s 0 main m ≡ playOf sheet main a s m allowance
   unfolding playOf if

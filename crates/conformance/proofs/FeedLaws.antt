@@ -8,10 +8,12 @@ use native.Mathlib.Omega.{arith}
 use borrow.Author.Tests.{le-leb, lt-leb}
 use Rattle.fields.specs.Fields.{if}
 use Rattle.gif.specs.declared.Path.{Path}
+use Rattle.memories.specs.declared.VifUnit.the-variants.{Vif1}
+use Rattle.memories.specs.Lengths.{Lent}
 use Rattle.vif.specs.declared.Vif.{Vif}
 use Rattle.vif.specs.declared.VifAnswer.{VifAnswer}
 use Rattle.vif.specs.declared.Incoming.{Incoming}
-use Rattle.vif.specs.Step.{Lent, leaves, vifStep}
+use Rattle.vif.specs.Step.{leaves, vifStep}
 use Rattle.vif.specs.Feeds.{Fed, Feeds, none, more, aWord, aQuadword}
 use Rattle.chain.specs.declared.TagWords.the-variants.{Nothing as NoTagWords}
 use Rattle.chain.specs.declared.Payload.{Payload}
@@ -61,7 +63,7 @@ quadword-takes = record { some = omega arith; given = λ v q used m′ p s m. re
 
 module _ (main : List ℕ) (s : State) (channel : s .channel ≡ 1) {b : VifAnswer} {w : ℕ} (t : Takes b w) where
   -- one step
-  taken-step : (x y : Fed) (a n : ℕ) → vifStep (x .unit) (x .path2) (incomingAt main a) (x .used) (x .memories) ≡ leaves b (y .unit) (y .path2) (y .used) (y .memories)
+  taken-step : (x y : Fed) (a n : ℕ) → vifStep Vif1 (x .unit) (x .path2) (incomingAt main a) (x .used) (x .memories) ≡ leaves b (y .unit) (y .path2) (y .used) (y .memories)
       → stepFrom main (feeding s x (PayloadWords a (w + n)))
       ≡ stepped (Completed false) (feeding s y (pending (a + 4 * w) n) .state) (y .memories)
   taken-step x y a n e =
@@ -71,7 +73,7 @@ module _ (main : List ℕ) (s : State) (channel : s .channel ≡ 1) {b : VifAnsw
       (t .given (y .unit) (y .path2) (y .used) (y .memories) (payloadAfter a (w + n)) _ (x .memories) ∙ rw (payload-next a n w))
 
   -- steps of VIF1 are steps of the chain
-  pub feeds-reach : (j a n : ℕ) {x y : Fed} → Feeds b x (incomings w main a j) y
+  pub feeds-reach : (j a n : ℕ) {x y : Fed} → Feeds Vif1 b x (incomings w main a j) y
       → Reaches main j (feeding s x (pending a (w * j + n))) (feeding s y (pending (a + 4 * (w * j)) n))
   unfolding incomings
   feeds-reach zero a n none =

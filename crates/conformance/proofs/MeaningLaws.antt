@@ -1,20 +1,21 @@
 -- What VIF1 makes of words, and what a sheet means by their bytes.
 use mathlib.Core.Path.{_≡_, refl, sym, ap, _∙_}
 use mathlib.Core.List.{List, [], _∷_, _++_}
-use Prim.Native.Nat.{ℕ, zero, suc, _+_, _*_, _-_, _/_, _%_, _^_, _<_, _≤_}
-use native.Mathlib.Nat.{add-zero, zero-add, suc-add, add-mul-mod-self-right}
+use Prim.Native.Nat.{ℕ, zero, suc, _+_, _*_, _%_, _^_, _<_, _≤_}
 use native.Mathlib.Omega.{arith}
-use lib.ListN.{length, getD, set, take, drop, length-drop}
+use lib.ListN.{length, getD, take, drop, length-drop}
 use lib.Seq.{sets, take-add, drop-drop}
 use Rattle.fields.specs.Fields.{bits, quadword}
 use Rattle.fields.proofs.FieldLaws.{whole-low, bits-middle}
 use Rattle.gif.specs.Log.{numbers}
-use Rattle.gif.specs.Run.{addressData, addressDatas}
+use Rattle.gif.specs.Run.{addressDatas}
 use Rattle.unpack.specs.Whole.{storeQuadword, copyVectors, fourWords}
+use Rattle.memories.specs.declared.VifUnit.the-variants.{Vif1}
+use Rattle.memories.specs.Units.{quadwords, instructions}
 use Rattle.vif.specs.Feeds.{storeInstruction, copyInstructions}
 use Rattle.sheet.specs.Records.{bytesAt, number}
 use Rattle.sheet.specs.Layout.{wordBytes}
-use Rattle.sheet.specs.Meaning.{Entry, vectorOf, putVectors, putInstructions, entryAt, entriesAt}
+use Rattle.sheet.specs.Meaning.{vectorOf, putVectors, putInstructions, entriesAt}
 use Rattle.sheet.specs.Results.{numbersOf}
 use Rattle.conformance.proofs.WordLaws.{Octets, no-byte, one-byte, wordsOf, words-at, four-back, both}
 
@@ -40,11 +41,11 @@ vector-same n body j h =
     rw (at (4 * j) (omega arith), at (4 * j + 1) (omega arith), at (4 * j + 2) (omega arith), at (4 * j + 3) (omega arith), a, b, c, d)
 
 pub vectors-same : (n a : ℕ) (body : List ℕ) (r j : ℕ) (mem : List ℕ) → j + r ≡ n
-    → copyVectors 1024 a (fourWords (wordsOf (4 * n) body)) r j mem ≡ putVectors a body r j mem
+    → copyVectors (quadwords Vif1) a (fourWords (wordsOf (4 * n) body)) r j mem ≡ putVectors a body r j mem
 unfolding copyVectors putVectors
 vectors-same n a body zero j mem e = refl
 vectors-same n a body (suc r) j mem e =
-    rw (vector-same n body j (omega arith), store-four mem ((a + j) % 1024) _ _ _ _) (vectors-same n a body r (suc j) _ (omega arith))
+    rw (vector-same n body j (omega arith), store-four mem ((a + j) % quadwords Vif1) _ _ _ _) (vectors-same n a body r (suc j) _ (omega arith))
 
 -- ---- code
 
@@ -88,11 +89,11 @@ instruction-same n {body} b l j h code q =
     ap (sets code (8 * q)) e
 
 pub instructions-same : (n a : ℕ) {body : List ℕ} → Octets body → length body ≡ 8 * n → (r j : ℕ) (code : List ℕ) → j + r ≡ n
-    → copyInstructions 2048 a (wordsOf (2 * n) body) r j code ≡ putInstructions a body r j code
+    → copyInstructions (instructions Vif1) a (wordsOf (2 * n) body) r j code ≡ putInstructions a body r j code
 unfolding copyInstructions putInstructions
 instructions-same n a b l zero j code e = refl
 instructions-same n a b l (suc r) j code e =
-    rw (instruction-same n b l j (omega arith) code ((a + j) % 2048)) (instructions-same n a b l r (suc j) _ (omega arith))
+    rw (instruction-same n b l j (omega arith) code ((a + j) % instructions Vif1)) (instructions-same n a b l r (suc j) _ (omega arith))
 
 -- ---- entries
 

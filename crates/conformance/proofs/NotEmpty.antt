@@ -2,7 +2,7 @@
 use mathlib.Core.Path.{_≡_, refl, sym, ap, _∙_}
 use mathlib.Core.Bool.{true, false, not}
 use mathlib.Core.List.{List, [], _++_, append-nil}
-use Prim.Native.Nat.{ℕ, _+_, _*_, _-_, _%_, _^_, _≤_}
+use Prim.Native.Nat.{ℕ, _+_, _*_, _%_, _^_, _≤_}
 use native.Mathlib.Omega.{arith}
 use borrow.Author.Tests.{ltb-false, le-ltb, lt-ltb, eq-eqb, leb-true}
 use lib.ListN.{length, take, drop, length-append, length-drop}
@@ -11,8 +11,10 @@ use lib.Dec.{eqb, ltb, leb}
 use Rattle.fields.specs.Fields.{if}
 use Rattle.fields.proofs.ChoiceLaws.{if-ind-by, and-left, or-right}
 use Rattle.gif.specs.Log.{logRefused}
+use Rattle.memories.specs.declared.VifUnit.the-variants.{Vif1}
+use Rattle.memories.specs.Units.{dataWords, codeBytes}
+use Rattle.memories.specs.Lengths.{Lent, LengthsFit}
 use Rattle.vif.specs.Range.{registersInRange, waitingInRange, unitInRange}
-use Rattle.vif.specs.Step.{Lent}
 use Rattle.chain.specs.declared.StartAnswer.the-variants.{Started}
 use Rattle.chain.specs.declared.StartResult.{StartResult}
 use Rattle.chain.specs.Range.{mainRefused, channelInRange, stateInRange, startInRange, stackInRange, tagsInRange, payloadInRange}
@@ -110,7 +112,7 @@ module _ (sheet : List ℕ) (rs : List Record) (b : Bytes sheet) (c : contentsOf
 
   -- a place in main memory that the chain fits in
   module _ (main : List ℕ) (a allowance : ℕ) (m : Lent) (inside : a + length (chainOf rs) ≤ length main) (aligned : a % 16 ≡ 0)
-      (size : mainRefused (length main) ≡ false) (words : length (m .mem) ≡ 4096) (bytes : length (m .code) ≡ 16384) (log : length (m .log) ≡ 131072)
+      (size : mainRefused (length main) ≡ false) (words : length (m .mem) ≡ dataWords Vif1) (bytes : length (m .code) ≡ codeBytes Vif1) (log : length (m .log) ≡ 131072)
       (allowed : sheetSteps rs ≤ allowance) where
     most : length main ≤ 1048576
     unfolding mainRefused
@@ -123,9 +125,9 @@ module _ (sheet : List ℕ) (rs : List Record) (b : Bytes sheet) (c : contentsOf
     begun : startOf resetState 1 a false ≡ startResult Started (startedFrom resetState 1 a false)
     begun = start-accepted resetState a reset-ranged starts
 
-    fits-log : logRefused (m .log) (resetState .used) ≡ false
+    fit : LengthsFit Vif1 m (resetState .used)
     unfolding logRefused resetState
-    fits-log = rw log
+    fit = record { long = words; wide = bytes; logged = rw log }
 
     -- the log has room for every entry
     room-all : 2 * length (meansFrom sheet resetState m .entries) ≤ length (m .log)
@@ -142,7 +144,7 @@ module _ (sheet : List ℕ) (rs : List Record) (b : Bytes sheet) (c : contentsOf
     reset-plays =
         let d = length-drop a main in
         record {
-          passed = passed-by (record { size = size; words = words; bytes = bytes; logged = fits-log; ranged = reset-ranged; starts = starts });
+          passed = passed-by (record { size = size; fit = fit; ranged = reset-ranged; starts = starts });
           size = length (chainOf rs);
           built = built-all (drop a main) (omega arith) .0;
           idle = refl;
@@ -163,7 +165,7 @@ module _ (sheet : List ℕ) (rs : List Record) (b : Bytes sheet) (c : contentsOf
           placed = placed ∙ ap (λ (l : List ℕ). l ++ rest) (sym (take-at (chainOf rs) (drop (length (chainOf rs)) output) (length (chainOf rs)) refl) ∙ ap (take (length (chainOf rs))) (sym (b .1)));
           aligned = aligned;
           started = ap (λ (r : StartResult). r .answer) begun;
-          entered = rw begun (start-ready resetState a reset-ranged starts main m size words bytes fits-log .passed);
+          entered = rw begun (start-ready resetState a reset-ranged starts main m size fit .passed);
           idle = refl;
           path-idle = refl;
           room = room-all;
@@ -171,7 +173,7 @@ module _ (sheet : List ℕ) (rs : List Record) (b : Bytes sheet) (c : contentsOf
         }
 
   -- there is such a place: a main memory as long as the chain
-  module _ (main : List ℕ) (m : Lent) (long : length main ≡ length (chainOf rs)) (words : length (m .mem) ≡ 4096) (bytes : length (m .code) ≡ 16384)
+  module _ (main : List ℕ) (m : Lent) (long : length main ≡ length (chainOf rs)) (words : length (m .mem) ≡ dataWords Vif1) (bytes : length (m .code) ≡ codeBytes Vif1)
       (log : length (m .log) ≡ 131072) where
     taken-whole : mainRefused (length main) ≡ false
     taken-whole =
@@ -185,7 +187,7 @@ module _ (sheet : List ℕ) (rs : List Record) (b : Bytes sheet) (c : contentsOf
     play-not-empty = reset-plays main 0 (sheetSteps rs) m (omega arith) (omega arith) taken-whole words bytes log (omega arith)
 
   -- or the chain itself
-  pub not-empty : (m : Lent) → length (m .mem) ≡ 4096 → length (m .code) ≡ 16384 → length (m .log) ≡ 131072
+  pub not-empty : (m : Lent) → length (m .mem) ≡ dataWords Vif1 → length (m .code) ≡ codeBytes Vif1 → length (m .log) ≡ 131072
       → Premises sheet (chainOf rs) (chainOf rs) 0 (length (chainOf rs)) (sheetSteps rs) resetState m
   not-empty m words bytes log =
       reset-meets (chainOf rs) 0 (sheetSteps rs) m (omega arith) (omega arith) (taken-whole (chainOf rs) m refl words bytes log) words bytes log (omega arith) (chainOf rs) [] (omega arith) (sym (append-nil (chainOf rs)))

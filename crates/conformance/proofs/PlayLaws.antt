@@ -2,23 +2,25 @@
 use mathlib.Core.Path.{_≡_, refl, sym, ap, _∙_}
 use mathlib.Core.Bool.{true, false, not, _&&_}
 use mathlib.Core.List.{List, [], _∷_, _++_}
-use Prim.Native.Nat.{ℕ, _+_, _-_, _≤_}
+use Prim.Native.Nat.{ℕ, _+_, _≤_}
 use native.Mathlib.Omega.{arith}
-use borrow.Author.Tests.{ltb-false, eqb-true, eq-eqb}
+use borrow.Author.Tests.{ltb-false, not-false}
 use lib.ListN.{length, take, drop, length-append, length-drop, take-append-drop}
 use lib.Seq.{length-take-le, drop-at}
-use lib.Dec.{eqb, ltb}
+use lib.Dec.{ltb}
 use Rattle.fields.specs.Fields.{if}
+use Rattle.fields.specs.Refusals.{mainLength, outOfRange}
 use Rattle.fields.proofs.ChoiceLaws.{if-ind-by, if-zero, and-left, and-right}
-use Rattle.gif.specs.Log.{logRefused}
-use Rattle.vif.specs.Step.{Lent}
+use Rattle.memories.specs.declared.VifUnit.the-variants.{Vif1}
+use Rattle.memories.specs.Lengths.{Lent, LengthsFit}
+use Rattle.memories.proofs.LengthLaws.{fit-lengths, fit-first}
 use Rattle.chain.specs.declared.StartAnswer.the-variants.{Started}
 use Rattle.chain.specs.declared.StartResult.{StartResult}
 use Rattle.chain.specs.declared.State.{State}
 use Rattle.chain.specs.Range.{mainRefused, stateInRange, startInRange}
 use Rattle.chain.specs.Start.{startResult, startedFrom, startOf}
 use Rattle.chain.specs.Inner.{Ready}
-use Rattle.chain.proofs.ReadyLaws.{not-false, tadr-whole}
+use Rattle.chain.proofs.ReadyLaws.{tadr-whole}
 use Rattle.sheet.specs.declared.BuildAnswer.the-variants.{Built}
 use Rattle.sheet.specs.Records.{Record}
 use Rattle.sheet.specs.Reader.{Contents, valid, refused, contentsOf}
@@ -64,33 +66,21 @@ took sheet output h = took-by (contentsOf sheet) output h
 
 pub record Passed (main : List ℕ) (m : Lent) (s : State) (a : ℕ) : Type 0 where
   pub size : mainRefused (length main) ≡ false
-  pub words : length (m .mem) ≡ 4096
-  pub bytes : length (m .code) ≡ 16384
-  pub logged : logRefused (m .log) (s .used) ≡ false
+  pub fit : LengthsFit Vif1 m (s .used)
   pub ranged : stateInRange s ≡ true
   pub starts : startInRange 1 a false ≡ true
 
 passed-of : (main : List ℕ) (m : Lent) (s : State) (a : ℕ) → playRefusal main m s a ≡ 0 → Passed main m s a
 unfolding playRefusal
 passed-of main m s a h =
-    let b = if-zero (mainRefused (length main)) 1 (omega arith) h in
-    let c = if-zero (not (eqb (length (m .mem)) 4096)) 2 (omega arith) (b .1) in
-    let d = if-zero (not (eqb (length (m .code)) 16384)) 3 (omega arith) (c .1) in
-    let e = if-zero (logRefused (m .log) (s .used)) 4 (omega arith) (d .1) in
-    let f = not-false (stateInRange s && startInRange 1 a false) (if-zero (not (stateInRange s && startInRange 1 a false)) 5 (omega arith) (e .1) .0) in
-    record {
-      size = b .0;
-      words = eqb-true (length (m .mem)) 4096 (not-false _ (c .0));
-      bytes = eqb-true (length (m .code)) 16384 (not-false _ (d .0));
-      logged = e .0;
-      ranged = and-left _ _ f;
-      starts = and-right (stateInRange s) _ f;
-    }
+    let b = if-zero (mainRefused (length main)) mainLength (omega arith) h in
+    let c = fit-first Vif1 m (s .used) (b .1) in
+    let d = not-false (stateInRange s && startInRange 1 a false) (if-zero (not (stateInRange s && startInRange 1 a false)) outOfRange (omega arith) (c .1) .0) in
+    record { size = b .0; fit = c .0; ranged = and-left _ _ d; starts = and-right (stateInRange s) _ d }
 
 pub passed-by : {main : List ℕ} {m : Lent} {s : State} {a : ℕ} → Passed main m s a → playRefusal main m s a ≡ 0
 unfolding playRefusal if
-passed-by {main} {m} {s} {a} p =
-    rw (p .size, eq-eqb (length (m .mem)) 4096 (p .words), eq-eqb (length (m .code)) 16384 (p .bytes), p .logged, p .ranged, p .starts)
+passed-by {main} {m} {s} {a} p = rw (p .size, fit-lengths Vif1 m (s .used) (p .fit), p .ranged, p .starts)
 
 -- ---- demand 3
 
@@ -125,7 +115,7 @@ module _ (sheet main : List ℕ) (a allowance : ℕ) (s : State) (m : Lent) (t :
   begun = start-accepted s a (passes .ranged) (passes .starts)
 
   ready : Ready built-in (startedFrom s 1 a false) m
-  ready = start-ready s a (passes .ranged) (passes .starts) built-in m (rw same-length (passes .size)) (passes .words) (passes .bytes) (passes .logged)
+  ready = start-ready s a (passes .ranged) (passes .starts) built-in m (rw same-length (passes .size)) (passes .fit)
 
   premises : Premises sheet (drop a main) built-in a (p .size) allowance s m
   premises =

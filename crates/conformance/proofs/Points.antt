@@ -14,6 +14,7 @@ use Rattle.unpack.specs.Range.{cycleRefused}
 use Rattle.unpack.specs.Vector.{extended, element, fieldsOf, fiveFields, vectorAt}
 use Rattle.unpack.specs.Write.{added, rowOf, dataOf, fieldOf, rowsAfter, putField, writtenAt, writeVector, writeVectors}
 use Rattle.unpack.specs.Step.{countOf, unpackingOf, takenWords, acting, heldVector, wordOf, unpackWord}
+use Rattle.memories.specs.Lengths.{lengthsRefusal}
 use Rattle.vif.specs.Codes.{quadwordsOf as directQuadwordsOf, plainCode, unpackNumbers, codeOf, decodeOf}
 use Rattle.vif.specs.Execute.{startProgram, setMode, beginMpg, addressOf, beginUnpack}
 use Rattle.vif.specs.Payload.{completes, orNothing, wordPlace, mpgStored}
@@ -50,7 +51,7 @@ unfolding directQuadwordsOf plainCode namedIn unpackNumbers codeOf decodeOf star
 vifOpen = tt
 
 chainOpen : Unit {0}
-unfolding wordAt longAt incomingAt payloadAfter channelInRange startInRange stackInRange tagsInRange payloadInRange stateInRange mainRefused tagsInside payloadInside entryRefusal usesAddr payloadAt nextTadr endsChain tagWordsOf payloadOf tagRefusal tagState tagRead resetState startOf vifGiven payloadStep stepOf done stepsOf runOf
+unfolding wordAt longAt incomingAt payloadAfter channelInRange startInRange stackInRange tagsInRange payloadInRange stateInRange mainRefused tagsInside payloadInside lengthsRefusal entryRefusal usesAddr payloadAt nextTadr endsChain tagWordsOf payloadOf tagRefusal tagState tagRead resetState startOf vifGiven payloadStep stepOf done stepsOf runOf
 chainOpen = tt
 
 sheetOpen : Unit {0}

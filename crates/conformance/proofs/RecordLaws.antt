@@ -1,31 +1,31 @@
 -- What the chain does with each record's part: from an idle VIF1 at its tag, the record's steps lead to an idle VIF1 at the next tag with its meaning done.
 use mathlib.Core.Path.{_≡_, refl, sym, ap, _∙_}
-use mathlib.Core.Bool.{Bool, true, false}
+use mathlib.Core.Bool.{false}
 use mathlib.Core.List.{List, [], _∷_, _++_, append-assoc}
 use Prim.Native.Nat.{ℕ, zero, suc, _+_, _*_, _-_, _/_, _%_, _^_, _<_, _≤_}
-use native.Mathlib.Nat.{add-zero, zero-add, suc-add}
+use native.Mathlib.Nat.{add-zero, zero-add}
 use native.Mathlib.Omega.{arith}
-use borrow.Author.Tests.{eq-eqb, ne-eqb}
+use borrow.Author.Tests.{eq-eqb}
 use lib.ListN.{length, getD, take, drop, length-append, length-drop}
 use lib.Seq.{sets, drop-drop, drop-append-le, take-append-le, take-add, length-take-le}
-use lib.Dec.{eqb}
 use Rattle.fields.specs.Fields.{if, quadword}
 use Rattle.gif.specs.declared.Path.{Path}
 use Rattle.gif.specs.declared.Place.the-variants.{Idle}
-use Rattle.gif.specs.Log.{logged, numbers}
-use Rattle.gif.specs.Tag.{pathOf, tagQ}
-use Rattle.gif.specs.Run.{sheetTag, addressDatas}
+use Rattle.gif.specs.Log.{logged}
+use Rattle.gif.specs.Tag.{pathOf}
+use Rattle.gif.specs.Run.{sheetTag}
 use Rattle.unpack.proofs.VectorLaws.{Words, none, more}
+use Rattle.memories.specs.declared.VifUnit.the-variants.{Vif1}
+use Rattle.memories.specs.Units.{quadwords, instructions}
+use Rattle.memories.specs.Lengths.{Lent, lent}
 use Rattle.vif.specs.declared.Incoming.{Incoming}
 use Rattle.vif.specs.declared.Incoming.the-variants.{Word0}
 use Rattle.vif.specs.declared.Waiting.the-variants.{Nothing}
 use Rattle.vif.specs.declared.VifAnswer.{VifAnswer}
-use Rattle.vif.specs.Setters.{withCycle, withMode, withWaiting}
-use Rattle.vif.specs.Execute.{started}
-use Rattle.vif.specs.Step.{Lent, lent, wordIn}
+use Rattle.vif.specs.Setters.{withWaiting}
 use Rattle.vif.specs.Feeds.{Fed, fed, Feeds, aWord, aQuadword, wordsIn, QuadwordsIn, no-quadword, one-quadword, Zeros, no-zero, one-zero}
 use Rattle.vif.proofs.BurstLaws.{incoming-word}
-use Rattle.vif.proofs.SheetLaws.{feeds-as, feeds-data, feeds-code, feeds-start, feeds-direct, feeds-entries, directWaits}
+use Rattle.vif.proofs.SheetLaws.{feeds-data, feeds-code, feeds-start, feeds-direct, feeds-entries, directWaits}
 use Rattle.chain.specs.declared.TagWords.the-variants.{Nothing as NoTagWords}
 use Rattle.chain.specs.declared.Payload.the-variants.{Nothing as NoPayload}
 use Rattle.chain.specs.declared.State.{State}
@@ -39,7 +39,7 @@ use Rattle.chain.proofs.BurstLaws.{step-by, feeding}
 use Rattle.sheet.specs.Records.{recordOf, bytesAt, number}
 use Rattle.sheet.specs.declared.Kind.{Kind}
 use Rattle.sheet.specs.declared.Kind.the-variants.{Data, Code, Gs, Start}
-use Rattle.sheet.specs.Layout.{wordsBytes, tagWords, codeWords, paddingWords, leadWords, laidOut, gifTagWords, oddPadding}
+use Rattle.sheet.specs.Layout.{wordsBytes, tagWords, paddingWords, leadWords, laidOut, gifTagWords, oddPadding}
 use Rattle.sheet.specs.Sizes.{halved}
 use Rattle.sheet.specs.Meaning.{Entry, entry, putVectors, putInstructions, entriesAt}
 use Rattle.sheet.specs.Results.{numbersOf}
@@ -104,14 +104,14 @@ module _ (main : List ℕ) (a : ℕ) (s : State) (m : Lent) (i : IdleAt a s) (q 
   after-tag r = step-by (idle-going main a s m i) (cnt-step main a s m i q some few tag room) refl r
 
   -- a payload of words
-  pub words-reach : {y : Fed} → Feeds aWord unitFed (incomings 1 main (a + 16) (4 * q)) y → Reaches main (1 + 4 * q) (machine s m) (feeding tagged y NoPayload)
+  pub words-reach : {y : Fed} → Feeds Vif1 aWord unitFed (incomings 1 main (a + 16) (4 * q)) y → Reaches main (1 + 4 * q) (machine s m) (feeding tagged y NoPayload)
   words-reach f =
       let e : 1 * (4 * q) + 0 ≡ 4 * q = omega arith in
       let g : 1 + 4 * q ≡ suc (4 * q) = omega arith in
       rw g (after-tag (rw e at (feeds-reach main tagged (i .channel) word-takes (4 * q) (a + 16) 0 f)))
 
   -- four words, and then quadwords
-  pub quadwords-reach : {x y : Fed} (k : ℕ) → q ≡ 1 + k → Feeds aWord unitFed (incomings 1 main (a + 16) 4) x → Feeds aQuadword x (incomings 4 main (a + 32) k) y
+  pub quadwords-reach : {x y : Fed} (k : ℕ) → q ≡ 1 + k → Feeds Vif1 aWord unitFed (incomings 1 main (a + 16) 4) x → Feeds Vif1 aQuadword x (incomings 4 main (a + 32) k) y
       → Reaches main (5 + k) (machine s m) (feeding tagged y NoPayload)
   quadwords-reach k h f g =
       let e : 1 * 4 + 4 * k ≡ 4 * q = omega arith in
@@ -243,7 +243,7 @@ gif-tag-placed main a n ys few e =
     let low : n + 32768 + 268435456 * 2 ^ 32 ≡ n + 2 ^ 15 + 2 ^ 60 = omega arith in
     rw (c, f, g, h, k, low)
 
-feeds-from : {b : VifAnswer} {x x′ y : Fed} {ns : List Incoming} → x ≡ x′ → Feeds b x′ ns y → Feeds b x ns y
+feeds-from : {b : VifAnswer} {x x′ y : Fed} {ns : List Incoming} → x ≡ x′ → Feeds Vif1 b x′ ns y → Feeds Vif1 b x ns y
 feeds-from e f = rw e f
 
 module _ (main : List ℕ) (a : ℕ) (s : State) (m : Lent) (i : IdleAt a s) where
@@ -266,7 +266,7 @@ module _ (main : List ℕ) (a : ℕ) (s : State) (m : Lent) (i : IdleAt a s) whe
       }
 
   -- data: n vectors
-  pub data-record : (n b : ℕ) (body rest : List ℕ) → 1 ≤ n → n ≤ 255 → b < 1024 → Octets body → length body ≡ 16 * n
+  pub data-record : (n b : ℕ) (body rest : List ℕ) → 1 ≤ n → n ≤ 255 → b < quadwords Vif1 → Octets body → length body ≡ 16 * n
       → drop a main ≡ laidOut (recordOf Data n b body) ++ rest
       → Arrived main (5 + 4 * n) (a + 16 * (2 + n)) s m (putVectors b body n 0 (m .mem)) (m .code) []
   data-record n b body rest some few inside bytes l e =
@@ -279,7 +279,7 @@ module _ (main : List ℕ) (a : ℕ) (s : State) (m : Lent) (i : IdleAt a s) whe
       let inner = placed-inside main (a + 32) body rest (d .after) (omega arith) in
       let room : a + 16 + 16 * (n + 1) ≤ length main = omega arith in
       let k : 1 + 4 * (n + 1) ≡ 5 + 4 * n = omega arith in
-      let f = feeds-data (s .vif) (s .path2) (s .used) m n b (wordsOf (4 * n) body) (incomings 1 main (a + 16) (4 * (n + 1))) (i .waiting) (i .row) some few inside (rw c (d .words (4 * n) ∙ rw ws)) (words-small (4 * n) bytes (omega arith)) (words-length (4 * n) body) in
+      let f = feeds-data Vif1 (s .vif) (s .path2) (s .used) m n b (wordsOf (4 * n) body) (incomings 1 main (a + 16) (4 * (n + 1))) (i .waiting) (i .row) some few inside (rw c (d .words (4 * n) ∙ rw ws)) (words-small (4 * n) bytes (omega arith)) (words-length (4 * n) body) in
       arrived (omega arith) (omega arith) (d .tag) room _ (rw k at (words-reach main a s m i (n + 1) (omega arith) (omega arith) (d .tag) room f)) (i .waiting)
       (i .row)
       (i .path-idle)
@@ -290,7 +290,7 @@ module _ (main : List ℕ) (a : ℕ) (s : State) (m : Lent) (i : IdleAt a s) whe
       refl
 
   -- a program start
-  pub start-record : (b : ℕ) (rest : List ℕ) → b < 2048 → 2 * (s .used + 1) ≤ length (m .log) → drop a main ≡ laidOut (recordOf Start 0 b []) ++ rest
+  pub start-record : (b : ℕ) (rest : List ℕ) → b < instructions Vif1 → 2 * (s .used + 1) ≤ length (m .log) → drop a main ≡ laidOut (recordOf Start 0 b []) ++ rest
       → Arrived main 5 (a + 16 * 2) s m (m .mem) (m .code) (entry 256 b ∷ [])
   unfolding logged wordsFrom
   start-record b rest inside room e =
@@ -300,7 +300,7 @@ module _ (main : List ℕ) (a : ℕ) (s : State) (m : Lent) (i : IdleAt a s) whe
       let d = lead-placed main a 1 0 0 0 (335544320 + b) rest (omega arith) r (rw g at p) in
       let inner = placed-inside main a (wordsBytes (tagWords 1 1) ++ wordsBytes (0 ∷ 0 ∷ 0 ∷ (335544320 + b) ∷ [])) rest (rw g at p) (omega arith) in
       let within : a + 16 + 16 * 1 ≤ length main = omega arith in
-      let f = feeds-start (s .vif) (s .path2) (s .used) m b (incomings 1 main (a + 16) (4 * 1)) (i .waiting) (omega arith) room (d .words 0) in
+      let f = feeds-start Vif1 (s .vif) (s .path2) (s .used) m b (incomings 1 main (a + 16) (4 * 1)) (i .waiting) (omega arith) room (d .words 0) in
       arrived {q = 1} (omega arith) (omega arith) (d .tag) within _ (words-reach main a s m i 1 (omega arith) (omega arith) (d .tag) within f) (i .waiting)
       (i .row)
       (i .path-idle)
@@ -311,7 +311,7 @@ module _ (main : List ℕ) (a : ℕ) (s : State) (m : Lent) (i : IdleAt a s) whe
       refl
 
   -- code: n instructions, and NOPs after an odd number of them
-  pub code-record : (n b : ℕ) (body rest : List ℕ) → 1 ≤ n → n ≤ 255 → b < 2048 → Octets body → length body ≡ 8 * n
+  pub code-record : (n b : ℕ) (body rest : List ℕ) → 1 ≤ n → n ≤ 255 → b < instructions Vif1 → Octets body → length body ≡ 8 * n
       → drop a main ≡ laidOut (recordOf Code n b body) ++ rest
       → Arrived main (5 + 4 * halved n) (a + 16 * (2 + halved n)) s m (m .mem) (putInstructions b body n 0 (m .code)) []
   code-record n b body rest some few inside bytes l e =
@@ -332,7 +332,7 @@ module _ (main : List ℕ) (a : ℕ) (s : State) (m : Lent) (i : IdleAt a s) whe
       let lower = inner (omega arith) in
       let room : a + 16 + 16 * (h + 1) ≤ length main = omega arith in
       let k : 1 + 4 * (h + 1) ≡ 5 + 4 * h = omega arith in
-      let f = feeds-code (s .vif) (s .path2) (s .used) m n b (wordsOf (2 * n) body) pad (incomings 1 main (a + 16) (4 * (h + 1))) (i .waiting) some few inside (rw c (d .words (2 * n + length pad) ∙ rw (words-join main (2 * n) (length pad) (a + 32), ws, ps))) (words-length (2 * n) body) (padding-zeros (n % 2)) in
+      let f = feeds-code Vif1 (s .vif) (s .path2) (s .used) m n b (wordsOf (2 * n) body) pad (incomings 1 main (a + 16) (4 * (h + 1))) (i .waiting) some few inside (rw c (d .words (2 * n + length pad) ∙ rw (words-join main (2 * n) (length pad) (a + 32), ws, ps))) (words-length (2 * n) body) (padding-zeros (n % 2)) in
       arrived (omega arith) (omega arith) (d .tag) room _ (rw k at (words-reach main a s m i (h + 1) (omega arith) (omega arith) (d .tag) room f)) (i .waiting)
       (i .row)
       (i .path-idle)
@@ -360,9 +360,9 @@ module _ (main : List ℕ) (a : ℕ) (s : State) (m : Lent) (i : IdleAt a s) whe
       let inner = placed-inside main (a + 48) body rest after (omega arith) in
       let within : a + 16 + 16 * (n + 2) ≤ length main = omega arith in
       let idle : s .path2 ≡ pathOf (s .path2 .q) Idle = ap (pathOf (s .path2 .q)) (i .path-idle) in
-      let f = feeds-direct (s .vif) (s .path2) (s .used) m n (incomings 1 main (a + 16) 4) (i .waiting) few (d .words 0) in
+      let f = feeds-direct Vif1 refl (s .vif) (s .path2) (s .used) m n (incomings 1 main (a + 16) 4) (i .waiting) few (d .words 0) in
       let in-place : QuadwordsIn (incomings 4 main (a + 32) (suc n)) (sheetTag n ∷ bodyQuadwords body n 0) = rw (t, c, qs) at (incoming-quadwords main (suc n) (a + 32) (omega arith)) in
-      let h = feeds-from (ap (λ (x : Path). fed (withWaiting (s .vif) (directWaits (suc n))) x (s .used) m) idle) (feeds-entries (s .vif) (s .path2 .q) (s .used) m n (bodyQuadwords body n 0) (incomings 4 main (a + 32) (suc n)) (i .waiting) (quadwords-length body n 0) some few room in-place) in
+      let h = feeds-from (ap (λ (x : Path). fed (withWaiting (s .vif) (directWaits (suc n))) x (s .used) m) idle) (feeds-entries Vif1 (s .vif) (s .path2 .q) (s .used) m n (bodyQuadwords body n 0) (incomings 4 main (a + 32) (suc n)) (i .waiting) (quadwords-length body n 0) some few room in-place) in
       let k : 5 + suc n ≡ 6 + n = omega arith in
       arrived (omega arith) (omega arith) (d .tag) within _ (rw k at (quadwords-reach main a s m i (n + 2) (omega arith) (omega arith) (d .tag) within (suc n) (omega arith) f h)) (i .waiting)
       (i .row)

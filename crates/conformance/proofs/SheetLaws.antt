@@ -1,21 +1,22 @@
 -- What the chain of a whole sheet does: by its records, then the end tag.
-use mathlib.Core.Path.{_≡_, refl, sym, ap, _∙_}
-use mathlib.Core.Bool.{Bool, true, false, _&&_}
+use mathlib.Core.Path.{_≡_, refl, ap, _∙_}
+use mathlib.Core.Bool.{true, _&&_}
 use mathlib.Core.List.{List, [], _∷_, _++_, append-assoc}
-use Prim.Native.Nat.{ℕ, zero, suc, _+_, _*_, _-_, _/_, _%_, _^_, _<_, _≤_}
-use native.Mathlib.Nat.{add-zero, zero-add, suc-add}
+use Prim.Native.Nat.{ℕ, _+_, _*_, _%_, _≤_}
 use native.Mathlib.Omega.{arith}
 use borrow.Author.Tests.{leb-true, ltb-true, eqb-true}
-use lib.ListN.{length, drop, length-append, length-drop}
+use lib.ListN.{length, drop}
 use lib.Seq.{sets, length-sets}
-use lib.Dec.{eqb, leb, ltb}
+use lib.Dec.{leb}
 use Rattle.fields.proofs.ChoiceLaws.{and-left, and-right}
-use Rattle.vif.specs.Step.{Lent, lent}
+use Rattle.memories.specs.declared.VifUnit.the-variants.{Vif1}
+use Rattle.memories.specs.Units.{quadwords, instructions}
+use Rattle.memories.specs.Lengths.{Lent, lent}
 use Rattle.chain.specs.declared.TagWords.the-variants.{Nothing as NoTagWords}
 use Rattle.chain.specs.declared.Payload.the-variants.{Nothing as NoPayload}
 use Rattle.chain.specs.declared.State.{State}
 use Rattle.chain.specs.Setters.{withTag}
-use Rattle.chain.specs.Step.{Machine, machine}
+use Rattle.chain.specs.Step.{machine}
 use Rattle.chain.specs.Run.{done}
 use Rattle.chain.specs.Stops.{Reaches, here}
 use Rattle.chain.proofs.Theorems.{reaches-join}
@@ -23,15 +24,15 @@ use Rattle.chain.proofs.BurstLaws.{step-by}
 use Rattle.sheet.specs.declared.Kind.{Kind}
 use Rattle.sheet.specs.declared.Kind.the-variants.{Data, Code, Gs, Start}
 use Rattle.sheet.specs.Records.{Record, recordOf, countFits, addressFits, bodyLength}
-use Rattle.sheet.specs.Whole.{MeetsRow, AllMeet, none, more, recordBytes, sheetBytes}
+use Rattle.sheet.specs.Whole.{AllMeet, none, more, recordBytes, sheetBytes}
 use Rattle.sheet.specs.Sizes.{quadwordsOf, stepsOf, entriesOf, sheetSteps, sheetEntries}
-use Rattle.sheet.specs.Layout.{wordsBytes, tagWords, laidOut, endTag, chainOf}
+use Rattle.sheet.specs.Layout.{laidOut, endTag, chainOf}
 use Rattle.sheet.specs.Meaning.{Entry, entriesBy, memBy, codeBy}
 use Rattle.sheet.specs.Results.{numbersOf}
 use Rattle.sheet.specs.Fed.{Fed, fed, fedBy, fedAll}
 use Rattle.sheet.proofs.MeaningLaws.{row-count}
 use Rattle.sheet.proofs.LayoutLaws.{laid-length}
-use Rattle.conformance.proofs.WordLaws.{Octets, no-byte, one-byte, octets-left, octets-right, placed-next}
+use Rattle.conformance.proofs.WordLaws.{Octets, one-byte, octets-left, octets-right, placed-next}
 use Rattle.conformance.proofs.TagLaws.{IdleAt, idle-going, end-step}
 use Rattle.conformance.proofs.RecordLaws.{Arrived, placed-inside, tag-placed, data-record, code-record, gs-record, start-record}
 
@@ -47,17 +48,17 @@ module _ (main : List ℕ) (a : ℕ) (s : State) (m : Lent) (i : IdleAt a s) (al
       → Arrived main (stepsOf k n) (a + 16 * quadwordsOf k n) s m (memBy k n b body (m .mem)) (codeBy k n b body (m .code)) (entriesBy k n b body)
   kind-arrives Data n b body c d l o room e =
       let h = some-count n c in
-      data-record main a s m i n b body rest (h .0) (h .1) (ltb-true b 1024 d) o l e
+      data-record main a s m i n b body rest (h .0) (h .1) (ltb-true b (quadwords Vif1) d) o l e
   kind-arrives Code n b body c d l o room e =
       let h = some-count n c in
-      code-record main a s m i n b body rest (h .0) (h .1) (ltb-true b 2048 d) o l e
+      code-record main a s m i n b body rest (h .0) (h .1) (ltb-true b (instructions Vif1) d) o l e
   kind-arrives Gs n b body c d l o room e =
       let h = some-count n c in
       let z = eqb-true b 0 d in
       gs-record main a s m i n body rest (h .0) (h .1) o l aligned room (rw z at e)
   kind-arrives Start n b [] c d l o room e =
       let z = eqb-true n 0 c in
-      start-record main a s m i b rest (ltb-true b 2048 d) room (rw z at e)
+      start-record main a s m i b rest (ltb-true b (instructions Vif1) d) room (rw z at e)
   kind-arrives Start n b (x ∷ body) c d l o room e = absurd (omega arith)
 
 -- the part that a record does to the memories, the log and the entries used

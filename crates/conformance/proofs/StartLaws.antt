@@ -5,8 +5,8 @@ use mathlib.Core.List.{List}
 use Prim.Native.Nat.{ℕ}
 use lib.ListN.{length}
 use Rattle.fields.specs.Fields.{if}
-use Rattle.gif.specs.Log.{logRefused}
-use Rattle.vif.specs.Step.{Lent}
+use Rattle.memories.specs.declared.VifUnit.the-variants.{Vif1}
+use Rattle.memories.specs.Lengths.{Lent, LengthsFit}
 use Rattle.chain.specs.declared.StartAnswer.the-variants.{Started}
 use Rattle.chain.specs.declared.State.{State}
 use Rattle.chain.specs.Range.{mainRefused, stateInRange, startInRange, stackInRange, tagsInRange, payloadInRange, tagsInside, payloadInside}
@@ -20,17 +20,15 @@ module _ (s : State) (a : ℕ) (ranged : stateInRange s ≡ true) (starts : star
   start-accepted = rw (ranged, starts)
 
   -- a start drops what is pending, so the lengths are all that is left to test
-  pub start-ready : (main : List ℕ) (m : Lent) → mainRefused (length main) ≡ false → length (m .mem) ≡ 4096 → length (m .code) ≡ 16384
-      → logRefused (m .log) (s .used) ≡ false → Ready main (startedFrom s 1 a false) m
+  pub start-ready : (main : List ℕ) (m : Lent) → mainRefused (length main) ≡ false → LengthsFit Vif1 m (s .used)
+      → Ready main (startedFrom s 1 a false) m
   unfolding tagsInside payloadInside stackInRange tagsInRange payloadInRange
-  start-ready main m size words bytes logged =
+  start-ready main m size fit =
       let f = fields-of s ranged in
       ready-of
       (record {
         size = size;
-        long = words;
-        wide = bytes;
-        logged = logged;
+        fit = fit;
         fields = record { start = starts; stack = refl; tags = refl; payload = refl; unit = f .unit; path2 = f .path2; path3 = f .path3 };
         tags-in = refl;
         payload-in = refl;

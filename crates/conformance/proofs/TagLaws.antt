@@ -1,29 +1,26 @@
 -- The tags of a sheet's chain.
-use mathlib.Core.Path.{_≡_, refl, sym, ap, _∙_}
-use mathlib.Core.Bool.{Bool, true, false, _&&_}
-use mathlib.Core.List.{List, [], _∷_, _++_}
-use Prim.Native.Nat.{ℕ, zero, suc, _+_, _*_, _-_, _/_, _%_, _^_, _<_, _≤_}
-use native.Mathlib.Nat.{add-zero, zero-add, suc-add, mul-zero}
+use mathlib.Core.Path.{_≡_, _∙_}
+use mathlib.Core.Bool.{true, false}
+use mathlib.Core.List.{List}
+use Prim.Native.Nat.{ℕ, _+_, _*_, _/_, _%_, _<_, _≤_}
 use native.Mathlib.Omega.{arith}
-use borrow.Author.Tests.{eq-eqb, ne-eqb, le-ltb}
+use borrow.Author.Tests.{ne-eqb, le-ltb}
 use lib.ListN.{length}
-use lib.Dec.{eqb, ltb}
 use Rattle.fields.specs.Fields.{if, bits}
 use Rattle.gif.specs.declared.Place.the-variants.{Idle}
 use Rattle.vif.specs.declared.Waiting.the-variants.{Nothing}
-use Rattle.vif.specs.Step.{Lent}
-use Rattle.chain.specs.declared.Stack.{Stack}
+use Rattle.memories.specs.Lengths.{Lent}
 use Rattle.chain.specs.declared.TagWords.{TagWords}
 use Rattle.chain.specs.declared.TagWords.the-variants.{Nothing as NoTagWords}
 use Rattle.chain.specs.declared.Payload.{Payload}
-use Rattle.chain.specs.declared.Payload.the-variants.{Nothing as NoPayload, Words as PayloadWords}
+use Rattle.chain.specs.declared.Payload.the-variants.{Nothing as NoPayload}
 use Rattle.chain.specs.declared.StepAnswer.the-variants.{Completed}
 use Rattle.chain.specs.declared.StepResult.{StepResult}
 use Rattle.chain.specs.declared.State.{State}
 use Rattle.fields.specs.Memory.{longAt}
 use Rattle.chain.specs.Setters.{withTag}
 use Rattle.chain.specs.Tags.{qwcOf, idOf, addrOf, sprOf, usesAddr, payloadAt, nextTadr, endsChain, nextStack, tagWordsOf, payloadOf, tagRefusal, tagState, stepResult, tagRead, tagStep}
-use Rattle.chain.specs.Step.{Machine, machine, Stepped, stepped, steppedBy, pendingOrTag, stepOf}
+use Rattle.chain.specs.Step.{stepped, steppedBy, pendingOrTag, stepOf}
 use Rattle.chain.specs.Run.{done}
 use Rattle.conformance.proofs.FeedLaws.{pending, pending-some}
 

@@ -1,47 +1,41 @@
 -- Demand 3.
-use mathlib.Core.Path.{_≡_, refl, sym, ap, _∙_}
-use mathlib.Core.Bool.{Bool, true, false, not, _&&_, _||_}
+use mathlib.Core.Path.{_≡_, refl, ap, _∙_}
+use mathlib.Core.Bool.{false, _&&_}
 use mathlib.Core.List.{List, [], _∷_, _++_}
-use Prim.Native.Nat.{ℕ, zero, suc, _+_, _*_, _-_, _/_, _^_, _<_, _≤_}
-use native.Mathlib.Nat.{add-zero, zero-add, add-sub-of-le}
+use Prim.Native.Nat.{ℕ, _+_, _*_, _-_, _≤_}
+use native.Mathlib.Nat.{add-zero}
 use native.Mathlib.Omega.{arith}
 use lib.ListN.{length, take, drop, length-append, length-drop}
-use lib.Seq.{sets, take-at, drop-at, length-sets}
+use lib.Seq.{take-at, drop-at}
 use lib.Dec.{ltb}
 use Rattle.fields.specs.Fields.{if}
 use Rattle.fields.proofs.ChoiceLaws.{if-ind-by}
-use Rattle.gif.specs.declared.Place.the-variants.{Idle}
 use Rattle.gif.proofs.RangeLaws.{log-fits}
-use Rattle.vif.specs.declared.Waiting.the-variants.{Nothing}
-use Rattle.vif.specs.Step.{Lent, lent}
+use Rattle.memories.specs.Lengths.{Lent, lent}
 use Rattle.chain.specs.declared.Answer.the-variants.{Done}
-use Rattle.chain.specs.declared.StartAnswer.{StartAnswer}
-use Rattle.chain.specs.declared.StartAnswer.the-variants.{Started, Refused}
+use Rattle.chain.specs.declared.StartAnswer.the-variants.{Started}
 use Rattle.chain.specs.declared.StartResult.{StartResult}
 use Rattle.chain.specs.declared.State.{State}
 use Rattle.chain.specs.Range.{entryRefusal, stateInRange, startInRange}
-use Rattle.chain.specs.Start.{startResult, startedFrom, startOf}
-use Rattle.chain.specs.Step.{Machine, machine}
+use Rattle.chain.specs.Start.{startedFrom, startOf}
+use Rattle.chain.specs.Step.{machine}
 use Rattle.chain.specs.Run.{Ran, ran, done, stepsOf, runOf}
-use Rattle.chain.specs.Inner.{Ready}
-use Rattle.chain.proofs.ReadyLaws.{Facts, facts-of}
+use Rattle.chain.proofs.ReadyLaws.{facts-of}
 use Rattle.chain.proofs.RunLaws.{plus, run-done}
 use Rattle.chain.proofs.Theorems.{run-from}
-use Rattle.sheet.specs.declared.BuildAnswer.{BuildAnswer}
-use Rattle.sheet.specs.declared.BuildAnswer.the-variants.{Built, Refused as BuildRefused}
+use Rattle.sheet.specs.declared.BuildAnswer.the-variants.{Built}
 use Rattle.sheet.specs.Records.{Record}
 use Rattle.sheet.specs.Reader.{Contents, valid, refused, contentsOf}
-use Rattle.sheet.specs.Whole.{Bytes, AllMeet, sheetBytes}
 use Rattle.sheet.specs.Sizes.{sheetSteps, sheetEntries}
 use Rattle.sheet.specs.Layout.{chainOf}
-use Rattle.sheet.specs.Build.{Left, left, stored, builtFrom, buildOf}
+use Rattle.sheet.specs.Build.{Left, builtFrom, buildOf}
 use Rattle.sheet.specs.Meaning.{Entry, Plain, plain, meaningOf}
 use Rattle.sheet.specs.Results.{numbersOf, entriesIn, logWith}
 use Rattle.sheet.specs.Fed.{Fed, fed, fedAll}
 use Rattle.sheet.proofs.WholeLaws.{reader-loses-nothing}
 use Rattle.sheet.proofs.MeaningLaws.{meaning-count, in-count, log-same, numbers-length}
 use Rattle.sheet.proofs.FedLaws.{fedPlain, fed-sheet}
-use Rattle.conformance.specs.Demand.{recordsIn, recordsOf, stepsMeant, meansFrom, Typed, Premises, runFrom, Conclusion}
+use Rattle.conformance.specs.Demand.{recordsOf, meansFrom, Typed, Premises, runFrom, Conclusion}
 use Rattle.conformance.proofs.WordLaws.{octets}
 use Rattle.conformance.proofs.TagLaws.{IdleAt}
 use Rattle.conformance.proofs.SheetLaws.{Ended, sheet-ends}
@@ -146,7 +140,7 @@ module _ (sheet output main : List ℕ) (a size allowance : ℕ) (s : State) (m 
   passed = rw begun-same at (p .entered)
 
   holds : 2 * s .used ≤ length (m .log)
-  holds = log-fits (m .log) (s .used) (facts-of {main = main} {s = begun} {m = m} (record { passed = passed }) .logged) .holds
+  holds = log-fits (m .log) (s .used) (facts-of {main = main} {s = begun} {m = m} (record { passed = passed }) .fit .logged) .holds
 
   abbrev means : Plain
   means = meaningOf rs (plain (m .mem) (m .code) (entriesIn (m .log) (s .used)))

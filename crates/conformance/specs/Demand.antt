@@ -6,8 +6,8 @@ use mathlib.Core.List.{List, [], _++_}
 use mathlib.Core.Path.{_≡_}
 use lib.ListN.{length, take, drop}
 use Rattle.gif.specs.declared.Place.the-variants.{Idle}
+use Rattle.memories.specs.Lengths.{Lent}
 use Rattle.vif.specs.declared.Waiting.the-variants.{Nothing}
-use Rattle.vif.specs.Step.{Lent}
 use Rattle.chain.specs.declared.Answer.the-variants.{Done}
 use Rattle.chain.specs.declared.StartAnswer.the-variants.{Started}
 use Rattle.chain.specs.declared.State.{State}

@@ -1,26 +1,21 @@
 -- What the inner functions promise.
 use Prim.Native.Nat.{ℕ}
-use mathlib.Core.Bool.{not}
 use mathlib.Core.List.{List, _++_}
 use lib.ListN.{length, take, drop}
-use lib.Dec.{eqb, ltb}
+use lib.Dec.{ltb}
 use Rattle.fields.specs.Fields.{if}
-use Rattle.gif.specs.Log.{logRefused}
-use Rattle.vif.specs.Step.{Lent}
+use Rattle.fields.specs.Refusals.{mainLength}
+use Rattle.memories.specs.declared.VifUnit.the-variants.{Vif1}
+use Rattle.memories.specs.Lengths.{Lent, lengthsRefusal}
 use Rattle.chain.specs.declared.State.{State}
 use Rattle.chain.specs.Range.{mainRefused}
 use Rattle.sheet.specs.Build.{Left, left, buildOf}
 use Rattle.conformance.specs.declared.PlayAnswer.the-variants.{Refused}
 use Rattle.conformance.specs.declared.PlayResult.{PlayResult}
 
--- the refusal of the lengths, 0 where there is none
-unfoldable pub lengthsRefusal : List ℕ → Lent → ℕ → ℕ
-lengthsRefusal main m used =
-    if (mainRefused (length main)) 1
-    (if (not (eqb (length (m .mem)) 4096)) 2
-    (if (not (eqb (length (m .code)) 16384)) 3
-    (if (logRefused (m .log) used) 4
-    0)))
+-- the refusal of the memories' lengths, main memory first, 0 where there is none
+unfoldable pub memoriesRefusal : List ℕ → Lent → ℕ → ℕ
+memoriesRefusal main m used = if (mainRefused (length main)) mainLength (lengthsRefusal Vif1 m used)
 
 abbrev pub refusedWith : ℕ → ℕ → State → PlayResult
 refusedWith n offset s = record { answer = Refused n offset; state = s; steps = 0 }

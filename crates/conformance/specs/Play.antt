@@ -6,10 +6,11 @@ use mathlib.Core.Path.{_≡_}
 use lib.ListN.{length, take, drop}
 use lib.Dec.{eqb}
 use Rattle.fields.specs.Fields.{if}
-use Rattle.gif.specs.Log.{logRefused}
+use Rattle.fields.specs.Refusals.{mainLength, outOfRange}
 use Rattle.gif.specs.declared.Place.the-variants.{Idle}
+use Rattle.memories.specs.declared.VifUnit.the-variants.{Vif1}
+use Rattle.memories.specs.Lengths.{Lent, lengthsRefusal}
 use Rattle.vif.specs.declared.Waiting.the-variants.{Nothing}
-use Rattle.vif.specs.Step.{Lent}
 use Rattle.chain.specs.declared.Answer.the-variants.{Done}
 use Rattle.chain.specs.declared.State.{State}
 use Rattle.chain.specs.Range.{mainRefused, stateInRange, startInRange}
@@ -26,12 +27,10 @@ use Rattle.conformance.specs.declared.PlayAnswer.the-variants.{Ended, Re
 -- the refusals before the sheet's: 1 to 4 as a run refuses lengths, 5 as a start refuses the state or the address; 0 where there is none
 unfoldable pub playRefusal : List ℕ → Lent → State → ℕ → ℕ
 playRefusal main m s a =
-    if (mainRefused (length main)) 1
-    (if (not (eqb (length (m .mem)) 4096)) 2
-    (if (not (eqb (length (m .code)) 16384)) 3
-    (if (logRefused (m .log) (s .used)) 4
-    (if (not (stateInRange s && startInRange 1 a false)) 5
-    0))))
+    if (mainRefused (length main)) mainLength
+    (if (not (eqb (lengthsRefusal Vif1 m (s .used)) 0)) (lengthsRefusal Vif1 m (s .used))
+    (if (not (stateInRange s && startInRange 1 a false)) outOfRange
+    0))
 
 -- what is left: the answer, the state, the step count, main memory and the other memories
 pub record Played : Type 0 where

@@ -7,9 +7,11 @@ use mathlib.Core.Path.{_≡_}
 use lib.ListN.{take, drop, replicate}
 use lib.Dec.{eqb}
 use Rattle.fields.specs.Fields.{if}
+use Rattle.memories.specs.declared.VifUnit.the-variants.{Vif1}
+use Rattle.memories.specs.Units.{quadwords, instructions, dataWords, codeBytes}
+use Rattle.memories.specs.Lengths.{Lent, lent}
 use Rattle.vif.specs.declared.Waiting.{Waiting}
 use Rattle.vif.specs.declared.Waiting.the-variants.{Nothing, MaskDue, RowDue, ColDue, MpgDue, DirectDue, DirecthlDue, UnpackDue}
-use Rattle.vif.specs.Step.{Lent, lent}
 use Rattle.fields.specs.Memory.{wordAt}
 use Rattle.chain.specs.Start.{resetState, startOf}
 use Rattle.chain.specs.Run.{Ran, numberOf, runOf}
@@ -34,7 +36,7 @@ AllHold (p ∷ ps) = (p .computed ≡ p .stated) × AllHold ps
 
 -- data memory, code memory and a log of four entries, all zeros
 abbrev pub blank : Lent
-blank = lent (replicate 4096 0) (replicate 16384 0) (replicate 8 0)
+blank = lent (replicate (dataWords Vif1) 0) (replicate (codeBytes Vif1) 0) (replicate 8 0)
 
 -- a chain at address 0 of main memory, started on channel 1 from reset and run
 unfoldable pub runIn : List ℕ → Ran
@@ -100,11 +102,11 @@ partsWritten size (suc n) q xs =
 
 -- the quadwords of data memory that hold something: from number q to the end, then those before q
 unfoldable pub quadwordsFrom : Ran → ℕ → List ℕ
-quadwordsFrom r q = partsWritten 4 (1024 - q) q (drop (4 * q) (r .after .memories .mem)) ++ partsWritten 4 q 0 (r .after .memories .mem)
+quadwordsFrom r q = partsWritten 4 (quadwords Vif1 - q) q (drop (4 * q) (r .after .memories .mem)) ++ partsWritten 4 q 0 (r .after .memories .mem)
 
 -- the instructions of code memory that hold something, in the same order
 unfoldable pub instructionsFrom : Ran → ℕ → List ℕ
-instructionsFrom r q = partsWritten 8 (2048 - q) q (drop (8 * q) (r .after .memories .code)) ++ partsWritten 8 q 0 (r .after .memories .code)
+instructionsFrom r q = partsWritten 8 (instructions Vif1 - q) q (drop (8 * q) (r .after .memories .code)) ++ partsWritten 8 q 0 (r .after .memories .code)
 
 -- the payload words that VIF1 waits for
 abbrev pub wordsDue : Waiting → ℕ

@@ -3,37 +3,32 @@ use super::PlayAnswer;
 use super::PlayResult;
 use chain::StartAnswer;
 use chain::State;
+use fields::refusals;
+use memories::VifUnit;
+use memories::lengths_refusal;
 use sheet::BuildAnswer;
 ghost use mathlib.Core.Path.{_≡_};
 ghost use Prim.Native.Nat.{_≤_};
-ghost use Rattle.vif.specs.Step.{lent};
+ghost use Rattle.memories.specs.Lengths.{lent};
 ghost use Rattle.sheet.specs.Build.{left};
 ghost use Rattle.conformance.specs.Play.{played, playOf};
-ghost use Rattle.conformance.specs.Inner.{lengthsRefusal, refusedWith, placeOf, builtAt};
+ghost use Rattle.conformance.specs.Inner.{memoriesRefusal, refusedWith, placeOf, builtAt};
 
-// The refusal of the lengths, 0 where there is none.
+// The refusal of the memories' lengths, 0 where there is none.
 fn length_refusal(main: &[u8], data: &[u32], code: &[u8], log: &[u64], used: u64) -> u32
-    ensures { λ r. ⌜ r ≡ lengthsRefusal (now (main .entry)) (lent (now («data» .entry)) (now (code .entry)) (now (log .entry))) used ⌝ }
+    ensures { λ r. ⌜ r
+        ≡ memoriesRefusal (now (main .entry)) (lent (now («data» .entry)) (now (code .entry)) (now (log .entry))) used ⌝ }
 {
     if main.len() == 0 {
-        return 1;
+        return refusals::MAIN_LENGTH;
     }
     if main.len() % 16 != 0 {
-        return 1;
+        return refusals::MAIN_LENGTH;
     }
     if 1048576 < main.len() {
-        return 1;
+        return refusals::MAIN_LENGTH;
     }
-    if data.len() != 4096 {
-        return 2;
-    }
-    if code.len() != 16384 {
-        return 3;
-    }
-    if gif::log_refused(log, used) {
-        return 4;
-    }
-    0
+    lengths_refusal(VifUnit::Vif1, data, code, log, used)
 }
 
 fn refused(number: u32, offset: usize, state: State) -> PlayResult
@@ -72,7 +67,9 @@ pub fn build_and_run(
     state: State,
     allowance: u64,
 ) -> PlayResult
-    ensures { λ r. ⌜ played (r .answer) (r .state) (r .steps) (now (main .exit)) (lent (now («data» .exit)) (now (code .exit)) (now (log .exit))) ≡ playOf (now (sheet .entry)) (now (main .entry)) address state (lent (now («data» .entry)) (now (code .entry)) (now (log .entry))) allowance ⌝ }
+    ensures { λ r. ⌜ played (r .answer) (r .state) (r .steps) (now (main .exit)) (lent (now («data» .exit)) (now (code .exit)) (now (log .exit)))
+        ≡ playOf (now (sheet .entry)) (now (main .entry)) address state
+        (lent (now («data» .entry)) (now (code .entry)) (now (log .entry))) allowance ⌝ }
 {
     let number = length_refusal(main, data, code, log, state.used);
     if number != 0 {

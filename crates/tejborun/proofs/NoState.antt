@@ -1,15 +1,18 @@
 -- A block that is no state's: a call on it is refused with 1 to 5 and changes no memory and no block.
 use mathlib.Core.Path.{_≡_, refl}
-use mathlib.Core.Bool.{Bool, true, false}
+use mathlib.Core.Bool.{Bool, true, false, not}
 use mathlib.Core.List.{List, [], _∷_}
 use Prim.Native.Nat.{ℕ, _≤_}
 use native.Mathlib.Omega.{arith}
-use borrow.Author.Tests.{eq-eqb, ne-eqb, le-ltb}
+use borrow.Author.Tests.{eqb-false, eq-eqb, ne-eqb, le-ltb}
 use lib.ListN.{length}
-use lib.Dec.{ltb}
+use lib.Dec.{eqb, ltb}
 use Rattle.fields.specs.Fields.{if}
+use Rattle.fields.specs.Refusals.{mainLength, logLength, outOfRange}
 use Rattle.fields.proofs.ChoiceLaws.{if-ind}
-use Rattle.vif.specs.Step.{Lent}
+use Rattle.memories.specs.declared.VifUnit.the-variants.{Vif1}
+use Rattle.memories.specs.Lengths.{Lent}
+use Rattle.memories.proofs.LengthLaws.{lengths-most}
 use Rattle.chain.specs.declared.State.{State}
 use Rattle.chain.specs.Range.{channelInRange, startInRange, stateInRange, entryRefusal}
 use Rattle.state_block.specs.Sizes.{stateSize}
@@ -27,14 +30,15 @@ pub record OneToFive (n : ℕ) : Type 0 where
   pub some : 1 ≤ n
   pub most : n ≤ 5
 
--- the fifth test in a row holds at the latest
-by-tests : (b₁ b₂ b₃ b₄ b₅ : Bool) (rest : ℕ) → b₅ ≡ true → OneToFive (if b₁ 1 (if b₂ 2 (if b₃ 3 (if b₄ 4 (if b₅ 5 rest)))))
+-- the lengths are refused with 4 at most, and the last test holds at the latest
+by-tests : (b t : Bool) (r rest : ℕ) → r ≤ logLength → t ≡ true → OneToFive (if b mainLength (if (not (eqb r 0)) r (if t outOfRange rest)))
 unfolding if
-by-tests true b₂ b₃ b₄ b₅ rest h = record { some = omega arith; most = omega arith }
-by-tests false true b₃ b₄ b₅ rest h = record { some = omega arith; most = omega arith }
-by-tests false false true b₄ b₅ rest h = record { some = omega arith; most = omega arith }
-by-tests false false false true b₅ rest h = record { some = omega arith; most = omega arith }
-by-tests false false false false b₅ rest h = rw h (record { some = omega arith; most = omega arith })
+by-tests true t r rest l h = record { some = omega arith; most = omega arith }
+by-tests false t r rest l h = go (eqb r 0) refl
+  where
+    go : (c : Bool) → eqb r 0 ≡ c → OneToFive (if (not (eqb r 0)) r (if t outOfRange rest))
+    go true q = rw (q, h) (record { some = omega arith; most = omega arith })
+    go false q = let z = eqb-false r 0 q in rw q (record { some = omega arith; most = omega arith })
 
 -- the state that stands for none is out of range
 none-out : (used : ℕ) → stateInRange (noState used) ≡ false
@@ -44,11 +48,11 @@ none-out used = refl
 module _ (main : List ℕ) (m : Lent) (s : State) (h : stateInRange s ≡ false) where
   entry-refused : OneToFive (entryRefusal main m s)
   unfolding entryRefusal
-  entry-refused = by-tests _ _ _ _ _ _ (rw h)
+  entry-refused = by-tests _ _ _ _ (lengths-most Vif1 m (s .used)) (rw h)
 
   play-refused : (a : ℕ) → OneToFive (playRefusal main m s a)
   unfolding playRefusal
-  play-refused a = by-tests _ _ _ _ _ _ (rw h)
+  play-refused a = by-tests _ _ _ _ (lengths-most Vif1 m (s .used)) (rw h)
 
 not-zero : {n : ℕ} → OneToFive n → n ≡ 0 → ⊥
 not-zero h z = omega arith

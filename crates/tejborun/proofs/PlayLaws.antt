@@ -5,7 +5,7 @@ use Prim.Native.Nat.{ℕ, _<_, _≤_}
 use borrow.Author.Tests.{eq-eqb, ne-eqb, lt-ltb, le-ltb}
 use lib.ListN.{length}
 use Rattle.fields.specs.Fields.{if}
-use Rattle.vif.specs.Step.{Lent}
+use Rattle.memories.specs.Lengths.{Lent}
 use Rattle.state_block.specs.declared.ReadState.{ReadState}
 use Rattle.state_block.specs.Sizes.{stateSize}
 use Rattle.state_block.specs.StateBlock.{stateInBlock}

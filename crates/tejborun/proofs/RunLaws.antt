@@ -6,7 +6,7 @@ use borrow.Author.Tests.{eq-eqb, ne-eqb, lt-ltb, le-ltb}
 use lib.ListN.{length}
 use lib.Dec.{eqb}
 use Rattle.fields.specs.Fields.{if}
-use Rattle.vif.specs.Step.{Lent}
+use Rattle.memories.specs.Lengths.{Lent}
 use Rattle.chain.specs.declared.State.{State}
 use Rattle.state_block.specs.declared.ReadState.{ReadState}
 use Rattle.chain.specs.declared.StartResult.{StartResult}

@@ -5,7 +5,7 @@ use mathlib.Core.List.{List, [], _∷_}
 use lib.ListN.{length}
 use lib.Dec.{ltb}
 use Rattle.fields.specs.Fields.{if}
-use Rattle.vif.specs.Step.{Lent}
+use Rattle.memories.specs.Lengths.{Lent}
 use Rattle.state_block.specs.declared.ReadState.{ReadState}
 use Rattle.state_block.specs.StateBlock.{stateInBlock}
 use Rattle.conformance.specs.declared.PlayAnswer.{PlayAnswer}

@@ -5,7 +5,7 @@ use mathlib.Core.List.{List, [], _∷_}
 use lib.ListN.{length}
 use lib.Dec.{eqb, ltb}
 use Rattle.fields.specs.Fields.{if}
-use Rattle.vif.specs.Step.{Lent}
+use Rattle.memories.specs.Lengths.{Lent}
 use Rattle.state_block.specs.declared.ReadState.{ReadState}
 use Rattle.chain.specs.declared.StartResult.{StartResult}
 use Rattle.state_block.specs.StateBlock.{stateBlock, stateInBlock}

@@ -4,7 +4,7 @@ use mathlib.Core.List.{List, [], _∷_}
 use lib.ListN.{length}
 use lib.Dec.{ltb}
 use Rattle.fields.specs.Fields.{if}
-use Rattle.vif.specs.Step.{Lent, lent}
+use Rattle.memories.specs.Lengths.{Lent, lent}
 use Rattle.sheet.specs.declared.StepsAnswer.{StepsAnswer}
 use Rattle.sheet.specs.declared.StepsAnswer.the-variants.{Steps, Refused as StepsRefused}
 use Rattle.sheet.specs.declared.MeaningAnswer.{MeaningAnswer}

@@ -6,7 +6,7 @@ use conformance::PlayAnswer;
 use state_block::STATE_WORDS;
 use state_block::state_in_block;
 ghost use mathlib.Core.Path.{_≡_};
-ghost use Rattle.vif.specs.Step.{lent};
+ghost use Rattle.memories.specs.Lengths.{lent};
 ghost use Rattle.conformance.specs.Play.{playNumber};
 ghost use Rattle.tejborun.specs.Play.{playOffset, left, playCall};
 

@@ -7,7 +7,7 @@ use chain::StartAnswer;
 use state_block::STATE_WORDS;
 use state_block::state_in_block;
 ghost use mathlib.Core.Path.{_≡_};
-ghost use Rattle.vif.specs.Step.{lent};
+ghost use Rattle.memories.specs.Lengths.{lent};
 ghost use Rattle.chain.specs.Start.{startNumber};
 ghost use Rattle.chain.specs.Run.{numberOf};
 ghost use Rattle.tejborun.specs.Runs.{blocked, resetCall, startCall, left, runCall};

@@ -4,7 +4,7 @@ use sheet::MeaningAnswer;
 use sheet::StepsAnswer;
 ghost use mathlib.Core.Path.{_≡_};
 ghost use Rattle.sheet.specs.Build.{buildOf, exportedNumber};
-ghost use Rattle.vif.specs.Step.{lent};
+ghost use Rattle.memories.specs.Lengths.{lent};
 ghost use Rattle.tejborun.specs.Buffers.{answered};
 ghost use Rattle.tejborun.specs.Sheets.{stepsCall, meant, meaningCall};
 

@@ -4,6 +4,7 @@ use super::Running;
 use super::input::nth;
 use cases::tell_changes;
 use gif::Path;
+use memories::VifUnit;
 use state_block::PATH_WORDS;
 use state_block::UNIT_WORDS;
 use vif::Incoming;
@@ -71,7 +72,7 @@ fn call(
     let i = std::num::wrapping_add_u32(case.groups, s.next);
     let number = std::num::wrapping_add_u32(case.number, s.next);
     let next = incoming(input, i, number);
-    let r = vif::take(unit, path, next, data, code, log, s.used);
+    let r = vif::take(VifUnit::Vif1, unit, path, next, data, code, log, s.used);
     let answer = r.answer;
     let unit2 = r.unit;
     let path2 = r.path2;
