@@ -332,7 +332,7 @@ module _ (size a : ℕ) (r : Registers) (hc : r .cl ≡ 1) (hw : r .wl ≡ 1) (h
       → writeVector size a r i fields w ≡ written (w .row) (storeQuadword (w .mem) ((a + i) % size) fields)
   unfolding writeVector
   plain-vector i fields w h =
-      rw (hc, hw, hm, hk, plain-position size a i, plain-rows fields (w .row) h, plain-quadword (w .mem) fields (w .row) (codeRow 0 _) _ _ 0 (plain-codes _))
+      rw (hc, hw, hm, hk, plain-position size a i, plain-rows (codeRow 0 _) fields (w .row) h, plain-quadword (w .mem) fields (w .row) (codeRow 0 _) _ _ 0 (plain-codes _))
 
   pub plain-written : (vec : ℕ → List ℕ) (n i : ℕ) (w : Written) → length (w .row) ≡ 4
       → writeVectors size a r vec n i w ≡ written (w .row) (copyVectors size a vec n i (w .mem))

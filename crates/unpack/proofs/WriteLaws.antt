@@ -1,6 +1,6 @@
 -- Writes from what their parts give, and one write after another.
-use mathlib.Core.Path.{_≡_, refl, sym, _∙_}
-use mathlib.Core.Bool.{true}
+use mathlib.Core.Path.{_≡_, refl, sym, ap, _∙_}
+use mathlib.Core.Bool.{true, _&&_}
 use mathlib.Core.List.{List, [], _∷_}
 use Prim.Native.Nat.{ℕ, zero, suc, _+_, _*_, _-_, _/_, _%_, _<_, _≤_}
 use native.Mathlib.Nat.{mul-le-mul, div-le-self, mod-lt, min-le-right}
@@ -10,7 +10,7 @@ use borrow.Author.Tests.{eqb-true}
 use lib.ListN.{length, getD, set}
 use lib.Dec.{eqb}
 use Rattle.fields.specs.Fields.{if}
-use Rattle.fields.proofs.ChoiceLaws.{and-left, and-right}
+use Rattle.fields.proofs.ChoiceLaws.{if-ind-by, and-left, and-right}
 use Rattle.unpack.specs.declared.Registers.{Registers}
 use Rattle.unpack.specs.Position.{positionOf}
 use Rattle.unpack.specs.Mask.{rowOfCycle, codeRow, unfolded}
@@ -45,14 +45,14 @@ pub position-inside : (size a cl wl i : ℕ) → 1 ≤ size → positionOf size 
 unfolding positionOf
 position-inside size a cl wl i h = mod-lt (a + i / wl * cl + i % wl) h
 
-pub rows : (mode : ℕ) (fields row : List ℕ) {a b x y : ℕ}
-    → a ≡ rowOf mode (getD fields 0 0) (getD row 0 0)
-    → b ≡ rowOf mode (getD fields 1 0) (getD row 1 0)
-    → x ≡ rowOf mode (getD fields 2 0) (getD row 2 0)
-    → y ≡ rowOf mode (getD fields 3 0) (getD row 3 0)
-    → a ∷ b ∷ x ∷ y ∷ [] ≡ rowsAfter mode fields row
+pub rows : (codes : List ℕ) (mode : ℕ) (fields row : List ℕ) {a b x y : ℕ}
+    → a ≡ rowOf (getD codes 0 0) mode (getD fields 0 0) (getD row 0 0)
+    → b ≡ rowOf (getD codes 1 0) mode (getD fields 1 0) (getD row 1 0)
+    → x ≡ rowOf (getD codes 2 0) mode (getD fields 2 0) (getD row 2 0)
+    → y ≡ rowOf (getD codes 3 0) mode (getD fields 3 0) (getD row 3 0)
+    → a ∷ b ∷ x ∷ y ∷ [] ≡ rowsAfter codes mode fields row
 unfolding rowsAfter
-rows mode fields row ea eb ex ey = rw (ea, eb, ex, ey)
+rows codes mode fields row ea eb ex ey = rw (ea, eb, ex, ey)
 
 -- what four fields leave
 pub stored : (m fields row codes : List ℕ) (q col mode : ℕ) {m1 m2 m3 m4 : List ℕ}
@@ -75,14 +75,19 @@ plain-fits codes mode h =
     let h3 = and-right (eqb (getD codes 1 0) 0) _ h2 in
     (eqb-true mode 0 (and-left _ _ h), eqb-true _ 0 (and-left _ _ h1), eqb-true _ 0 (and-left _ _ h2), eqb-true _ 0 (and-left _ _ h3), eqb-true _ 0 (and-right (eqb (getD codes 2 0) 0) _ h3))
 
-pub plain-rows : (fields row : List ℕ) → length row ≡ 4 → rowsAfter 0 fields row ≡ row
-unfolding rowsAfter rowOf if
-plain-rows fields [] h = absurd (omega arith)
-plain-rows fields (a ∷ []) h = absurd (omega arith)
-plain-rows fields (a ∷ b ∷ []) h = absurd (omega arith)
-plain-rows fields (a ∷ b ∷ c ∷ []) h = absurd (omega arith)
-plain-rows fields (a ∷ b ∷ c ∷ d ∷ []) h = refl
-plain-rows fields (a ∷ b ∷ c ∷ d ∷ e ∷ row) h = absurd (omega arith)
+-- in MODE 0 ROW stays, whatever the code
+still-row : (code x row : ℕ) → rowOf code 0 x row ≡ row
+unfolding rowOf
+still-row code x row = if-ind-by (λ (y : ℕ). y ≡ row) (eqb code 0 && eqb 0 2) (λ t. absurd (let z : _≡_ {A = ℕ} 0 1 = let f = and-right (eqb code 0) _ t in cc in omega arith)) (λ f. refl)
+
+pub plain-rows : (codes fields row : List ℕ) → length row ≡ 4 → rowsAfter codes 0 fields row ≡ row
+unfolding rowsAfter
+plain-rows codes fields [] h = absurd (omega arith)
+plain-rows codes fields (a ∷ []) h = absurd (omega arith)
+plain-rows codes fields (a ∷ b ∷ []) h = absurd (omega arith)
+plain-rows codes fields (a ∷ b ∷ c ∷ []) h = absurd (omega arith)
+plain-rows codes fields (a ∷ b ∷ c ∷ d ∷ []) h = simp still-row
+plain-rows codes fields (a ∷ b ∷ c ∷ d ∷ e ∷ row) h = absurd (omega arith)
 
 plain-put : (m : List ℕ) (at x row col : ℕ) → putField m at 0 0 x row col ≡ set m at x
 unfolding putField fieldOf dataOf if
@@ -96,9 +101,9 @@ plain-quadword m fields row codes q col mode h =
     simp (p .0, p .1, p .2, p .3, p .4, plain-put)
 
 pub plain-stored : (mem fields row codes : List ℕ) (q col mode : ℕ) {m : List ℕ} → length row ≡ 4 → plain codes mode ≡ true
-    → m ≡ storeQuadword mem q fields → (row ≡ rowsAfter mode fields row) × (m ≡ writtenAt mem q fields row col codes mode)
+    → m ≡ storeQuadword mem q fields → (row ≡ rowsAfter codes mode fields row) × (m ≡ writtenAt mem q fields row col codes mode)
 plain-stored mem fields row codes q col mode l h e =
-    (rw (plain-fits codes mode h .0) (sym (plain-rows fields row l)), e ∙ sym (plain-quadword mem fields row codes q col mode h))
+    (rw (plain-fits codes mode h .0) (sym (plain-rows codes fields row l)), e ∙ sym (plain-quadword mem fields row codes q col mode h))
 
 -- ---- writes
 
@@ -110,7 +115,7 @@ row-chosen mask wl i ec er = rw (ec, er) (row-at mask (rowOfCycle wl i) (row-few
 -- one write
 pub vector-written : (size a i : ℕ) (r : Registers) (fields row mem : List ℕ) {codes : List ℕ} {q col : ℕ} {rs m : List ℕ}
     → q ≡ positionOf size a (r .cl) (r .wl) i → codes ≡ codeRow (r .mask) (rowOfCycle (r .wl) i) → col ≡ getD (r .col) (rowOfCycle (r .wl) i) 0
-    → rs ≡ rowsAfter (r .mode) fields row → m ≡ writtenAt mem q fields row col codes (r .mode)
+    → rs ≡ rowsAfter codes (r .mode) fields row → m ≡ writtenAt mem q fields row col codes (r .mode)
     → written rs m ≡ writeVector size a r i fields (written row mem)
 unfolding writeVector
 vector-written size a i r fields row mem eq ec el es em = rw (es, em, eq, ec, el)

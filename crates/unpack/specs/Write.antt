@@ -1,5 +1,6 @@
 -- A vector's write: document 01's "Code 0 data, 1 ROW of the field, 2 COL of the row, 3 field unchanged" and the modes.
 use Prim.Native.Nat.{ℕ, zero, suc, _+_, _*_, _%_, _^_}
+use mathlib.Core.Bool.{_&&_, _||_}
 use mathlib.Core.List.{List, [], _∷_}
 use lib.ListN.{getD, set}
 use lib.Dec.{eqb}
@@ -12,26 +13,26 @@ use Rattle.unpack.specs.Mask.{rowOfCycle, codeRow}
 unfoldable pub added : ℕ → ℕ → ℕ
 added x y = (x + y) % 2 ^ 32
 
--- "MODE 2 replaces ROW of each of the four fields by data + ROW"
-unfoldable pub rowOf : ℕ → ℕ → ℕ → ℕ
-rowOf mode x row = if (eqb mode 2) (added x row) row
+-- Document 02, request 2: "in MODE 2 a field's ROW is replaced only where that field's mask code is 0". It supersedes document 01's "MODE 2 replaces ROW of
+-- each of the four fields by data + ROW", from which the new value, data + ROW, stays.
+unfoldable pub rowOf : ℕ → ℕ → ℕ → ℕ → ℕ
+rowOf code mode x row = if (eqb code 0 && eqb mode 2) (added x row) row
 
--- "MODE 1: code 0 gives data + ROW of the field. MODE 2 ..., and a field of code 0 gets the new ROW"
+-- "MODE 1: code 0 gives data + ROW of the field. MODE 2 ..., and a field of code 0 gets the new ROW", which is data + ROW too
 unfoldable pub dataOf : ℕ → ℕ → ℕ → ℕ
-dataOf mode x row = if (eqb mode 1) (added x row) (if (eqb mode 2) (rowOf mode x row) x)
+dataOf mode x row = if (eqb mode 1 || eqb mode 2) (added x row) x
 
 -- "Code 0 data, 1 ROW of the field, 2 COL of the row, 3 field unchanged"; "codes 1 and 2 use ROW and COL as before this vector"
 unfoldable pub fieldOf : ℕ → ℕ → ℕ → ℕ → ℕ → ℕ → ℕ
 fieldOf code mode x row col old =
     if (eqb code 0) (dataOf mode x row) (if (eqb code 1) row (if (eqb code 2) col old))
 
-unfoldable pub rowsAfter : ℕ → List ℕ → List ℕ → List ℕ
-rowsAfter mode fields row =
-    rowOf mode (getD fields 0 0) (getD row 0 0)
-    ∷ rowOf mode (getD fields 1 0) (getD row 1 0)
-    ∷ rowOf mode (getD fields 2 0) (getD row 2 0)
-    ∷ rowOf mode (getD fields 3 0) (getD row 3 0)
-    ∷ []
+-- ROW after a write with the codes of its four fields
+unfoldable pub rowsAfter : List ℕ → ℕ → List ℕ → List ℕ → List ℕ
+rowsAfter codes mode fields row = next 0 ∷ next 1 ∷ next 2 ∷ next 3 ∷ []
+  where
+    next : ℕ → ℕ
+    next f = rowOf (getD codes f 0) mode (getD fields f 0) (getD row f 0)
 
 -- the memory with a field written
 unfoldable pub putField : List ℕ → ℕ → ℕ → ℕ → ℕ → ℕ → ℕ → List ℕ
@@ -56,7 +57,7 @@ written row mem = record { row = row; mem = mem }
 -- write i of an UNPACK: its quadword, its mask row and "COL of the row" by i, in a memory of `size` quadwords
 unfoldable pub writeVector : ℕ → ℕ → Registers → ℕ → List ℕ → Written → Written
 writeVector size a r i fields w =
-    written (rowsAfter (r .mode) fields (w .row))
+    written (rowsAfter (codeRow (r .mask) (rowOfCycle (r .wl) i)) (r .mode) fields (w .row))
     (writtenAt (w .mem) (positionOf size a (r .cl) (r .wl) i) fields (w .row) (getD (r .col) (rowOfCycle (r .wl) i) 0)
     (codeRow (r .mask) (rowOfCycle (r .wl) i))
     (r .mode))

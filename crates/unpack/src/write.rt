@@ -18,9 +18,12 @@ fn add(x: u32, y: u32) -> u32
     std::num::wrapping_add_u32(x, y)
 }
 
-fn next_row(mode: u32, x: u32, row: u32) -> u32
-    ensures { λ r. ⌜ r ≡ rowOf mode x row ⌝ }
+fn next_row(code: u32, mode: u32, x: u32, row: u32) -> u32
+    ensures { λ r. ⌜ r ≡ rowOf code mode x row ⌝ }
 {
+    if code != 0 {
+        return row;
+    }
     if mode == 2 { add(x, row) } else { row }
 }
 
@@ -29,7 +32,7 @@ fn data_of(mode: u32, x: u32, row: u32) -> u32
 {
     match mode {
         1 => add(x, row),
-        2 => next_row(2, x, row),
+        2 => add(x, row),
         _ => x,
     }
 }
@@ -52,14 +55,14 @@ fn put_field(data: &mut [u32], at: usize, code: u32, mode: u32, x: u32, row: u32
     data[at] = field(code, mode, x, row, col, data[at]);
 }
 
-fn next_rows(mode: u32, fields: [u32; 4], row: [u32; 4]) -> [u32; 4]
-    ensures { λ r. ⌜ r ≡ rowsAfter mode fields row ⌝ }
+fn next_rows(codes: [u32; 4], mode: u32, fields: [u32; 4], row: [u32; 4]) -> [u32; 4]
+    ensures { λ r. ⌜ r ≡ rowsAfter codes mode fields row ⌝ }
 {
     [
-        next_row(mode, fields[0], row[0]),
-        next_row(mode, fields[1], row[1]),
-        next_row(mode, fields[2], row[2]),
-        next_row(mode, fields[3], row[3]),
+        next_row(codes[0], mode, fields[0], row[0]),
+        next_row(codes[1], mode, fields[1], row[1]),
+        next_row(codes[2], mode, fields[2], row[2]),
+        next_row(codes[3], mode, fields[3], row[3]),
     ]
 }
 
@@ -124,14 +127,14 @@ fn write_quadword(
     mode: u32,
 ) -> [u32; 4]
     requires { ⌜ 4 * quad + 4 ≤ length (now «data») ⌝ }
-    ensures { λ r. ⌜ (r ≡ rowsAfter mode fields row) × (now («data» .exit) ≡ writtenAt (now («data» .entry)) quad fields row col codes mode) ⌝ }
+    ensures { λ r. ⌜ (r ≡ rowsAfter codes mode fields row) × (now («data» .exit) ≡ writtenAt (now («data» .entry)) quad fields row col codes mode) ⌝ }
 {
     if is_plain(codes, mode) {
         store_quadword(data, quad, fields);
         return row;
     }
     put_fields(data, quad, fields, row, col, codes, mode);
-    next_rows(mode, fields, row)
+    next_rows(codes, mode, fields, row)
 }
 
 // A place modulo the memory's size.
