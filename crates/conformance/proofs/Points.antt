@@ -34,7 +34,7 @@ use Rattle.sheet.specs.Sizes.{sheetSteps}
 use Rattle.sheet.specs.Layout.{laidOut, chainOf}
 use Rattle.sheet.specs.Build.{buildOf}
 use Rattle.conformance.specs.Demand.{recordsOf}
-use Rattle.conformance.specs.Points.{AllHold, runIn, runOfWords, builtFrom, sizeOf, chainBytes, wordsAt, chainWords, runOfSheet, stepsFor, loggedIn, quadwordIn, instructionIn, allZero, partsWritten, quadwordsFrom, instructionsFrom, dueIn, rowIn, answerIn, points}
+use Rattle.conformance.specs.Points.{AllHold, runIn, runOfWords, builtFrom, sizeOf, chainBytes, wordsAt, chainWords, runOfSheet, stepsFor, loggedIn, quadwordIn, instructionIn, allZero, partsWritten, quadwordsFrom, instructionsFrom, dueIn, rowIn, answerIn, points, requestPoints}
 
 -- ---- the definitions that the table computes through
 
@@ -117,3 +117,14 @@ start-record = (refl, (refl, (refl, data-record)))
 pub points-hold : AllHold points
 unfolding opened
 points-hold = (refl, (refl, (refl, start-record)))
+
+-- ---- document 02's requests
+
+requestsOpened : Unit {0}
+unfolding opened requestPoints
+requestsOpened = tt
+
+-- every point of a request holds
+pub request-points-hold : AllHold requestPoints
+unfolding requestsOpened
+request-points-hold = (refl, (refl, (refl, (refl, (refl, (refl, tt))))))

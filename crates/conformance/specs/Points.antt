@@ -223,3 +223,31 @@ points =
     ∷ point (instructionIn (runOfWords 2 program) 2047) (1 ∷ 0 ∷ 0 ∷ 0 ∷ 2 ∷ 0 ∷ 0 ∷ 0 ∷ [])
     ∷ point (instructionIn (runOfWords 2 program) 0) (3 ∷ 0 ∷ 0 ∷ 0 ∷ 4 ∷ 0 ∷ 0 ∷ 0 ∷ [])
     ∷ []
+
+-- ---- points of document 02's requests
+
+-- STMASK, in each row code 0 for X, 1 for Y, 2 for Z, 3 for W; STROW 10, 20, 30, 40; STCOL 100, 200, 300, 400; STMOD 2; STCYCL 1, 1; an UNPACK of two S-16
+-- vectors, 1 and 2, to quadword 0, which are one word
+abbrev pub differencesOf : ℕ → List ℕ
+differencesOf unpack =
+    0x20000000 ∷ 0xe4e4e4e4 ∷ 0x30000000 ∷ 10 ∷ 20 ∷ 30 ∷ 40 ∷ 0x31000000 ∷ 100 ∷ 200 ∷ 300 ∷ 400 ∷ 0x05000002 ∷ 0x01000101 ∷ unpack ∷ 0x00020001 ∷ []
+
+-- with M set
+abbrev pub rowMasked : List ℕ
+rowMasked = differencesOf 0x71020000
+
+-- with M clear
+abbrev pub rowUnmasked : List ℕ
+rowUnmasked = differencesOf 0x61020000
+
+unfoldable pub requestPoints : List Point
+requestPoints =
+    -- request 2: "in MODE 2 a field's ROW is replaced only where that field's mask code is 0." Only X has code 0: 10 + 1, then 11 + 2.
+    point (rowIn (runOfWords 4 rowMasked)) (13 ∷ 20 ∷ 30 ∷ 40 ∷ [])
+    ∷ point (quadwordIn (runOfWords 4 rowMasked) 0) (11 ∷ 20 ∷ 100 ∷ 0 ∷ [])
+    ∷ point (quadwordIn (runOfWords 4 rowMasked) 1) (13 ∷ 20 ∷ 100 ∷ 0 ∷ [])
+    -- "With M clear all codes are 0.": ROW of every field moves
+    ∷ point (rowIn (runOfWords 4 rowUnmasked)) (13 ∷ 23 ∷ 33 ∷ 43 ∷ [])
+    ∷ point (quadwordIn (runOfWords 4 rowUnmasked) 0) (11 ∷ 21 ∷ 31 ∷ 41 ∷ [])
+    ∷ point (quadwordIn (runOfWords 4 rowUnmasked) 1) (13 ∷ 23 ∷ 33 ∷ 43 ∷ [])
+    ∷ []
