@@ -1,6 +1,7 @@
 //! Captures from a seed.
 
 use crate::capture_cases::{Call, Case, Standing};
+use crate::capture_points;
 use crate::chain::{self, Memories, Next, Pending, State, Tag};
 use crate::gif::{self, Format, Path, Place};
 use crate::gif_generate::{
@@ -22,6 +23,7 @@ use crate::vif_generate::{
     code_word, legal_cycle, payload_word, random_code, random_mask, random_path_block,
     random_unit_block, random_waiting_unit, stcycl, stmask_block, Taste as VifTaste, NOT_ONE,
 };
+use crate::vif_points;
 
 /// The right lengths of the memories, as cases give them.
 const DATA: u32 = DATA_WORDS as u32;
@@ -35,6 +37,7 @@ pub fn generate(seed: u64, runs: u64) -> Vec<u8> {
     let mut file = Vec::new();
     let mut made = 0;
     let mut cases = fixed_cases();
+    cases.extend(vif_points::all().iter().map(capture_points::case));
     add_edge_cases(&mut random, &mut cases);
     for case in cases {
         made += runs_of(&case);
@@ -73,7 +76,7 @@ fn start(channel: u32, tadr: u32, tte: u32) -> Call {
 }
 
 /// A case over these words of main memory, with a log of so many entries.
-fn plain_case(state: &State, main: &[u32], entries: u64, calls: &[Call]) -> Case {
+pub fn plain_case(state: &State, main: &[u32], entries: u64, calls: &[Call]) -> Case {
     Case {
         main_length: 4 * main.len() as u32,
         main: main.to_vec(),

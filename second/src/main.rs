@@ -8,6 +8,7 @@ mod capture_cases;
 mod capture_compare;
 mod capture_counts;
 mod capture_generate;
+mod capture_points;
 mod chain;
 mod chain_time;
 mod compare;
@@ -37,6 +38,7 @@ mod vif_cases;
 mod vif_compare;
 mod vif_counts;
 mod vif_generate;
+mod vif_points;
 mod vif_unpack;
 mod words;
 
@@ -52,9 +54,11 @@ usage:
   second time-gif < INPUT > RESULT
   second vif [--counts] < CASES > RESULTS
   second generate-vif SEED WORDS > CASES
+  second points-vif mask > CASES
   second compare-vif PROGRAM SEED[,SEED..] WORDS
   second capture [--counts] < CASES > RESULTS
   second generate-capture SEED RUNS > CASES
+  second points-capture mask > CASES
   second compare-capture PROGRAM SEED[,SEED..] RUNS
   second bench-chain PROGRAM
   second time-chain < INPUT > RESULT
@@ -117,6 +121,13 @@ fn vif_command(arguments: &[&str]) -> Option<Result<(), String>> {
             seed.parse().ok()?,
             words.parse().ok()?,
         )),
+        ["points-vif", name] => {
+            let mut file = Vec::new();
+            for point in vif_points::named(name)? {
+                point.case().write(&mut file);
+            }
+            write(&file)
+        }
         ["compare-vif", program, seeds, words] => {
             let program = compare::Program::parse(program);
             vif_compare::compare(&program, &compare::seeds(seeds)?, words.parse().ok()?)
@@ -134,6 +145,13 @@ fn capture_command(arguments: &[&str]) -> Option<Result<(), String>> {
             seed.parse().ok()?,
             runs.parse().ok()?,
         )),
+        ["points-capture", name] => {
+            let mut file = Vec::new();
+            for point in vif_points::named(name)? {
+                capture_points::case(&point).write(&mut file);
+            }
+            write(&file)
+        }
         ["compare-capture", program, seeds, runs] => {
             let program = compare::Program::parse(program);
             capture_compare::compare(&program, &compare::seeds(seeds)?, runs.parse().ok()?)

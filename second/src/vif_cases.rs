@@ -138,7 +138,7 @@ impl Standing {
     }
 
     /// Writes unit and path as blocks and reads them back.
-    fn restore(&mut self) {
+    pub fn restore(&mut self) {
         let (unit, path) = self.blocks();
         self.both = read_unit(&unit).zip(read_path(&path));
     }

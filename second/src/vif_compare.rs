@@ -9,10 +9,13 @@ use crate::vif_cases::{
 };
 use crate::vif_counts::Counts;
 use crate::vif_generate::generate;
+use crate::vif_points;
 use crate::words::{word, WORD};
 
-/// Compares on the cases of each seed and on damaged files made from them.
+/// Compares on the cases of each seed, which have the points worked by hand among them, and on
+/// damaged files made from them.
 pub fn compare(program: &Program, seeds: &[u64], words: u64) -> Result<(), String> {
+    let points = vif_points::check()? as u64;
     let mut counts = Counts::default();
     let mut damaged_files = 0;
     for &seed in seeds {
@@ -26,6 +29,7 @@ pub fn compare(program: &Program, seeds: &[u64], words: u64) -> Result<(), Strin
     }
     let mut rows = counts.rows();
     rows.push(("damaged files".to_string(), damaged_files));
+    rows.push(("points worked by hand".to_string(), points));
     print!("{}", table(&rows));
     let missing = zeros(&rows);
     if !missing.is_empty() {

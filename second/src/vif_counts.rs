@@ -10,7 +10,7 @@ use crate::state_block::{
 };
 use crate::vif::{self, Code, Given, Payload, Registers, Unit, Waiting, ADDRESSES};
 use crate::vif_cases::{Case, Standing, INTERRUPT, REFUSED};
-use crate::vif_unpack::{mask_row, Format, Unpack};
+use crate::vif_unpack::{Format, Unpack};
 use std::collections::HashMap;
 
 /// One call: what stood before it, its answer, and what stands now.
@@ -106,6 +106,8 @@ pub struct Counts {
     vectors: u64,
     /// Payload words of UNPACK by the vectors that they made whole.
     vectors_per_word: [u64; 5],
+    /// Fields written by M, MODE and mask code, V4-5 left out.
+    fields: [[[u64; 4]; 3]; 2],
     /// Writes with M set by field and code.
     mask_codes: [[u64; 4]; 4],
     /// Writes with M set by row.
@@ -410,7 +412,7 @@ impl Counts {
                 self.add_if("DIRECT completed between GIF tags", last && !inside);
             }
             Payload::Unpack(unpack) => {
-                self.note_unpack(registers, unpack, waiting.due);
+                self.note_unpack(registers, unpack, waiting.due, call.given.word());
                 let (first, end) = unpack.made_whole(waiting.due);
                 let start = first * unpack.format.vector_bits();
                 let taken = 32 * (unpack.all_words() - waiting.due);
@@ -422,10 +424,12 @@ impl Counts {
     }
 
     /// Notes a payload word of UNPACK. The registers are those before it.
-    fn note_unpack(&mut self, registers: &Registers, unpack: &Unpack, due: u32) {
+    fn note_unpack(&mut self, registers: &Registers, unpack: &Unpack, due: u32, word: u32) {
         let (first, end) = unpack.made_whole(due);
         self.vectors_per_word[(end - first) as usize] += 1;
         let five = unpack.format.is_five_bits();
+        // The fields whose ROW a vector of this step has kept.
+        let mut kept = [false; 4];
         for i in first..end {
             self.vectors += 1;
             let position = unpack.position(registers, i);
@@ -437,7 +441,14 @@ impl Counts {
             self.add_if("vectors with i mod WL above 3", i % registers.wl > 3);
             self.add_if("V4-5 vectors with MODE set", five && registers.mode > 0);
             if unpack.masked {
-                self.note_mask(registers, unpack, i, i == first);
+                self.note_mask(registers, unpack, i);
+            }
+            if !five {
+                self.note_fields(registers, unpack, i);
+            }
+            if unpack.mode(registers) == 2 {
+                let fields = unpack.window(due, word).vector(i);
+                self.note_row(unpack.codes(registers, i), fields, &mut kept);
             }
         }
         if due == 1 {
@@ -445,24 +456,40 @@ impl Counts {
         }
     }
 
-    fn note_mask(&mut self, registers: &Registers, unpack: &Unpack, i: u32, first: bool) {
-        let row = (i % registers.wl).min(3);
-        let codes = mask_row(registers.mask, row);
-        let moves = registers.mode == 2 && !unpack.format.is_five_bits();
-        self.mask_rows[row as usize] += 1;
-        for (field, &code) in codes.iter().enumerate() {
+    fn note_mask(&mut self, registers: &Registers, unpack: &Unpack, i: u32) {
+        let row = unpack.mask_row(registers, i) as usize;
+        self.mask_rows[row] += 1;
+        for (field, code) in unpack.codes(registers, i).into_iter().enumerate() {
             self.mask_codes[field][code as usize] += 1;
             match code {
                 1 => self.rows_used[field] += 1,
-                2 => self.cols[row as usize] += 1,
+                2 => self.cols[row] += 1,
                 _ => {}
             }
-            if moves && first {
-                self.add_if("MODE 2 with mask code 1", code == 1);
-                self.add_if("MODE 2 with mask code 2", code == 2);
-                self.add_if("MODE 2 with mask code 3", code == 3);
+        }
+    }
+
+    fn note_fields(&mut self, registers: &Registers, unpack: &Unpack, i: u32) {
+        let fields = &mut self.fields[unpack.masked as usize][registers.mode as usize];
+        for code in unpack.codes(registers, i) {
+            fields[code as usize] += 1;
+        }
+    }
+
+    /// Notes what a vector in MODE 2 does to ROW.
+    fn note_row(&mut self, codes: [u32; 4], fields: [u32; 4], kept: &mut [bool; 4]) {
+        for (field, code) in codes.into_iter().enumerate() {
+            let moves = fields[field] != 0;
+            if code == 0 {
+                let again = "ROW kept in MODE 2, replaced later in the step";
+                self.add_if(again, kept[field] && moves);
+            } else if moves {
+                self.add(&format!("ROW kept in MODE 2, mask code {code}"));
+                kept[field] = true;
             }
         }
+        let some = codes.contains(&0) && codes != [0; 4];
+        self.add_if("ROW of some fields replaced in MODE 2", some);
     }
 
     fn note_unpack_completed(&mut self, registers: &Registers, unpack: &Unpack) {
@@ -486,6 +513,55 @@ impl Counts {
             self.add(&format!("UNPACK {name} of 256 vectors completed"));
             let mode = registers.mode == 2 && !unpack.format.is_five_bits();
             self.add_if("UNPACK of 256 vectors completed with MODE 2", mode);
+        }
+    }
+
+    fn add_unpack_rows(&self, rows: &mut Vec<(String, u64)>) {
+        let mut row = |name: &str, count: u64| rows.push((name.to_string(), count));
+        for format in all_formats() {
+            for m in 0..2 {
+                for usn in 0..2 {
+                    for mode in 0..3 {
+                        row(
+                            &format!(
+                                "UNPACK {} completed, M {m}, USN {usn}, MODE {mode}",
+                                format_name(&format)
+                            ),
+                            self.unpacked[format.number() as usize][m][usn][mode],
+                        );
+                    }
+                }
+            }
+        }
+        row("vectors written", self.vectors);
+        for (n, &count) in self.vectors_per_word.iter().enumerate() {
+            row(&format!("UNPACK words that complete {n} vectors"), count);
+        }
+    }
+
+    fn add_mask_rows(&self, rows: &mut Vec<(String, u64)>) {
+        let mut row = |name: &str, count: u64| rows.push((name.to_string(), count));
+        for mode in 0..3 {
+            let name = |m: u32, code: usize| {
+                format!("fields written, M {m}, MODE {mode}, mask code {code}")
+            };
+            row(&name(0, 0), self.fields[0][mode][0]);
+            for code in 0..4 {
+                row(&name(1, code), self.fields[1][mode][code]);
+            }
+        }
+        for (field, name) in ["X", "Y", "Z", "W"].iter().enumerate() {
+            for code in 0..4 {
+                row(
+                    &format!("mask code {code} for {name}"),
+                    self.mask_codes[field][code],
+                );
+            }
+            row(&format!("fields from ROW {field}"), self.rows_used[field]);
+        }
+        for n in 0..4 {
+            row(&format!("masked writes by row {n}"), self.mask_rows[n]);
+            row(&format!("fields from COL {n}"), self.cols[n]);
         }
     }
 
@@ -513,38 +589,8 @@ impl Counts {
             );
             row(&format!("payloads completed, {kind}"), self.completed[i]);
         }
-        for format in all_formats() {
-            for m in 0..2 {
-                for usn in 0..2 {
-                    for mode in 0..3 {
-                        row(
-                            &format!(
-                                "UNPACK {} completed, M {m}, USN {usn}, MODE {mode}",
-                                format_name(&format)
-                            ),
-                            self.unpacked[format.number() as usize][m][usn][mode],
-                        );
-                    }
-                }
-            }
-        }
-        row("vectors written", self.vectors);
-        for (n, &count) in self.vectors_per_word.iter().enumerate() {
-            row(&format!("UNPACK words that complete {n} vectors"), count);
-        }
-        for (field, name) in ["X", "Y", "Z", "W"].iter().enumerate() {
-            for code in 0..4 {
-                row(
-                    &format!("mask code {code} for {name}"),
-                    self.mask_codes[field][code],
-                );
-            }
-            row(&format!("fields from ROW {field}"), self.rows_used[field]);
-        }
-        for n in 0..4 {
-            row(&format!("masked writes by row {n}"), self.mask_rows[n]);
-            row(&format!("fields from COL {n}"), self.cols[n]);
-        }
+        self.add_unpack_rows(&mut rows);
+        self.add_mask_rows(&mut rows);
         let names = names();
         assert!(self.by_name.keys().all(|name| names.contains(name)));
         for name in names {
@@ -763,7 +809,9 @@ const NAMES: &[&str] = &[
     "vectors written twice round the end",
     "vectors with i mod WL above 3",
     "V4-5 vectors with MODE set",
-    "MODE 2 with mask code 1",
-    "MODE 2 with mask code 2",
-    "MODE 2 with mask code 3",
+    "ROW kept in MODE 2, mask code 1",
+    "ROW kept in MODE 2, mask code 2",
+    "ROW kept in MODE 2, mask code 3",
+    "ROW kept in MODE 2, replaced later in the step",
+    "ROW of some fields replaced in MODE 2",
 ];

@@ -20,6 +20,7 @@ use crate::vif::{
 };
 use crate::vif_cases::{taken_quadword, Case, Standing, REFUSED};
 use crate::vif_counts::all_formats;
+use crate::vif_points;
 use crate::vif_unpack::{Format, Unpack};
 
 /// The right lengths of the memories, as cases give them.
@@ -35,6 +36,7 @@ pub fn generate(seed: u64, words: u64) -> Vec<u8> {
     let mut file = Vec::new();
     let mut made = 0;
     let mut cases = fixed_cases();
+    cases.extend(vif_points::all().iter().map(|point| point.case()));
     add_edge_cases(&mut random, &mut cases);
     for case in cases {
         made += case.words.len() as u64;
@@ -194,7 +196,7 @@ impl Maker {
 }
 
 /// A case with room for so many entries in the log.
-fn plain_case(unit: UnitBlock, entries: u64, number: u32) -> Case {
+pub fn plain_case(unit: UnitBlock, entries: u64, number: u32) -> Case {
     Case {
         data_length: DATA,
         code_length: CODE,

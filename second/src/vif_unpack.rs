@@ -10,6 +10,15 @@ pub struct Format {
     vn: u32,
 }
 
+/// Three payload words and the one after them.
+pub struct Window {
+    format: Format,
+    unsigned: bool,
+    bits: u128,
+    /// The payload words before the last one.
+    taken: u32,
+}
+
 /// An UNPACK that waits for payload.
 #[derive(Clone, Copy, PartialEq, Eq, Debug)]
 pub struct Unpack {
@@ -101,9 +110,18 @@ fn extend(bits: u32, vl: u32, unsigned: bool) -> u32 {
 }
 
 /// The four 2-bit codes of a row of the mask, X first.
-pub fn mask_row(mask: u32, row: u32) -> [u32; 4] {
+fn codes_of_row(mask: u32, row: u32) -> [u32; 4] {
     let codes = mask >> (8 * row);
     [codes & 3, codes >> 2 & 3, codes >> 4 & 3, codes >> 6 & 3]
+}
+
+impl Window {
+    /// The fields of vector `number`, which lies in the window.
+    #[inline(always)]
+    pub fn vector(&self, number: u32) -> [u32; 4] {
+        let start = number * self.format.vector_bits() + 96 - 32 * self.taken;
+        self.format.fields(self.bits >> start, self.unsigned)
+    }
 }
 
 impl Unpack {
@@ -132,55 +150,79 @@ impl Unpack {
         self.address + i / wl * cl + i % wl
     }
 
+    /// The MODE that acts on this format.
+    pub fn mode(&self, registers: &Registers) -> u32 {
+        if self.format.is_five_bits() {
+            0
+        } else {
+            registers.mode
+        }
+    }
+
+    /// The row of the mask that write `i` reads.
+    pub fn mask_row(&self, registers: &Registers, i: u32) -> u32 {
+        (i % registers.wl).min(3)
+    }
+
+    /// The four mask codes of write `i`, X first.
+    pub fn codes(&self, registers: &Registers, i: u32) -> [u32; 4] {
+        if self.masked {
+            codes_of_row(registers.mask, self.mask_row(registers, i))
+        } else {
+            [0; 4]
+        }
+    }
+
+    /// What the vectors lie in that are whole with the word that comes with `due` still due.
+    pub fn window(&self, due: u32, word: u32) -> Window {
+        let [oldest, older, last] = self.held;
+        Window {
+            format: self.format,
+            unsigned: self.unsigned,
+            bits: oldest as u128
+                | (older as u128) << 32
+                | (last as u128) << 64
+                | (word as u128) << 96,
+            taken: self.all_words() - due,
+        }
+    }
+
     /// Takes a payload word and writes the vectors that are now whole.
     pub fn take_word(&mut self, registers: &mut Registers, due: u32, word: u32, data: &mut [u32]) {
-        let [oldest, older, last] = self.held;
-        let window =
-            oldest as u128 | (older as u128) << 32 | (last as u128) << 64 | (word as u128) << 96;
-        let taken = self.all_words() - due;
         let (first, end) = self.made_whole(due);
+        let window = self.window(due, word);
         for i in first..end {
-            // The window starts three words before the one that comes.
-            let start = i * self.format.vector_bits() + 96 - 32 * taken;
-            let fields = self.format.fields(window >> start, self.unsigned);
-            self.write(registers, i, fields, data);
+            self.write(registers, i, window.vector(i), data);
         }
+        let [_, older, last] = self.held;
         self.held = [older, last, word];
     }
 
     /// Writes vector `i`.
+    #[inline(always)]
     fn write(&self, registers: &mut Registers, i: u32, fields: [u32; 4], data: &mut [u32]) {
         let at = 4 * (self.position(registers, i) % QUADWORDS) as usize;
         let quadword = &mut data[at..at + 4];
-        let mode = if self.format.is_five_bits() {
-            0
-        } else {
-            registers.mode
-        };
+        let mode = self.mode(registers);
         if mode == 0 && !self.masked {
             quadword.copy_from_slice(&fields);
             return;
         }
-        let row = (i % registers.wl).min(3);
-        let codes = if self.masked {
-            mask_row(registers.mask, row)
-        } else {
-            [0; 4]
-        };
-        let col = registers.col[row as usize];
+        let codes = self.codes(registers, i);
+        let col = registers.col[self.mask_row(registers, i) as usize];
         for field in 0..4 {
-            let old_row = registers.row[field];
-            let sum = fields[field].wrapping_add(old_row);
-            if mode == 2 {
-                registers.row[field] = sum;
-            }
+            let row = &mut registers.row[field];
+            let sum = fields[field].wrapping_add(*row);
             quadword[field] = match codes[field] {
                 0 if mode == 0 => fields[field],
                 0 => sum,
-                1 => old_row,
+                1 => *row,
                 2 => col,
                 _ => quadword[field],
             };
+            if mode == 2 && codes[field] == 0 {
+                *row = sum;
+            }
         }
     }
 }
