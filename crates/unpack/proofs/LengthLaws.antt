@@ -6,10 +6,14 @@ use Rattle.unpack.specs.declared.Format.{Format}
 use Rattle.unpack.specs.declared.Unpacking.{Unpacking}
 use Rattle.unpack.specs.declared.Registers.{Registers}
 use Rattle.unpack.specs.Write.{Written}
-use Rattle.unpack.specs.Step.{wordOf, unpackWord}
-use Rattle.unpack.proofs.WholeLaws.{vectors-length}
+use Rattle.unpack.specs.Step.{wordOf, unpackWord, unfedWrites}
+use Rattle.unpack.proofs.WholeLaws.{writes-length}
 
 pub word-length : (size : ℕ) (f : Format) (u : Unpacking) (r : Registers) (word : ℕ) (w : Written)
     → length (unpackWord size f u r word w .mem) ≡ length (w .mem)
 unfolding unpackWord wordOf
-word-length size f u r word w = vectors-length size _ _ _ _ _ w
+word-length size f u r word w = writes-length size _ _ _ _ _ w
+
+pub unfed-length : (size : ℕ) (f : Format) (u : Unpacking) (r : Registers) (w : Written) → length (unfedWrites size f u r w .mem) ≡ length (w .mem)
+unfolding unfedWrites
+unfed-length size f u r w = writes-length size _ _ _ _ _ w

@@ -2,6 +2,7 @@
 pub mod FormatLaws
 pub mod PayloadLaws
 pub mod VectorLaws
+pub mod CycleLaws
 pub mod WriteLaws
 pub mod StepLaws
 pub mod WholeLaws

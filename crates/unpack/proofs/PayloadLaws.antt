@@ -76,7 +76,7 @@ next-mul i b = add-mul i 1 b ∙ rw one-mul
 
 -- ---- the vectors that a word completes
 
-whole-most : (f : Format) (n k : ℕ) → wholeVectors f n k ≤ n
+pub whole-most : (f : Format) (n k : ℕ) → wholeVectors f n k ≤ n
 unfolding wholeVectors
 whole-most f n k = min-le-left n (32 * k / vectorBits f)
 

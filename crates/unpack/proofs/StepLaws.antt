@@ -1,11 +1,12 @@
 -- The step from what its parts give, and its tests as facts.
-use mathlib.Core.Path.{_≡_, _∙_}
-use mathlib.Core.Bool.{Bool, true, false, not}
-use mathlib.Core.List.{List}
-use Prim.Native.Nat.{ℕ, _+_, _*_, _-_, _%_, _<_, _≤_}
-use native.Mathlib.Nat.{le-refl}
+use mathlib.Core.Path.{_≡_, refl, sym, ap, _∙_}
+use mathlib.Core.Bool.{Bool, true, false, not, _&&_}
+use mathlib.Core.List.{List, [], _∷_}
+use Prim.Native.Nat.{ℕ, suc, _+_, _*_, _-_, _/_, _%_, _<_, _≤_}
+use native.Mathlib.Nat.{le-refl, zero-mul}
+use native.Mathlib.Numerals.{add-one}
 use native.Mathlib.Omega.{arith}
-use borrow.Author.Tests.{leb-true, eqb-true, eqb-false, le-leb, not-true}
+use borrow.Author.Tests.{leb-true, leb-false, eqb-true, eqb-false, le-leb, lt-ltb, not-true}
 use lib.ListN.{length}
 use lib.Dec.{eqb, leb}
 use Rattle.fields.specs.Fields.{if}
@@ -14,12 +15,14 @@ use Rattle.unpack.specs.declared.Format.{Format}
 use Rattle.unpack.specs.declared.Unpacking.{Unpacking}
 use Rattle.unpack.specs.declared.Registers.{Registers}
 use Rattle.unpack.specs.Payload.{payloadWords, wholeVectors}
-use Rattle.unpack.specs.Position.{addresses, addressMost}
-use Rattle.unpack.specs.Write.{Written, written, writeVectors}
-use Rattle.unpack.specs.Range.{cycleRefused, cycleInRange, unpackingInRange, CycleFits, UnpackingFits}
-use Rattle.unpack.specs.Inner.{MemoryFits, WordFits}
-use Rattle.unpack.specs.Step.{countOf, unpackingOf, takenWords, acting, heldVector, wordOf, unpackWord, acceptable, Left, takeOf}
-use Rattle.unpack.proofs.PayloadLaws.{whole-few, vector-in, payload-most, payload-some}
+use Rattle.unpack.specs.Position.{addresses, addressMost, filling, vectorsBefore, writesDone}
+use Rattle.unpack.specs.Write.{Written, written, writesFrom}
+use Rattle.unpack.specs.Range.{cycleRefused, cycleInRange, payloadFor, unpackingInRange, CycleFits, UnpackingFits}
+use Rattle.unpack.specs.Inner.{MemoryFits, WordFits, VectorIn, WriteIn, CompletedFits, completedWrites, UnfedFits}
+use Rattle.unpack.specs.Step.{countOf, unpackingOf, takenWords, acting, heldVector, doneAfter, wordOf, unpackWord, acceptable, Left, takeOf, unfedWrites, unfedAcceptable, unfedOf}
+use Rattle.unpack.proofs.PayloadLaws.{whole-most, vector-in, payload-most, payload-some}
+use Rattle.unpack.proofs.CycleLaws.{plain-vectors, vectors-few, vectors-zero, vectors-some, done-few, done-exactly, plain-done}
+use Rattle.unpack.proofs.WriteLaws.{writes-none}
 
 pub count-range : (num : ℕ) → (1 ≤ countOf num) × (countOf num ≤ 256)
 unfolding countOf
@@ -35,7 +38,7 @@ count-few num = count-range num .1
 -- a cycle that rule 22 accepts has a write
 cycle-some : (cl wl : ℕ) → cycleRefused cl wl ≡ false → 1 ≤ wl
 unfolding cycleRefused
-cycle-some cl wl h = let z = eqb-false wl 0 (or-left _ _ h) in omega arith
+cycle-some cl wl h = let z = eqb-false wl 0 h in omega arith
 
 pub accepted-cycle : (cl wl : ℕ) → cycleRefused cl wl ≡ false → cl ≤ 255 → wl ≤ 255 → cycleInRange cl wl ≡ true
 unfolding cycleInRange
@@ -56,9 +59,9 @@ cycle-fits cl wl h =
 pub fits-cycle : (cl wl : ℕ) → CycleFits cl wl → cycleInRange cl wl ≡ true
 fits-cycle cl wl f = accepted-cycle cl wl (f .accepted) (f .most) (f .wide)
 
-pub unpacking-fits : (f : Format) (u : Unpacking) → unpackingInRange f u ≡ true → UnpackingFits f u
+pub unpacking-fits : (f : Format) (cl wl : ℕ) (u : Unpacking) → unpackingInRange f cl wl u ≡ true → UnpackingFits f cl wl u
 unfolding unpackingInRange
-unpacking-fits f u h =
+unpacking-fits f cl wl u h =
     let h1 = and-right (leb (u .address) addressMost) _ h in
     let h2 = and-right (leb 1 (u .count)) _ h1 in
     let h3 = and-right (leb (u .count) 256) _ h2 in
@@ -67,18 +70,18 @@ unpacking-fits f u h =
       some = leb-true 1 (u .count) (and-left _ _ h1);
       few = leb-true (u .count) 256 (and-left _ _ h2);
       left = leb-true 1 (u .due) (and-left _ _ h3);
-      most = leb-true (u .due) (payloadWords f (u .count)) (and-right (leb 1 (u .due)) _ h3);
+      most = leb-true (u .due) (payloadFor f cl wl (u .count)) (and-right (leb 1 (u .due)) _ h3);
     }
 
-pub fits-unpacking : (f : Format) (u : Unpacking) → UnpackingFits f u → unpackingInRange f u ≡ true
+pub fits-unpacking : (f : Format) (cl wl : ℕ) (u : Unpacking) → UnpackingFits f cl wl u → unpackingInRange f cl wl u ≡ true
 unfolding unpackingInRange
-fits-unpacking f u x =
-    rw (le-leb (u .address) addressMost (x .inside), le-leb 1 (u .count) (x .some), le-leb (u .count) 256 (x .few), le-leb 1 (u .due) (x .left), le-leb (u .due) (payloadWords f (u .count)) (x .most))
+fits-unpacking f cl wl u x =
+    rw (le-leb (u .address) addressMost (x .inside), le-leb 1 (u .count) (x .some), le-leb (u .count) 256 (x .few), le-leb 1 (u .due) (x .left), le-leb (u .due) (payloadFor f cl wl (u .count)) (x .most))
 
 pub record Acceptable (size : ℕ) (f : Format) (u : Unpacking) (r : Registers) (mem : List ℕ) : Type 0 where
   pub memory : MemoryFits size mem
   pub cycle : CycleFits (r .cl) (r .wl)
-  pub unpacking : UnpackingFits f u
+  pub unpacking : UnpackingFits f (r .cl) (r .wl) u
 
 pub acceptable-fits : (size : ℕ) (f : Format) (u : Unpacking) (r : Registers) (mem : List ℕ) → acceptable size f u r mem ≡ true
     → Acceptable size f u r mem
@@ -95,41 +98,154 @@ acceptable-fits size f u r mem h =
             long = eqb-true (length mem) (4 * size) (and-left _ _ h2);
           };
       cycle = cycle-fits (r .cl) (r .wl) (and-left _ _ h3);
-      unpacking = unpacking-fits f u (and-right (cycleInRange (r .cl) (r .wl)) _ h3);
+      unpacking = unpacking-fits f (r .cl) (r .wl) u (and-right (cycleInRange (r .cl) (r .wl)) _ h3);
     }
 
 -- ---- the step
 
-pub taken-few : (f : Format) (u : Unpacking) → UnpackingFits f u → takenWords f u < 1024
+pub payload-few : (f : Format) (cl wl n : ℕ) → n ≤ 256 → payloadFor f cl wl n ≤ 1024
+payload-few f cl wl n h = let v = vectors-few cl wl n in payload-most f (vectorsBefore cl wl n) (omega arith)
+
+pub taken-few : (f : Format) (r : Registers) (u : Unpacking) → UnpackingFits f (r .cl) (r .wl) u → takenWords f r u < 1024
 unfolding takenWords
-taken-few f u x =
-    let m = payload-most f (u .count) (x .few) in
+taken-few f r u x =
+    let m = payload-few f (r .cl) (r .wl) (u .count) (x .few) in
     let l = x .left in
     let o = x .most in
     omega arith
 
-pub word-fits : (size : ℕ) (f : Format) (u : Unpacking) (r : Registers) (mem : List ℕ) {s : Registers} {k from to : ℕ}
-    → CycleFits (r .cl) (r .wl) → UnpackingFits f u → MemoryFits size mem
-    → s ≡ acting f u r → k ≡ takenWords f u → from ≡ wholeVectors f (u .count) k → to ≡ wholeVectors f (u .count) (k + 1)
-    → WordFits size f u s k from to mem
+-- where payload is due, CL is not 0
+pub due-cycle : (f : Format) (cl wl : ℕ) (u : Unpacking) → 1 ≤ wl → UnpackingFits f cl wl u → 1 ≤ cl
+unfolding payloadWords
+due-cycle f cl wl u w x = go (eqb cl 0) refl
+  where
+    go : (b : Bool) → eqb cl 0 ≡ b → 1 ≤ cl
+    go false e = let n = eqb-false cl 0 e in omega arith
+    go true e =
+        let z = vectors-zero cl wl (eqb-true cl 0 e) w (u .count) in
+        let m = rw (z, zero-mul) at (x .most) in
+        let l = x .left in
+        absurd (omega arith)
+
+pub completed-fits : (size : ℕ) (f : Format) (u : Unpacking) (r : Registers) (mem : List ℕ) {s : Registers} {k v from to : ℕ}
+    → CycleFits (r .cl) (r .wl) → UnpackingFits f (r .cl) (r .wl) u → MemoryFits size mem
+    → s ≡ acting f u r → k ≡ takenWords f r u → v ≡ vectorsBefore (r .cl) (r .wl) (u .count)
+    → from ≡ wholeVectors f v k → to ≡ wholeVectors f v (k + 1)
+    → CompletedFits size f u s k from to mem
 unfolding acting
-word-fits size f u r mem {s} {k} {from} {to} c x m es ek ef et =
-    let t = taken-few f u x in
-    let w = whole-few f (u .count) (k + 1) (x .few) in
+completed-fits size f u r mem {s} {k} c x m es ek ev ef et =
+    let t = taken-few f r u x in
     record {
       cycle = rw es c;
       memory = m;
-      inside = x .inside;
-      few = omega arith;
+      unpacking = rw es x;
       words = omega arith;
-      each = λ i lo hi. vector-in f (u .count) k i (rw ef at lo) (rw et at hi);
+      first = ef ∙ rw (ev, es);
+      last = et ∙ rw (ev, es);
     }
 
-pub word-taken : (size : ℕ) (f : Format) (u : Unpacking) (r : Registers) (word : ℕ) (w : Written) {s : Registers} {k from to : ℕ} {o : Written}
-    → s ≡ acting f u r → k ≡ takenWords f u → from ≡ wholeVectors f (u .count) k → to ≡ wholeVectors f (u .count) (k + 1)
-    → o ≡ writeVectors size (u .address) s (heldVector f u word k) (to - from) from w → o ≡ unpackWord size f u r word w
-unfolding unpackWord wordOf
-word-taken size f u r word w es ek ef et e = e ∙ rw (et, ef, es, ek)
+pub word-taken : (size : ℕ) (f : Format) (u : Unpacking) (r : Registers) (word : ℕ) (w : Written) {s : Registers} {k v from to : ℕ} {o : Written}
+    → s ≡ acting f u r → k ≡ takenWords f r u → v ≡ vectorsBefore (r .cl) (r .wl) (u .count)
+    → from ≡ wholeVectors f v k → to ≡ wholeVectors f v (k + 1)
+    → o ≡ completedWrites size f u s word k from to w → o ≡ unpackWord size f u r word w
+unfolding unpackWord wordOf completedWrites acting doneAfter
+word-taken size f u r word w es ek ev ef et e = e ∙ rw (et, ef, es, ev, ek)
+
+-- a word that completes no vector
+pub none-completed : (size : ℕ) (f : Format) (u : Unpacking) (r : Registers) (word k from to : ℕ) (w : Written) → from ≡ to
+    → w ≡ completedWrites size f u r word k from to w
+unfolding completedWrites
+none-completed size f u r word k from to w e =
+    sym (rw e (writes-none size (u .address) r (heldVector f u word k) _ _ (le-refl _) w))
+
+-- a write that is done with word k and not before it is of a vector that the word completes
+module _ (f : Format) (cl wl n k i : ℕ) (c : 1 ≤ wl) where
+  pub write-in : writesDone cl wl (wholeVectors f (vectorsBefore cl wl n) k) n ≤ i
+      → i < writesDone cl wl (wholeVectors f (vectorsBefore cl wl n) (k + 1)) n → WriteIn f cl wl k i
+  write-in lo hi =
+      let a = done-few cl wl c (wholeVectors f (vectorsBefore cl wl n) (k + 1)) n in
+      let up = done-exactly cl wl c (wholeVectors f (vectorsBefore cl wl n) (k + 1)) n i (omega arith) .0 hi in
+      let low = after (omega arith) (leb (vectorsBefore cl wl (suc i)) (wholeVectors f (vectorsBefore cl wl n) k)) refl in
+      record {
+        vector = vectorsBefore cl wl (suc i) - 1;
+        is = omega arith;
+        ends = vector-in f (vectorsBefore cl wl n) k (vectorsBefore cl wl (suc i) - 1) (omega arith) (omega arith);
+      }
+    where
+      after : i < n → (b : Bool) → leb (vectorsBefore cl wl (suc i)) (wholeVectors f (vectorsBefore cl wl n) k) ≡ b
+          → wholeVectors f (vectorsBefore cl wl n) k < vectorsBefore cl wl (suc i)
+      after l false e = leb-false _ _ e
+      after l true e =
+          let d = done-exactly cl wl c (wholeVectors f (vectorsBefore cl wl n) k) n i l .1 (leb-true _ _ e) in
+          absurd (omega arith)
+
+-- the number of its vector, from the vectors that the writes up to it take
+module _ {f : Format} {cl wl k i : ℕ} (y : WriteIn f cl wl k i) {v : ℕ} (e : v ≡ vectorsBefore cl wl (i + 1)) where
+  pub number-up : vectorsBefore cl wl (suc i) ≡ suc (v - 1)
+  number-up =
+      let q : v ≡ suc (y .vector) = e ∙ rw add-one (y .is) in
+      y .is ∙ omega arith
+
+  pub number-some : 1 ≤ v
+  number-some = let q : v ≡ suc (y .vector) = e ∙ rw add-one (y .is) in omega arith
+
+  pub number-in : VectorIn f k (v - 1)
+  number-in =
+      let q : v ≡ suc (y .vector) = e ∙ rw add-one (y .is) in
+      let z : v - 1 ≡ y .vector = omega arith in
+      rw z (y .ends)
+
+-- without fills its vector has its own number
+pub plain-vector-in : {f : Format} {cl wl k i : ℕ} → filling cl wl ≡ false → WriteIn f cl wl k i → VectorIn f k i
+plain-vector-in {f} {cl} {wl} {k} {i} h y =
+    let e : suc i ≡ suc (y .vector) = sym (plain-vectors cl wl (suc i) h) ∙ y .is in
+    let z : i ≡ y .vector = omega arith in
+    rw z (y .ends)
+
+-- the loops' input: the writes of the vectors that a word completes
+module _ {size : ℕ} {f : Format} {u : Unpacking} {r : Registers} {k from to : ℕ} {mem : List ℕ} (x : CompletedFits size f u r k from to mem) where
+  pub writes-fit : {first last : ℕ} → first ≡ writesDone (r .cl) (r .wl) from (u .count) → last ≡ writesDone (r .cl) (r .wl) to (u .count)
+      → WordFits size f u r k first last mem
+  writes-fit {first} {last} ef el =
+      let d = done-few (r .cl) (r .wl) (x .cycle .some) to (u .count) in
+      let c = x .unpacking .few in
+      record {
+        cycle = x .cycle;
+        memory = x .memory;
+        inside = x .unpacking .inside;
+        few = omega arith;
+        words = x .words;
+        each = λ i lo hi. write-in f (r .cl) (r .wl) (u .count) k i (x .cycle .some) (rw (← x .first, ← ef) lo) (rw (← x .last, ← el) hi);
+      }
+
+  whole-below : (k : ℕ) → wholeVectors f (vectorsBefore (r .cl) (r .wl) (u .count)) k ≤ u .count
+  whole-below k =
+      let m = whole-most f (vectorsBefore (r .cl) (r .wl) (u .count)) k in
+      let v = vectors-few (r .cl) (r .wl) (u .count) in
+      omega arith
+
+  pub plain-writes : filling (r .cl) (r .wl) ≡ false → (from ≡ writesDone (r .cl) (r .wl) from (u .count)) × (to ≡ writesDone (r .cl) (r .wl) to (u .count))
+  plain-writes h =
+      let a : from ≤ u .count = rw (x .first) (whole-below k) in
+      let b : to ≤ u .count = rw (x .last) (whole-below (k + 1)) in
+      (sym (plain-done (r .cl) (r .wl) (x .cycle .some) h from (u .count) a), sym (plain-done (r .cl) (r .wl) (x .cycle .some) h to (u .count) b))
+
+  pub vectors-small : (from ≤ 256) × (to ≤ 256)
+  vectors-small =
+      let a : from ≤ u .count = rw (x .first) (whole-below k) in
+      let b : to ≤ u .count = rw (x .last) (whole-below (k + 1)) in
+      let c = x .unpacking .few in
+      (omega arith, omega arith)
+
+  -- where writes fill and payload is due, CL is not 0
+  pub cycle-taken : 1 ≤ r .cl
+  cycle-taken = due-cycle f (r .cl) (r .wl) u (x .cycle .some) (x .unpacking)
+
+pub completed-by : (size : ℕ) (f : Format) (u : Unpacking) (r : Registers) (word k from to : ℕ) (w : Written) {first last : ℕ} {o : Written}
+    → first ≡ writesDone (r .cl) (r .wl) from (u .count) → last ≡ writesDone (r .cl) (r .wl) to (u .count)
+    → o ≡ writesFrom size (u .address) r (heldVector f u word k) (last - first) first w → o ≡ completedWrites size f u r word k from to w
+unfolding completedWrites
+completed-by size f u r word k from to w ef el e = e ∙ rw (ef, el)
 
 -- after a write of the same length
 pub word-fits-again : {size : ℕ} {f : Format} {u : Unpacking} {r : Registers} {k from to : ℕ} {mem m : List ℕ} → length m ≡ length mem
@@ -152,8 +268,63 @@ unfolding takeOf if
 taken-as size f u r word row mem h e = rw (h, ← e)
 
 -- an UNPACK code whose whole payload is due is in range
-pub begun-fits : (f : Format) (a num : ℕ) (usn masked i : Bool) → UnpackingFits f (unpackingOf f a num usn masked i)
+pub begun-fits : (f : Format) (cl wl a num : ℕ) (usn masked i : Bool) → 1 ≤ cl → 1 ≤ wl → UnpackingFits f cl wl (unpackingOf f cl wl a num usn masked i)
 unfolding unpackingOf
-begun-fits f a num usn masked i =
+begun-fits f cl wl a num usn masked i c w =
     let n = count-range num in
-    record { inside = omega arith; some = n .0; few = n .1; left = payload-some f (countOf num) (n .0); most = le-refl _ }
+    let v = vectors-some cl wl c w (countOf num) (n .0) in
+    record { inside = omega arith; some = n .0; few = n .1; left = payload-some f (vectorsBefore cl wl (countOf num)) v; most = le-refl _ }
+
+-- ---- a code with CL 0
+
+pub record Unfed (size : ℕ) (f : Format) (u : Unpacking) (r : Registers) (mem : List ℕ) : Type 0 where
+  pub fits : UnfedFits size u (acting f u r) mem
+
+pub unfed-fits : (size : ℕ) (f : Format) (u : Unpacking) (r : Registers) (mem : List ℕ) → unfedAcceptable size u r mem ≡ true → Unfed size f u r mem
+unfolding unfedAcceptable acting
+unfed-fits size f u r mem h =
+    let h1 = and-right (leb 1 size) _ h in
+    let h2 = and-right (leb size addresses) _ h1 in
+    let h3 = and-right (eqb (length mem) (4 * size)) _ h2 in
+    let h4 = and-right (cycleInRange (r .cl) (r .wl)) _ h3 in
+    let h5 = and-right (eqb (r .cl) 0) _ h4 in
+    record {
+      fits =
+          record {
+            cycle = cycle-fits (r .cl) (r .wl) (and-left _ _ h3);
+            none = eqb-true (r .cl) 0 (and-left _ _ h4);
+            memory =
+                record {
+                  some = leb-true 1 size (and-left _ _ h);
+                  most = leb-true size addresses (and-left _ _ h1);
+                  long = eqb-true (length mem) (4 * size) (and-left _ _ h2);
+                };
+            inside = leb-true (u .address) addressMost (and-left _ _ h5);
+            few = leb-true (u .count) 256 (and-right (leb (u .address) addressMost) _ h5);
+          };
+    }
+
+pub unfed-as : (size : ℕ) (f : Format) (u : Unpacking) (r : Registers) (row mem : List ℕ) → unfedAcceptable size u r mem ≡ true
+    → {s : Registers} {rs m : List ℕ} → s ≡ acting f u r → written rs m ≡ writesFrom size (u .address) s (λ j. []) (u .count) 0 (written row mem)
+    → _≡_ {A = Left} (record { accepted = true; row = rs; mem = m }) (unfedOf size f u r row mem)
+unfolding unfedOf unfedWrites if
+unfed-as size f u r row mem h es e = rw (h, ← es, ← e)
+
+-- after a write of the same length
+pub unfed-again : {size : ℕ} {u : Unpacking} {r : Registers} {mem m : List ℕ} → length m ≡ length mem → UnfedFits size u r mem → UnfedFits size u r m
+unfed-again e x =
+    record {
+      cycle = x .cycle;
+      none = x .none;
+      memory = record { some = x .memory .some; most = x .memory .most; long = e ∙ x .memory .long };
+      inside = x .inside;
+      few = x .few;
+    }
+
+-- with CL 0 every write fills, and none takes a vector
+pub unfed-filling : {size : ℕ} {u : Unpacking} {r : Registers} {mem : List ℕ} → UnfedFits size u r mem → filling (r .cl) (r .wl) ≡ true
+unfed-filling {r = r} x = let z = x .none in let w = x .cycle .some in lt-ltb (r .cl) (r .wl) (omega arith)
+
+pub unfed-vectors : {size : ℕ} {u : Unpacking} {r : Registers} {mem : List ℕ} → UnfedFits size u r mem → (n : ℕ)
+    → vectorsBefore (r .cl) (r .wl) n ≡ 0
+unfed-vectors {r = r} x n = vectors-zero (r .cl) (r .wl) (x .none) (x .cycle .some) n

@@ -20,14 +20,17 @@ use Rattle.unpack.specs.declared.Unpacking.{Unpacking}
 use Rattle.unpack.specs.declared.Registers.{Registers}
 use Rattle.unpack.specs.Payload.{elementBits, elements, isFive, vectorBits, payloadWords, value, wholeVectors}
 use Rattle.unpack.specs.Vector.{extended, element, fieldsOf, fiveFields, vectorAt}
-use Rattle.unpack.specs.Position.{addresses, positionOf}
+use Rattle.unpack.specs.Position.{addresses, positionOf, filling, vectorsBefore}
 use Rattle.unpack.specs.Mask.{maskOf, codeAt, codeRow}
-use Rattle.unpack.specs.Write.{rowsAfter, putField, writtenAt, Written, written, writeVector, writeVectors}
-use Rattle.unpack.specs.Step.{countOf, unpackingOf, takenWords, holds, acting, heldVector, wordOf, unpackWord}
+use Rattle.unpack.specs.Write.{rowOf, dataOf, fieldOf, rowsAfter, putField, writtenAt, Written, written, writeVector, registersAt, lastVector, writeAt, writesFrom}
+use Rattle.unpack.specs.Step.{countOf, unpackingOf, takenWords, holds, acting, heldVector, doneAfter, wordOf, unpackWord, unfedWrites}
+use Rattle.unpack.specs.Range.{payloadFor}
 use Rattle.unpack.specs.Whole.{payloadVector, unpackedBy, takeWords, heldAfter, storeQuadword, copyVectors, fourWords}
-use Rattle.unpack.specs.Inner.{VectorIn, plain}
+use Rattle.unpack.specs.Inner.{VectorIn, WriteIn, plain}
 use Rattle.unpack.proofs.PayloadLaws.{few-elements, bits-some, vector-in, starts-inside, vector-fits}
-use Rattle.unpack.proofs.WriteLaws.{plain-rows, plain-quadword}
+use Rattle.unpack.proofs.WriteLaws.{plain-rows, plain-quadword, plain-place, plain-at}
+use Rattle.unpack.proofs.CycleLaws.{plain-vectors, vectors-mono, vectors-none, vectors-zero, vectors-some, done-exactly, done-is, done-mono}
+use Rattle.unpack.proofs.StepLaws.{write-in}
 use Rattle.unpack.proofs.VectorLaws.{Words, more, digit}
 
 -- ---- a vector is known from its elements
@@ -102,9 +105,10 @@ unfolding heldVector
 held-vector f p k i x u ws h v = same-vector f (u .usn) _ _ _ _ (same-element f p k i x u ws h v)
 
 -- before the first word
-along-first : (f : Format) (a num : ℕ) (usn masked i : Bool) (ws : List ℕ) → Words ws → Along (value ws) 0 (unpackingOf f a num usn masked i) ws
+along-first : (f : Format) (cl wl a num : ℕ) (usn masked i : Bool) (ws : List ℕ) → Words ws
+    → Along (value ws) 0 (unpackingOf f cl wl a num usn masked i) ws
 unfolding unpackingOf
-along-first f a num usn masked i ws h =
+along-first f cl wl a num usn masked i ws h =
     record {
       low = 0;
       below = omega arith;
@@ -143,16 +147,26 @@ along-next p k x u ws h =
 
 module _ (size a : ℕ) (r : Registers) where
   -- they depend on no other vectors than theirs
-  pub same-writes : (vec on : ℕ → List ℕ) (n i : ℕ) (w : Written) → ((j : ℕ) → i ≤ j → j < i + n → vec j ≡ on j)
-      → writeVectors size a r vec n i w ≡ writeVectors size a r on n i w
-  unfolding writeVectors
+  pub same-writes : (vec on : ℕ → List ℕ) (n i : ℕ) (w : Written)
+      → ((j : ℕ) → i ≤ j → j < i + n → lastVector vec (vectorsBefore (r .cl) (r .wl) (suc j)) ≡ lastVector on (vectorsBefore (r .cl) (r .wl) (suc j)))
+      → writesFrom size a r vec n i w ≡ writesFrom size a r on n i w
+  unfolding writesFrom writeAt
   same-writes vec on zero i w h = refl
   same-writes vec on (suc n) i w h =
       rw (h i (omega arith) (omega arith)) (same-writes vec on n (suc i) _ (λ j l m. h j (omega arith) (omega arith)))
 
+  -- the same vectors make the same writes
+  pub equal-writes : (vec on : ℕ → List ℕ) (n i : ℕ) (w : Written) → ((j : ℕ) → vec j ≡ on j)
+      → writesFrom size a r vec n i w ≡ writesFrom size a r on n i w
+  equal-writes vec on n i w h = same-writes vec on n i w (λ j l m. last (vectorsBefore (r .cl) (r .wl) (suc j)))
+    where
+      last : (v : ℕ) → lastVector vec v ≡ lastVector on v
+      last zero = refl
+      last (suc v) = h v
+
   pub writes-join : (vec : ℕ → List ℕ) (m n i : ℕ) (w : Written)
-      → writeVectors size a r vec n (i + m) (writeVectors size a r vec m i w) ≡ writeVectors size a r vec (m + n) i w
-  unfolding writeVectors
+      → writesFrom size a r vec n (i + m) (writesFrom size a r vec m i w) ≡ writesFrom size a r vec (m + n) i w
+  unfolding writesFrom
   writes-join vec zero n i w = rw (add-zero, zero-add)
   writes-join vec (suc m) n i w =
       let e : i + suc m ≡ suc i + m = omega arith in
@@ -160,8 +174,8 @@ module _ (size a : ℕ) (r : Registers) where
       rw (e, q) (writes-join vec m n (suc i) _)
 
   -- up to one number, and from it on
-  writes-to : (vec : ℕ → List ℕ) (from mid to : ℕ) (w : Written) → from ≤ mid → mid ≤ to
-      → writeVectors size a r vec (to - mid) mid (writeVectors size a r vec (mid - from) from w) ≡ writeVectors size a r vec (to - from) from w
+  pub writes-to : (vec : ℕ → List ℕ) (from mid to : ℕ) (w : Written) → from ≤ mid → mid ≤ to
+      → writesFrom size a r vec (to - mid) mid (writesFrom size a r vec (mid - from) from w) ≡ writesFrom size a r vec (to - from) from w
   writes-to vec from mid to w h l =
       let e : from + (mid - from) ≡ mid = omega arith in
       let q : mid - from + (to - mid) ≡ to - from = omega arith in
@@ -179,55 +193,106 @@ whole-none : (f : Format) (n : ℕ) → wholeVectors f n 0 ≡ 0
 unfolding wholeVectors
 whole-none f n = rw zero-div (min-zero n)
 
+-- more words, no fewer writes
+done-after-mono : (f : Format) (r : Registers) (u : Unpacking) (k l : ℕ) → 1 ≤ r .wl → k ≤ l → doneAfter f r u k ≤ doneAfter f r u l
+unfolding doneAfter
+done-after-mono f r u k l c h =
+    done-mono (r .cl) (r .wl) c _ _ (u .count) (whole-mono f (vectorsBefore (r .cl) (r .wl) (u .count)) k l h)
+
+-- before the first word none is done, unless CL is 0, and then all are
+pub done-first : (f : Format) (r : Registers) (u : Unpacking) → 1 ≤ r .wl → 1 ≤ r .cl → doneAfter f r u 0 ≡ 0
+unfolding doneAfter
+done-first f r u w c =
+    rw (whole-none f (vectorsBefore (r .cl) (r .wl) (u .count)))
+    (done-is (r .cl) (r .wl) w 0 (u .count) 0 (omega arith) (rw (vectors-none (r .cl) (r .wl)) (omega arith)) (λ l. vectors-some (r .cl) (r .wl) c w 1 (omega arith)))
+
+pub done-unfed : (f : Format) (r : Registers) (u : Unpacking) (k : ℕ) → 1 ≤ r .wl → r .cl ≡ 0 → doneAfter f r u k ≡ u .count
+unfolding doneAfter
+done-unfed f r u k w z =
+    done-is (r .cl) (r .wl) w _ (u .count) (u .count) (omega arith) (rw (vectors-zero (r .cl) (r .wl) z w (u .count)) (omega arith)) (λ l. absurd (omega arith))
+
 -- ---- the steps
 
--- one step: word k writes the payload's vectors that it completes
-step-writes : (size : ℕ) (f : Format) (p k x : ℕ) (u : Unpacking) (r : Registers) (ws : List ℕ) (w : Written) → Along p k u (x ∷ ws)
-    → takenWords f u ≡ k
+-- one step: word k makes the writes that it completes, with the payload's vectors
+step-writes : (size : ℕ) (f : Format) (p k x : ℕ) (u : Unpacking) (r : Registers) (ws : List ℕ) (w : Written) → 1 ≤ r .wl → Along p k u (x ∷ ws)
+    → takenWords f r u ≡ k
     → unpackWord size f u r x w
-    ≡ writeVectors size (u .address) (acting f u r) (λ i. vectorAt f (u .usn) p (i * vectorBits f))
-    (wholeVectors f (u .count) (k + 1) - wholeVectors f (u .count) k)
-    (wholeVectors f (u .count) k)
+    ≡ writesFrom size (u .address) (acting f u r) (λ i. vectorAt f (u .usn) p (i * vectorBits f))
+    (doneAfter f r u (k + 1) - doneAfter f r u k)
+    (doneAfter f r u k)
     w
-unfolding unpackWord wordOf
-step-writes size f p k x u r ws w h e =
+unfolding unpackWord wordOf doneAfter acting
+step-writes size f p k x u r ws w c h e =
     rw e
     (same-writes size (u .address) (acting f u r) (heldVector f u x k) (λ i. vectorAt f (u .usn) p (i * vectorBits f)) _ _ w
-    (λ j l m. held-vector f p k j x u ws h (vector-in f (u .count) k j l (omega arith))))
+    (λ j l m. held (write-in f (r .cl) (r .wl) (u .count) k j c l (omega arith))))
+  where
+    held : {j : ℕ} → WriteIn f (r .cl) (r .wl) k j
+        → lastVector (heldVector f u x k) (vectorsBefore (r .cl) (r .wl) (suc j))
+        ≡ lastVector (λ i. vectorAt f (u .usn) p (i * vectorBits f)) (vectorsBefore (r .cl) (r .wl) (suc j))
+    held y = rw (y .is) (held-vector f p k (y .vector) x u ws h (y .ends))
 
-taken : (f : Format) (u : Unpacking) (k : ℕ) → k + u .due ≡ payloadWords f (u .count) → takenWords f u ≡ k
+taken : (f : Format) (r : Registers) (u : Unpacking) (k : ℕ) → k + u .due ≡ payloadFor f (r .cl) (r .wl) (u .count) → takenWords f r u ≡ k
 unfolding takenWords
-taken f u k q = omega arith
+taken f r u k q = omega arith
 
--- the steps from word k on write the payload's vectors from there on
-steps-write : (size : ℕ) (f : Format) (p k : ℕ) (u : Unpacking) (r : Registers) (ws : List ℕ) (w : Written) → Along p k u ws
-    → k + u .due ≡ payloadWords f (u .count) → length ws ≤ u .due
+-- the steps from word k on make the writes from there on
+steps-write : (size : ℕ) (f : Format) (p k : ℕ) (u : Unpacking) (r : Registers) (ws : List ℕ) (w : Written) → 1 ≤ r .wl → Along p k u ws
+    → k + u .due ≡ payloadFor f (r .cl) (r .wl) (u .count) → length ws ≤ u .due
     → takeWords size f u r ws w
-    ≡ writeVectors size (u .address) (acting f u r) (λ i. vectorAt f (u .usn) p (i * vectorBits f))
-    (wholeVectors f (u .count) (k + length ws) - wholeVectors f (u .count) k)
-    (wholeVectors f (u .count) k)
+    ≡ writesFrom size (u .address) (acting f u r) (λ i. vectorAt f (u .usn) p (i * vectorBits f))
+    (doneAfter f r u (k + length ws) - doneAfter f r u k)
+    (doneAfter f r u k)
     w
-unfolding takeWords writeVectors acting
-steps-write size f p k u r [] w h q l =
-    let e : wholeVectors f (u .count) (k + 0) - wholeVectors f (u .count) k ≡ 0 = rw add-zero (omega arith) in
+unfolding takeWords writesFrom acting doneAfter
+steps-write size f p k u r [] w c h q l =
+    let e : doneAfter f r u (k + 0) - doneAfter f r u k ≡ 0 = rw add-zero (omega arith) in
     rw e
-steps-write size f p k u r (x ∷ ws) w h q l =
-    let e : takenWords f u ≡ k = taken f u k q in
-    let c : k + suc (length ws) ≡ k + 1 + length ws = omega arith in
-    steps-write size f p (k + 1) (holds u x) r ws (unpackWord size f u r x w) (along-next p k x u ws h) (omega arith) (omega arith)
-    ∙ rw (c, step-writes size f p k x u r ws w h e)
-    (writes-to size (u .address) (acting f u r) (λ i. vectorAt f (u .usn) p (i * vectorBits f)) _ _ _ w (whole-mono f (u .count) k (k + 1) (omega arith)) (whole-mono f (u .count) (k + 1) (k + 1 + length ws) (omega arith)))
+steps-write size f p k u r (x ∷ ws) w c h q l =
+    let e : takenWords f r u ≡ k = taken f r u k q in
+    let n : k + suc (length ws) ≡ k + 1 + length ws = omega arith in
+    steps-write size f p (k + 1) (holds u x) r ws (unpackWord size f u r x w) c (along-next p k x u ws h) (omega arith) (omega arith)
+    ∙ rw (n, step-writes size f p k x u r ws w c h e)
+    (writes-to size (u .address) (acting f u r) (λ i. vectorAt f (u .usn) p (i * vectorBits f)) _ _ _ w (done-after-mono f r u k (k + 1) c (omega arith)) (done-after-mono f r u (k + 1) (k + 1 + length ws) c (omega arith)))
 
 -- ---- the whole payload
 
--- taking a payload's words one by one, at most all of it, writes exactly the vectors that lie wholly in them, by the bits of the words as one number
+-- taking a payload's words one by one, at most all of it, makes exactly the writes whose vectors lie wholly in them, and the fills after these, by the bits of
+-- the words as one number
 pub payload-theorem : (size : ℕ) (f : Format) (a num : ℕ) (usn masked i : Bool) (r : Registers) (ws : List ℕ) (w : Written) → Words ws
-    → length ws ≤ payloadWords f (countOf num)
-    → takeWords size f (unpackingOf f a num usn masked i) r ws w ≡ unpackedBy size f (unpackingOf f a num usn masked i) r ws w
+    → 1 ≤ r .cl → 1 ≤ r .wl → length ws ≤ payloadFor f (r .cl) (r .wl) (countOf num)
+    → takeWords size f (unpackingOf f (r .cl) (r .wl) a num usn masked i) r ws w
+    ≡ unpackedBy size f (unpackingOf f (r .cl) (r .wl) a num usn masked i) r ws w
 unfolding unpackedBy unpackingOf payloadVector
-payload-theorem size f a num usn masked i r ws w h l =
-    steps-write size f (value ws) 0 (unpackingOf f a num usn masked i) r ws w (along-first f a num usn masked i ws h) (omega arith) l
-    ∙ rw (whole-none f (countOf num), zero-add, sub-zero)
+payload-theorem size f a num usn masked i r ws w h c d l =
+    let u = unpackingOf f (r .cl) (r .wl) a num usn masked i in
+    steps-write size f (value ws) 0 u r ws w d (along-first f (r .cl) (r .wl) a num usn masked i ws h) (omega arith) l
+    ∙ rw (done-first f r u d c, zero-add, sub-zero)
+
+-- with CL 0 the code's own step has made all writes: none is left to the payload, which has no word
+pub unfed-theorem : (size : ℕ) (f : Format) (u : Unpacking) (r : Registers) (w : Written) → r .cl ≡ 0 → 1 ≤ r .wl
+    → unfedWrites size f u r w ≡ unpackedBy size f u r [] w
+unfolding unfedWrites unpackedBy acting
+unfed-theorem size f u r w z d =
+    rw (done-unfed f r u 0 d z)
+    (same-writes size (u .address) (acting f u r) (λ j. []) (payloadVector f (u .usn) []) (u .count) 0 w
+    (λ j l m. rw (vectors-zero (r .cl) (r .wl) z d (suc j))))
+
+-- words and then more of them
+pub take-join : (size : ℕ) (f : Format) (u : Unpacking) (r : Registers) (ws vs : List ℕ) (w : Written)
+    → takeWords size f u r (ws ++ vs) w ≡ takeWords size f (heldAfter u ws) r vs (takeWords size f u r ws w)
+unfolding takeWords heldAfter
+take-join size f u r [] vs w = refl
+take-join size f u r (x ∷ ws) vs w = take-join size f (holds u x) r ws vs (unpackWord size f u r x w)
+
+-- from a waiting UNPACK on, which has taken the words ws: the words vs after them make the writes of all of them
+pub payload-on : (size : ℕ) (f : Format) (a num : ℕ) (usn masked i : Bool) (r : Registers) (ws vs : List ℕ) (w : Written) → Words (ws ++ vs)
+    → 1 ≤ r .cl → 1 ≤ r .wl → length (ws ++ vs) ≤ payloadFor f (r .cl) (r .wl) (countOf num)
+    → takeWords size f (heldAfter (unpackingOf f (r .cl) (r .wl) a num usn masked i) ws) r vs
+    (takeWords size f (unpackingOf f (r .cl) (r .wl) a num usn masked i) r ws w)
+    ≡ unpackedBy size f (unpackingOf f (r .cl) (r .wl) a num usn masked i) r (ws ++ vs) w
+payload-on size f a num usn masked i r ws vs w h c d l =
+    sym (take-join size f (unpackingOf f (r .cl) (r .wl) a num usn masked i) r ws vs w) ∙ payload-theorem size f a num usn masked i r (ws ++ vs) w h c d l
 
 -- each word taken makes one less due
 due-after : (u : Unpacking) (ws : List ℕ) → heldAfter u ws .due ≡ u .due - length ws
@@ -235,10 +300,10 @@ unfolding heldAfter
 due-after u [] = omega arith
 due-after u (x ∷ ws) = let h = due-after (holds u x) ws in omega arith
 
-pub payload-due : (f : Format) (a num : ℕ) (usn masked i : Bool) (ws : List ℕ)
-    → heldAfter (unpackingOf f a num usn masked i) ws .due ≡ payloadWords f (countOf num) - length ws
+pub payload-due : (f : Format) (cl wl a num : ℕ) (usn masked i : Bool) (ws : List ℕ)
+    → heldAfter (unpackingOf f cl wl a num usn masked i) ws .due ≡ payloadFor f cl wl (countOf num) - length ws
 unfolding unpackingOf
-payload-due f a num usn masked i ws = due-after (unpackingOf f a num usn masked i) ws
+payload-due f cl wl a num usn masked i ws = due-after (unpackingOf f cl wl a num usn masked i) ws
 
 -- ---- the vectors of the words taken
 
@@ -251,6 +316,28 @@ whole-exactly f n k i h =
       (λ l. let q = t .1 l in omega arith),
     )
 
+-- the first v vectors lie wholly in the first k words
+below-whole : (f : Format) (n k v : ℕ) → v ≤ n → (v ≤ wholeVectors f n k) ↔ (v * vectorBits f ≤ 32 * k)
+unfolding wholeVectors
+below-whole f n k v h =
+    let t = le-div-iff-mul-le {k = vectorBits f} {x = v} {y = 32 * k} (bits-some f) in (
+      (λ l. t .0 (omega arith)),
+      (λ l. let q = t .1 l in omega arith),
+    )
+
+-- exactly the writes whose vectors, and for fills whose vectors before them, lie wholly in the first k words
+pub writes-exactly : (f : Format) (r : Registers) (u : Unpacking) (k i : ℕ) → 1 ≤ r .wl → i < u .count
+    → (i < doneAfter f r u k) ↔ (vectorsBefore (r .cl) (r .wl) (suc i) * vectorBits f ≤ 32 * k)
+unfolding doneAfter
+writes-exactly f r u k i w h =
+    let e = done-exactly (r .cl) (r .wl) w (wholeVectors f (vectorsBefore (r .cl) (r .wl) (u .count)) k) (u .count) i h in
+    let q : suc i + (u .count - suc i) ≡ u .count = omega arith in
+    let m = rw q at (vectors-mono (r .cl) (r .wl) w (suc i) (u .count - suc i)) in
+    let b = below-whole f (vectorsBefore (r .cl) (r .wl) (u .count)) k (vectorsBefore (r .cl) (r .wl) (suc i)) m in (
+      (λ l. b .0 (e .0 l)),
+      (λ l. e .1 (b .1 l)),
+    )
+
 -- all of them lie in the whole payload
 pub whole-all : (f : Format) (n : ℕ) → wholeVectors f n (payloadWords f n) ≡ n
 unfolding wholeVectors payloadWords
@@ -258,14 +345,21 @@ whole-all f n =
     let q : n ≤ 32 * ((n * vectorBits f + 31) / 32) / vectorBits f = le-div-iff-mul-le (bits-some f) .1 (omega arith) in
     min-eq-left q
 
--- a whole payload writes every vector
+pub done-all : (f : Format) (r : Registers) (u : Unpacking) → 1 ≤ r .wl → doneAfter f r u (payloadFor f (r .cl) (r .wl) (u .count)) ≡ u .count
+unfolding doneAfter
+done-all f r u w =
+    rw (whole-all f (vectorsBefore (r .cl) (r .wl) (u .count)))
+    (done-is (r .cl) (r .wl) w _ (u .count) (u .count) (omega arith) (omega arith) (λ l. absurd (omega arith)))
+
+-- a whole payload makes every write
 pub payload-whole : (size : ℕ) (f : Format) (a num : ℕ) (usn masked i : Bool) (r : Registers) (ws : List ℕ) (w : Written) → Words ws
-    → length ws ≡ payloadWords f (countOf num)
-    → takeWords size f (unpackingOf f a num usn masked i) r ws w
-    ≡ writeVectors size (a % addresses) (acting f (unpackingOf f a num usn masked i) r) (payloadVector f usn ws) (countOf num) 0 w
+    → 1 ≤ r .cl → 1 ≤ r .wl → length ws ≡ payloadFor f (r .cl) (r .wl) (countOf num)
+    → takeWords size f (unpackingOf f (r .cl) (r .wl) a num usn masked i) r ws w
+    ≡ writesFrom size (a % addresses) (acting f (unpackingOf f (r .cl) (r .wl) a num usn masked i) r) (payloadVector f usn ws) (countOf num) 0 w
 unfolding unpackedBy unpackingOf
-payload-whole size f a num usn masked i r ws w h l =
-    payload-theorem size f a num usn masked i r ws w h (omega arith) ∙ rw (l, whole-all f (countOf num))
+payload-whole size f a num usn masked i r ws w h c d l =
+    payload-theorem size f a num usn masked i r ws w h c d (omega arith)
+    ∙ rw (l, done-all f r (unpackingOf f (r .cl) (r .wl) a num usn masked i) d)
 
 -- ---- what writes leave as it was
 
@@ -277,47 +371,48 @@ put-other : (m : List ℕ) (at code mode x row col k : ℕ) → (k ≡ at → �
 unfolding putField
 put-other m at code mode x row col k n = getD-set-other m at k _ 0 n
 
-module _ (size a : ℕ) (r : Registers) (vec : ℕ → List ℕ) where
-  vector-length : (i : ℕ) (fields : List ℕ) (w : Written) → length (writeVector size a r i fields w .mem) ≡ length (w .mem)
+-- one write, whatever its fields
+module _ (size a : ℕ) (r : Registers) (i : ℕ) (fields : List ℕ) (w : Written) where
+  vector-length : length (writeVector size a r i fields w .mem) ≡ length (w .mem)
   unfolding writeVector writtenAt
-  vector-length i fields w = simp put-length
+  vector-length = simp put-length
 
-  pub vectors-length : (n i : ℕ) (w : Written) → length (writeVectors size a r vec n i w .mem) ≡ length (w .mem)
-  unfolding writeVectors
-  vectors-length zero i w = refl
-  vectors-length (suc n) i w = vectors-length n (suc i) (writeVector size a r i (vec i) w) ∙ vector-length i (vec i) w
-
-  vector-rows : (i : ℕ) (fields : List ℕ) (w : Written) → length (writeVector size a r i fields w .row) ≡ 4
+  vector-rows : length (writeVector size a r i fields w .row) ≡ 4
   unfolding writeVector rowsAfter
-  vector-rows i fields w = refl
+  vector-rows = refl
 
-  pub vectors-rows : (n i : ℕ) (w : Written) → length (w .row) ≡ 4 → length (writeVectors size a r vec n i w .row) ≡ 4
-  unfolding writeVectors
-  vectors-rows zero i w h = h
-  vectors-rows (suc n) i w h = vectors-rows n (suc i) (writeVector size a r i (vec i) w) (vector-rows i (vec i) w)
-
-  vector-outside : (i q e : ℕ) (fields : List ℕ) (w : Written) → e < 4 → (q ≡ positionOf size a (r .cl) (r .wl) i → ⊥)
+  vector-outside : (q e : ℕ) → e < 4 → (q ≡ positionOf size a (r .cl) (r .wl) i → ⊥)
       → getD (writeVector size a r i fields w .mem) (4 * q + e) 0 ≡ getD (w .mem) (4 * q + e) 0
   unfolding writeVector writtenAt
-  vector-outside i q e fields w h n =
+  vector-outside q e h n =
       put-other _ _ _ _ _ _ _ _ (λ z. n (omega arith)) ∙ put-other _ _ _ _ _ _ _ _ (λ z. n (omega arith))
       ∙ put-other _ _ _ _ _ _ _ _ (λ z. n (omega arith))
       ∙ put-other _ _ _ _ _ _ _ _ (λ z. n (omega arith))
 
-  -- a quadword to which none of the vectors goes keeps its four words
-  pub vectors-outside : (n i q e : ℕ) (w : Written) → e < 4 → ((j : ℕ) → i ≤ j → j < i + n → q ≡ positionOf size a (r .cl) (r .wl) j → ⊥)
-      → getD (writeVectors size a r vec n i w .mem) (4 * q + e) 0 ≡ getD (w .mem) (4 * q + e) 0
-  unfolding writeVectors
-  vectors-outside zero i q e w l h = refl
-  vectors-outside (suc n) i q e w l h =
-      vectors-outside n (suc i) q e (writeVector size a r i (vec i) w) l (λ j s t. h j (omega arith) (omega arith))
-      ∙ vector-outside i q e (vec i) w l (h i (omega arith) (omega arith))
+module _ (size a : ℕ) (r : Registers) (vec : ℕ → List ℕ) where
+  pub writes-length : (n i : ℕ) (w : Written) → length (writesFrom size a r vec n i w .mem) ≡ length (w .mem)
+  unfolding writesFrom writeAt
+  writes-length zero i w = refl
+  writes-length (suc n) i w = writes-length n (suc i) (writeAt size a r vec i w) ∙ vector-length size a (registersAt r i) i _ w
+
+  pub writes-rows : (n i : ℕ) (w : Written) → length (w .row) ≡ 4 → length (writesFrom size a r vec n i w .row) ≡ 4
+  unfolding writesFrom writeAt
+  writes-rows zero i w h = h
+  writes-rows (suc n) i w h = writes-rows n (suc i) (writeAt size a r vec i w) (vector-rows size a (registersAt r i) i _ w)
+
+  -- a quadword to which none of the writes goes keeps its four words
+  pub writes-outside : (n i q e : ℕ) (w : Written) → e < 4 → ((j : ℕ) → i ≤ j → j < i + n → q ≡ positionOf size a (r .cl) (r .wl) j → ⊥)
+      → getD (writesFrom size a r vec n i w .mem) (4 * q + e) 0 ≡ getD (w .mem) (4 * q + e) 0
+  unfolding writesFrom writeAt registersAt
+  writes-outside zero i q e w l h = refl
+  writes-outside (suc n) i q e w l h =
+      writes-outside n (suc i) q e (writeAt size a r vec i w) l (λ j s t. h j (omega arith) (omega arith))
+      ∙ vector-outside size a (registersAt r i) i _ w q e l (h i (omega arith) (omega arith))
 
 -- ---- CL = WL = 1, no mask and no mode: quadwords one after another
 
 plain-position : (size a i : ℕ) → positionOf size a 1 1 i ≡ (a + i) % size
-unfolding positionOf
-plain-position size a i = rw (div-one, mod-one, mul-one, add-zero)
+plain-position size a i = plain-place size a 1 1 i refl ∙ rw (div-one, mod-one, mul-one, add-zero)
 
 plain-code : (r f : ℕ) → codeAt 0 r f ≡ 0
 unfolding codeAt
@@ -334,14 +429,17 @@ module _ (size a : ℕ) (r : Registers) (hc : r .cl ≡ 1) (hw : r .wl ≡ 1) (h
   plain-vector i fields w h =
       rw (hc, hw, hm, hk, plain-position size a i, plain-rows (codeRow 0 _) fields (w .row) h, plain-quadword (w .mem) fields (w .row) (codeRow 0 _) _ _ 0 (plain-codes _))
 
+  unfilled : filling (r .cl) (r .wl) ≡ false
+  unfilled = rw (hc, hw)
+
   pub plain-written : (vec : ℕ → List ℕ) (n i : ℕ) (w : Written) → length (w .row) ≡ 4
-      → writeVectors size a r vec n i w ≡ written (w .row) (copyVectors size a vec n i (w .mem))
-  unfolding writeVectors copyVectors
+      → writesFrom size a r vec n i w ≡ written (w .row) (copyVectors size a vec n i (w .mem))
+  unfolding writesFrom copyVectors
   plain-written vec zero i w h = refl
-  plain-written vec (suc n) i w h = rw (plain-vector i (vec i) w h) (plain-written vec n (suc i) _ h)
+  plain-written vec (suc n) i w h = rw (← plain-at size a r vec i unfilled w, plain-vector i (vec i) w h) (plain-written vec n (suc i) _ h)
 
   pub v4-written : (vec : ℕ → List ℕ) (n : ℕ) (w : Written) → length (w .row) ≡ 4
-      → writeVectors size a r vec n 0 w ≡ written (w .row) (copyVectors size a vec n 0 (w .mem))
+      → writesFrom size a r vec n 0 w ≡ written (w .row) (copyVectors size a vec n 0 (w .mem))
   v4-written vec n w h = plain-written vec n 0 w h
 
 -- a whole word is extended by nothing
@@ -368,11 +466,13 @@ v4-words n = omega arith
 -- a whole V4-32 payload, with CL = WL = 1, M clear and MODE 0, is copied: its words 4j to 4j + 3 to quadword (a + j) mod size
 pub v4-payload : (size a num : ℕ) (usn i : Bool) (r : Registers) (ws : List ℕ) (w : Written) → Words ws → length ws ≡ 4 * countOf num
     → r .cl ≡ 1 → r .wl ≡ 1 → r .mode ≡ 0 → length (w .row) ≡ 4
-    → takeWords size V4x32 (unpackingOf V4x32 a num usn false i) r ws w
+    → takeWords size V4x32 (unpackingOf V4x32 (r .cl) (r .wl) a num usn false i) r ws w
     ≡ written (w .row) (copyVectors size (a % addresses) (fourWords ws) (countOf num) 0 (w .mem))
 unfolding acting unpackingOf maskOf if
 v4-payload size a num usn i r ws w h l hc hw hm hr =
-    let u = unpackingOf V4x32 a num usn false i in
-    payload-whole size V4x32 a num usn false i r ws w h (l ∙ sym (v4-words (countOf num)))
-    ∙ same-writes size (a % addresses) (acting V4x32 u r) (payloadVector V4x32 usn ws) (fourWords ws) (countOf num) 0 w (λ j s t. v4-vector usn h j)
+    let u = unpackingOf V4x32 (r .cl) (r .wl) a num usn false i in
+    let f : filling (r .cl) (r .wl) ≡ false = rw (hc, hw) in
+    let n : payloadFor V4x32 (r .cl) (r .wl) (countOf num) ≡ 4 * countOf num = rw (plain-vectors (r .cl) (r .wl) (countOf num) f) (v4-words (countOf num)) in
+    payload-whole size V4x32 a num usn false i r ws w h (omega arith) (omega arith) (l ∙ sym n)
+    ∙ equal-writes size (a % addresses) (acting V4x32 u r) (payloadVector V4x32 usn ws) (fourWords ws) (countOf num) 0 w (λ j. v4-vector usn h j)
     ∙ v4-written size (a % addresses) (acting V4x32 u r) hc hw hm refl (fourWords ws) (countOf num) w hr

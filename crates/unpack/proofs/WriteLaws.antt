@@ -1,6 +1,6 @@
 -- Writes from what their parts give, and one write after another.
 use mathlib.Core.Path.{_≡_, refl, sym, ap, _∙_}
-use mathlib.Core.Bool.{true, _&&_}
+use mathlib.Core.Bool.{true, false, _&&_}
 use mathlib.Core.List.{List, [], _∷_}
 use Prim.Native.Nat.{ℕ, zero, suc, _+_, _*_, _-_, _/_, _%_, _<_, _≤_}
 use native.Mathlib.Nat.{mul-le-mul, div-le-self, mod-lt, min-le-right}
@@ -10,14 +10,15 @@ use borrow.Author.Tests.{eqb-true}
 use lib.ListN.{length, getD, set}
 use lib.Dec.{eqb}
 use Rattle.fields.specs.Fields.{if}
-use Rattle.fields.proofs.ChoiceLaws.{if-ind-by, and-left, and-right}
+use Rattle.fields.proofs.ChoiceLaws.{if-ind, if-ind-by, and-left, and-right}
 use Rattle.unpack.specs.declared.Registers.{Registers}
-use Rattle.unpack.specs.Position.{positionOf}
+use Rattle.unpack.specs.Position.{filling, fills, vectorsBefore, positionOf}
 use Rattle.unpack.specs.Mask.{rowOfCycle, codeRow, unfolded}
-use Rattle.unpack.specs.Write.{rowOf, dataOf, fieldOf, rowsAfter, putField, writtenAt, Written, written, writeVector, writeVectors}
+use Rattle.unpack.specs.Write.{rowOf, dataOf, fieldOf, rowsAfter, putField, writtenAt, Written, written, writeVector, registersAt, lastVector, writeAt, writesFrom}
 use Rattle.unpack.specs.Whole.{storeQuadword}
 use Rattle.unpack.specs.Range.{CycleFits}
 use Rattle.unpack.specs.Inner.{plain}
+use Rattle.unpack.proofs.CycleLaws.{plain-vectors}
 
 pub below4 : (P : ℕ → Type 0) → P 0 → P 1 → P 2 → P 3 → (n : ℕ) → n < 4 → P n
 below4 P p0 p1 p2 p3 zero h = p0
@@ -43,7 +44,16 @@ cycle-most {i} {cl} {wl} {n} f h e =
 -- a position lies inside the memory, once over its size
 pub position-inside : (size a cl wl i : ℕ) → 1 ≤ size → positionOf size a cl wl i < size
 unfolding positionOf
-position-inside size a cl wl i h = mod-lt (a + i / wl * cl + i % wl) h
+position-inside size a cl wl i h =
+    if-ind (λ (q : ℕ). q < size) (filling cl wl) (mod-lt (a + i) h) (mod-lt (a + i / wl * cl + i % wl) h)
+
+pub plain-place : (size a cl wl i : ℕ) → filling cl wl ≡ false → positionOf size a cl wl i ≡ (a + i / wl * cl + i % wl) % size
+unfolding positionOf if
+plain-place size a cl wl i f = rw f
+
+pub filling-place : (size a cl wl i : ℕ) → filling cl wl ≡ true → positionOf size a cl wl i ≡ (a + i) % size
+unfolding positionOf if
+filling-place size a cl wl i f = rw f
 
 pub rows : (codes : List ℕ) (mode : ℕ) (fields row : List ℕ) {a b x y : ℕ}
     → a ≡ rowOf (getD codes 0 0) mode (getD fields 0 0) (getD row 0 0)
@@ -120,15 +130,43 @@ pub vector-written : (size a i : ℕ) (r : Registers) (fields row mem : List ℕ
 unfolding writeVector
 vector-written size a i r fields row mem eq ec el es em = rw (es, em, eq, ec, el)
 
--- one vector more, and none left
-module _ (size a : ℕ) (r : Registers) (vec : ℕ → List ℕ) (to i : ℕ) where
-  pub vectors-more : i < to → (row mem : List ℕ) {rs m fields : List ℕ} → fields ≡ vec i → written rs m ≡ writeVector size a r i fields (written row mem)
-      → writeVectors size a r vec (to - (i + 1)) (i + 1) (written rs m) ≡ writeVectors size a r vec (to - i) i (written row mem)
-  unfolding writeVectors
-  vectors-more h row mem ef e =
-      let n : to - i ≡ suc (to - (i + 1)) = omega arith in
-      rw (n, e, ef, add-one)
+-- one write of an UNPACK with fills
+pub filling-written : (size a i : ℕ) (r : Registers) (fields row mem : List ℕ) {codes : List ℕ} {q col mode : ℕ} {rs m : List ℕ}
+    → filling (r .cl) (r .wl) ≡ true → q ≡ (a + i) % size → mode ≡ registersAt r i .mode
+    → codes ≡ codeRow (r .mask) (rowOfCycle (r .wl) i) → col ≡ getD (r .col) (rowOfCycle (r .wl) i) 0
+    → rs ≡ rowsAfter codes mode fields row → m ≡ writtenAt mem q fields row col codes mode
+    → written rs m ≡ writeVector size a (registersAt r i) i fields (written row mem)
+unfolding registersAt
+filling-written size a i r fields row mem f eq em ec el es et =
+    vector-written size a i (registersAt r i) fields row mem (eq ∙ sym (filling-place size a (r .cl) (r .wl) i f)) ec el (rw em at es) (rw em at et)
 
-  pub vectors-none : to ≤ i → (w : Written) → writeVectors size a r vec (to - i) i w ≡ w
-  unfolding writeVectors
-  vectors-none h w = let n : to - i ≡ 0 = omega arith in rw n
+-- a write as the cycle has it: without fills it takes the vector of its own number
+module _ (size a : ℕ) (r : Registers) (vec : ℕ → List ℕ) (i : ℕ) where
+  pub plain-at : filling (r .cl) (r .wl) ≡ false → (w : Written) → writeVector size a r i (vec i) w ≡ writeAt size a r vec i w
+  unfolding writeAt registersAt fills if
+  plain-at f w = rw (f, plain-vectors (r .cl) (r .wl) (suc i) f)
+
+  -- where writes fill it takes the last one of those up to it
+  pub filling-at : {j : ℕ} → vectorsBefore (r .cl) (r .wl) (suc i) ≡ suc j → (w : Written)
+      → writeVector size a (registersAt r i) i (vec j) w ≡ writeAt size a r vec i w
+  unfolding writeAt
+  filling-at e w = rw e
+
+  -- and zeros where there is none
+  pub unfed-at : vectorsBefore (r .cl) (r .wl) (suc i) ≡ 0 → (w : Written)
+      → writeVector size a (registersAt r i) i (0 ∷ 0 ∷ 0 ∷ 0 ∷ []) w ≡ writeAt size a r vec i w
+  unfolding writeAt
+  unfed-at e w = rw e
+
+-- one write more, and none left
+module _ (size a : ℕ) (r : Registers) (vec : ℕ → List ℕ) (to i : ℕ) where
+  pub writes-more : i < to → (w : Written) {x : Written} → x ≡ writeAt size a r vec i w
+      → writesFrom size a r vec (to - (i + 1)) (i + 1) x ≡ writesFrom size a r vec (to - i) i w
+  unfolding writesFrom
+  writes-more h w e =
+      let n : to - i ≡ suc (to - (i + 1)) = omega arith in
+      rw (n, e, add-one)
+
+  pub writes-none : to ≤ i → (w : Written) → writesFrom size a r vec (to - i) i w ≡ w
+  unfolding writesFrom
+  writes-none h w = let n : to - i ≡ 0 = omega arith in rw n

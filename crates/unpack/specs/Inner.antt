@@ -1,5 +1,5 @@
 -- Facts that inner functions require of their input; no promise of a public function cites them.
-use Prim.Native.Nat.{ℕ, _+_, _*_, _%_, _<_, _≤_}
+use Prim.Native.Nat.{ℕ, suc, _+_, _*_, _-_, _%_, _<_, _≤_}
 use mathlib.Core.List.{List}
 use mathlib.Core.Path.{_≡_}
 use mathlib.Core.Bool.{Bool, _&&_}
@@ -8,9 +8,11 @@ use lib.Dec.{eqb}
 use Rattle.unpack.specs.declared.Format.{Format}
 use Rattle.unpack.specs.declared.Unpacking.{Unpacking}
 use Rattle.unpack.specs.declared.Registers.{Registers}
-use Rattle.unpack.specs.Payload.{elementBits, vectorBits}
-use Rattle.unpack.specs.Position.{addresses, addressMost}
-use Rattle.unpack.specs.Range.{CycleFits}
+use Rattle.unpack.specs.Payload.{elementBits, vectorBits, wholeVectors}
+use Rattle.unpack.specs.Position.{addresses, addressMost, vectorsBefore, writesDone}
+use Rattle.unpack.specs.Range.{CycleFits, UnpackingFits}
+use Rattle.unpack.specs.Write.{Written, writesFrom}
+use Rattle.unpack.specs.Step.{heldVector}
 
 -- the widths that elements have
 pub data Width : ℕ → Type 0 where
@@ -34,6 +36,12 @@ pub record VectorIn (f : Format) (k i : ℕ) : Type 0 where
   pub ends-after : 32 * k < (i + 1) * vectorBits f
   pub ends-inside : (i + 1) * vectorBits f ≤ 32 * (k + 1)
 
+-- write i is of a vector that word k completes
+pub record WriteIn (f : Format) (cl wl k i : ℕ) : Type 0 where
+  pub vector : ℕ
+  pub is : vectorsBefore cl wl (suc i) ≡ suc vector
+  pub ends : VectorIn f k vector
+
 -- a write stores its data as it is and leaves ROW: MODE is 0 and so is the code of each field
 unfoldable pub plain : List ℕ → ℕ → Bool
 plain codes mode =
@@ -46,11 +54,36 @@ pub record MemoryFits (size : ℕ) (mem : List ℕ) : Type 0 where
   pub most : size ≤ addresses
   pub long : length mem ≡ 4 * size
 
--- what the writes of word k need
+-- what the writes of word k need; each is of a vector that the word completes
 pub record WordFits (size : ℕ) (f : Format) (u : Unpacking) (r : Registers) (k from to : ℕ) (mem : List ℕ) : Type 0 where
   pub cycle : CycleFits (r .cl) (r .wl)
   pub memory : MemoryFits size mem
   pub inside : u .address ≤ addressMost
   pub few : to ≤ 256
   pub words : k ≤ 1024
-  pub each : (i : ℕ) → from ≤ i → i < to → VectorIn f k i
+  pub each : (i : ℕ) → from ≤ i → i < to → WriteIn f (r .cl) (r .wl) k i
+
+-- what word k's writes need, by the vectors that it completes
+pub record CompletedFits (size : ℕ) (f : Format) (u : Unpacking) (r : Registers) (k from to : ℕ) (mem : List ℕ) : Type 0 where
+  pub cycle : CycleFits (r .cl) (r .wl)
+  pub memory : MemoryFits size mem
+  pub unpacking : UnpackingFits f (r .cl) (r .wl) u
+  pub words : k ≤ 1024
+  pub first : from ≡ wholeVectors f (vectorsBefore (r .cl) (r .wl) (u .count)) k
+  pub last : to ≡ wholeVectors f (vectorsBefore (r .cl) (r .wl) (u .count)) (k + 1)
+
+-- those writes
+unfoldable pub completedWrites : ℕ → Format → Unpacking → Registers → ℕ → ℕ → ℕ → ℕ → Written → Written
+completedWrites size f u r word k from to w =
+    writesFrom size (u .address) r (heldVector f u word k) (done to - done from) (done from) w
+  where
+    done : ℕ → ℕ
+    done v = writesDone (r .cl) (r .wl) v (u .count)
+
+-- what the writes of an UNPACK with CL 0 need
+pub record UnfedFits (size : ℕ) (u : Unpacking) (r : Registers) (mem : List ℕ) : Type 0 where
+  pub cycle : CycleFits (r .cl) (r .wl)
+  pub none : r .cl ≡ 0
+  pub memory : MemoryFits size mem
+  pub inside : u .address ≤ addressMost
+  pub few : u .count ≤ 256

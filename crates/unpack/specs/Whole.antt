@@ -6,19 +6,19 @@ use lib.ListN.{length, getD, set}
 use Rattle.unpack.specs.declared.Format.{Format}
 use Rattle.unpack.specs.declared.Unpacking.{Unpacking}
 use Rattle.unpack.specs.declared.Registers.{Registers}
-use Rattle.unpack.specs.Payload.{vectorBits, value, wholeVectors}
+use Rattle.unpack.specs.Payload.{vectorBits, value}
 use Rattle.unpack.specs.Vector.{vectorAt}
-use Rattle.unpack.specs.Write.{Written, writeVectors}
-use Rattle.unpack.specs.Step.{holds, acting, unpackWord}
+use Rattle.unpack.specs.Write.{Written, writesFrom}
+use Rattle.unpack.specs.Step.{holds, acting, doneAfter, unpackWord}
 
 -- vector i of a payload, "their bits rounded up to whole words": its bits lie one after another in the number of the words
 unfoldable pub payloadVector : Format → Bool → List ℕ → ℕ → List ℕ
 payloadVector f usn ws i = vectorAt f usn (value ws) (i * vectorBits f)
 
--- "After k payload words, exactly the vectors lying wholly in them have been written": those of the words ws, in order
+-- "After k payload words, exactly the vectors lying wholly in them have been written", and the fills after them: the writes of the words ws, in order
 unfoldable pub unpackedBy : ℕ → Format → Unpacking → Registers → List ℕ → Written → Written
 unpackedBy size f u r ws w =
-    writeVectors size (u .address) (acting f u r) (payloadVector f (u .usn) ws) (wholeVectors f (u .count) (length ws)) 0 w
+    writesFrom size (u .address) (acting f u r) (payloadVector f (u .usn) ws) (doneAfter f r u (length ws)) 0 w
 
 -- the steps of payload words, one after another
 unfoldable pub takeWords : ℕ → Format → Unpacking → Registers → List ℕ → Written → Written

@@ -6,7 +6,7 @@ use lib.ListN.{getD, set}
 use lib.Dec.{eqb}
 use Rattle.fields.specs.Fields.{if}
 use Rattle.unpack.specs.declared.Registers.{Registers}
-use Rattle.unpack.specs.Position.{positionOf}
+use Rattle.unpack.specs.Position.{fills, vectorsBefore, positionOf}
 use Rattle.unpack.specs.Mask.{rowOfCycle, codeRow}
 
 -- "Sums are modulo 2^32."
@@ -62,7 +62,20 @@ writeVector size a r i fields w =
     (codeRow (r .mask) (rowOfCycle (r .wl) i))
     (r .mode))
 
--- n vectors from number i on, in order
-unfoldable pub writeVectors : ℕ → ℕ → Registers → (ℕ → List ℕ) → ℕ → ℕ → Written → Written
-writeVectors size a r vec zero i w = w
-writeVectors size a r vec (suc n) i w = writeVectors size a r vec n (suc i) (writeVector size a r i (vec i) w)
+-- request 3: "A filling field of mask code 0 gets that field ..., extended, without MODE, ...; ROW doesn't move. Codes 1 to 3 act as before."
+unfoldable pub registersAt : Registers → ℕ → Registers
+registersAt r i = record { cl = r .cl; wl = r .wl; mode = if (fills (r .cl) (r .wl) i) 0 (r .mode); mask = r .mask; col = r .col }
+
+-- the last of the first n vectors, "or 0 if there has been none"
+abbrev pub lastVector : (ℕ → List ℕ) → ℕ → List ℕ
+lastVector vec zero = 0 ∷ 0 ∷ 0 ∷ 0 ∷ []
+lastVector vec (suc j) = vec j
+
+-- write i takes its vector, a fill "the last payload vector of this UNPACK": each the last vector that the writes up to it take
+unfoldable pub writeAt : ℕ → ℕ → Registers → (ℕ → List ℕ) → ℕ → Written → Written
+writeAt size a r vec i w = writeVector size a (registersAt r i) i (lastVector vec (vectorsBefore (r .cl) (r .wl) (suc i))) w
+
+-- n writes from number i on, in order; vec gives the payload's vectors by their numbers
+unfoldable pub writesFrom : ℕ → ℕ → Registers → (ℕ → List ℕ) → ℕ → ℕ → Written → Written
+writesFrom size a r vec zero i w = w
+writesFrom size a r vec (suc n) i w = writesFrom size a r vec n (suc i) (writeAt size a r vec i w)

@@ -1,6 +1,9 @@
 // A write's place in the cycle of WL writes. A cycle of one is told without a division.
 ghost use mathlib.Core.Path.{_≡_};
-ghost use Prim.Native.Nat.{_<_, _/_, _%_};
+ghost use mathlib.Core.Bool.{true};
+ghost use Prim.Native.Nat.{_<_, _≤_, _/_, _%_, min};
+ghost use Rattle.unpack.specs.Position.{filling, vectorsBefore, writesDone};
+ghost use Rattle.unpack.specs.Range.{CycleFits};
 
 // The cycles before write i.
 pub(crate) fn cycles_before(wl: u32, i: u32) -> u32
@@ -16,4 +19,28 @@ pub(crate) fn place_in_cycle(wl: u32, i: u32) -> u32
     ensures { λ r. ⌜ r ≡ i % wl ⌝ }
 {
     if wl == 1 { 0 } else { i % wl }
+}
+
+fn smaller(a: u32, b: u32) -> u32
+    ensures { λ r. ⌜ r ≡ min a b ⌝ }
+{
+    if a < b { a } else { b }
+}
+
+// The vectors that the first n writes take.
+pub(crate) fn vectors_before(cl: u32, wl: u32, n: u32) -> u32
+    ensures { λ r. ⌜ r ≡ vectorsBefore cl wl n ⌝ }
+{
+    if cl < wl {
+        return cl * (n / wl) + smaller(n % wl, cl);
+    }
+    n
+}
+
+// The writes done once so many vectors are whole, where writes fill.
+pub(crate) fn writes_done(cl: u32, wl: u32, vectors: u32, n: u32) -> u32
+    requires { ⌜ CycleFits cl wl × (filling cl wl ≡ true) × (1 ≤ cl) × (vectors ≤ 256) ⌝ }
+    ensures { λ r. ⌜ r ≡ writesDone cl wl vectors n ⌝ }
+{
+    smaller(n, vectors / cl * wl + vectors % cl)
 }

@@ -16,6 +16,7 @@ pub use range::cycle_in_range;
 pub use range::cycle_refused;
 pub use range::unpacking_in_range;
 pub use step::take_word;
+pub use step::write_without_payload;
 
 // Addresses of quadwords have ten bits.
 pub const ADDRESSES: u32 = 1024;
@@ -44,7 +45,7 @@ pub enum NamedFormat {
     Missing,
 }
 
-// An UNPACK that waits for payload: its quadword address, its vectors, the payload words still due, USN, M, its interrupt bit, and the last three
+// An UNPACK that waits for payload: its quadword address, its writes, the payload words still due, USN, M, its interrupt bit, and the last three
 // payload words taken, oldest first.
 pub struct Unpacking {
     pub address: u32,

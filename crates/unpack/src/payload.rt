@@ -2,6 +2,7 @@
 use super::ADDRESSES;
 use super::Format;
 use super::Unpacking;
+use super::cycle::vectors_before;
 ghost use mathlib.Core.Path.{_≡_};
 ghost use Prim.Native.Nat.{_≤_};
 ghost use Rattle.unpack.specs.Payload.{elementBits, elements, isFive, vectorBits, payloadWords, wholeVectors};
@@ -96,22 +97,24 @@ pub fn count_of(num: u32) -> u32
     if num % 256 == 0 { 256 } else { num % 256 }
 }
 
-// An UNPACK code whose whole payload is due.
+// An UNPACK code whose whole payload is due under CL and WL.
 pub fn waiting_for(
     f: Format,
+    cl: u32,
+    wl: u32,
     address: u32,
     num: u32,
     usn: bool,
     masked: bool,
     interrupt: bool,
 ) -> Unpacking
-    ensures { λ r. ⌜ r ≡ unpackingOf f address num usn masked interrupt ⌝ }
+    ensures { λ r. ⌜ r ≡ unpackingOf f cl wl address num usn masked interrupt ⌝ }
 {
     let count = count_of(num);
     Unpacking {
         address: address % ADDRESSES,
         count,
-        due: payload_words(f, count),
+        due: payload_words(f, vectors_before(cl, wl, count)),
         usn,
         masked,
         interrupt,

@@ -2,6 +2,7 @@
 use super::ADDRESS_MOST;
 use super::Format;
 use super::Unpacking;
+use super::cycle::vectors_before;
 use super::payload::payload_words;
 ghost use mathlib.Core.Path.{_≡_};
 ghost use Rattle.unpack.specs.Range.{cycleRefused, cycleInRange, unpackingInRange};
@@ -10,10 +11,7 @@ ghost use Rattle.unpack.specs.Range.{cycleRefused, cycleInRange, unpacki
 pub fn cycle_refused(cl: u32, wl: u32) -> bool
     ensures { λ r. ⌜ r ≡ cycleRefused cl wl ⌝ }
 {
-    if wl == 0 {
-        return true;
-    }
-    cl < wl
+    wl == 0
 }
 
 // Whether CL and WL are such that an UNPACK is accepted.
@@ -29,9 +27,9 @@ pub fn cycle_in_range(cl: u32, wl: u32) -> bool
     wl <= 255
 }
 
-// Whether a waiting UNPACK is in its range.
-pub fn unpacking_in_range(f: Format, u: Unpacking) -> bool
-    ensures { λ r. ⌜ r ≡ unpackingInRange f u ⌝ }
+// Whether a waiting UNPACK is in its range under CL and WL.
+pub fn unpacking_in_range(f: Format, cl: u32, wl: u32, u: Unpacking) -> bool
+    ensures { λ r. ⌜ r ≡ unpackingInRange f cl wl u ⌝ }
 {
     if ADDRESS_MOST < u.address {
         return false;
@@ -45,5 +43,5 @@ pub fn unpacking_in_range(f: Format, u: Unpacking) -> bool
     if u.due < 1 {
         return false;
     }
-    u.due <= payload_words(f, u.count)
+    u.due <= payload_words(f, vectors_before(cl, wl, u.count))
 }

@@ -1,9 +1,12 @@
 // One payload word of an UNPACK.
+use super::ADDRESS_MOST;
 use super::ADDRESSES;
 use super::Format;
 use super::Registers;
 use super::Rows;
 use super::Unpacking;
+use super::cycle::vectors_before;
+use super::cycle::writes_done;
 use super::mask::mask_of;
 use super::mask::row_of_cycle;
 use super::mask::unfold_mask;
@@ -14,18 +17,21 @@ use super::payload::whole_vectors;
 use super::range::cycle_in_range;
 use super::range::unpacking_in_range;
 use super::vector::vector;
+use super::write::write_filling;
 use super::write::write_vector;
 ghost use mathlib.Core.Path.{_≡_};
+ghost use mathlib.Core.Bool.{true, false};
+ghost use Rattle.unpack.specs.Position.{filling};
 ghost use mathlib.Core.List.{[], _∷_};
 ghost use Prim.Native.Nat.{_-_, _≤_, _+_};
 ghost use lib.ListN.{length};
 ghost use Rattle.fields.specs.Fields.{if};
 ghost use Rattle.unpack.specs.Payload.{isFive};
 ghost use Rattle.unpack.specs.Mask.{unfolded};
-ghost use Rattle.unpack.specs.Write.{written, writeVector, writeVectors};
+ghost use Rattle.unpack.specs.Write.{written, writeVector, writesFrom};
 ghost use Rattle.unpack.specs.Range.{CycleFits, UnpackingFits};
-ghost use Rattle.unpack.specs.Inner.{MemoryFits, VectorIn, WordFits};
-ghost use Rattle.unpack.specs.Step.{acting, heldVector, wordOf, unpackWord, left, acceptable, takeOf};
+ghost use Rattle.unpack.specs.Inner.{MemoryFits, VectorIn, WordFits, CompletedFits, completedWrites, UnfedFits};
+ghost use Rattle.unpack.specs.Step.{acting, heldVector, wordOf, unpackWord, left, acceptable, takeOf, unfedAcceptable, unfedOf};
 
 // The registers as an UNPACK reads them.
 fn acting_registers(f: Format, u: Unpacking, r: Registers) -> Registers
@@ -56,7 +62,7 @@ fn held_vector(f: Format, u: Unpacking, word: u32, k: u32, i: u32) -> [u32; 4]
     vector(f, u.usn, u.first, u.second, u.third, word, at)
 }
 
-// The vectors from number `from` to below `to`, which word k completes.
+// The vectors from number `from` to below `to`, which word k completes, where none of the writes fills.
 fn write_vectors(
     size: u32,
     f: Format,
@@ -69,9 +75,9 @@ fn write_vectors(
     row: [u32; 4],
     data: &mut [u32],
 ) -> [u32; 4]
-    requires { ⌜ WordFits size f u r k from to (now «data») ⌝ }
+    requires { ⌜ (filling (r .cl) (r .wl) ≡ false) × WordFits size f u r k from to (now «data») ⌝ }
     ensures { λ rows. ⌜ written rows (now («data» .exit))
-        ≡ writeVectors size (u .address) r (heldVector f u word k) (to - from) from (written row (now («data» .entry))) ⌝ }
+        ≡ writesFrom size (u .address) r (heldVector f u word k) (to - from) from (written row (now («data» .entry))) ⌝ }
 {
     let codes = unfold_mask(r.mask);
     let col = r.col;
@@ -88,6 +94,64 @@ fn write_vectors(
     rows
 }
 
+// The writes from number `from` to below `to`, which word k completes, where some of them fill.
+fn write_cycles(
+    size: u32,
+    f: Format,
+    u: Unpacking,
+    r: Registers,
+    word: u32,
+    k: u32,
+    from: u32,
+    to: u32,
+    row: [u32; 4],
+    data: &mut [u32],
+) -> [u32; 4]
+    requires { ⌜ (filling (r .cl) (r .wl) ≡ true) × WordFits size f u r k from to (now «data») ⌝ }
+    ensures { λ rows. ⌜ written rows (now («data» .exit))
+        ≡ writesFrom size (u .address) r (heldVector f u word k) (to - from) from (written row (now («data» .entry))) ⌝ }
+{
+    let codes = unfold_mask(r.mask);
+    let col = r.col;
+    let mut rows = row;
+    let mut i = from;
+    while i < to {
+        let vectors = vectors_before(r.cl, r.wl, i + 1);
+        let fields = held_vector(f, u, word, k, vectors - 1);
+        let c = row_of_cycle(r.wl, i) as usize;
+        let chosen = codes[c];
+        let next = write_filling(size, u.address, r, i, fields, chosen, col[c], rows, data);
+        rows = next;
+        i += 1;
+    }
+    rows
+}
+
+// The vectors from number `from` to below `to`, which word k completes, and the fills after them.
+fn write_completed(
+    size: u32,
+    f: Format,
+    u: Unpacking,
+    r: Registers,
+    word: u32,
+    k: u32,
+    from: u32,
+    to: u32,
+    row: [u32; 4],
+    data: &mut [u32],
+) -> [u32; 4]
+    requires { ⌜ CompletedFits size f u r k from to (now «data») ⌝ }
+    ensures { λ rows. ⌜ written rows (now («data» .exit))
+        ≡ completedWrites size f u r word k from to (written row (now («data» .entry))) ⌝ }
+{
+    if r.cl < r.wl {
+        let first = writes_done(r.cl, r.wl, from, u.count);
+        let last = writes_done(r.cl, r.wl, to, u.count);
+        return write_cycles(size, f, u, r, word, k, first, last, row, data);
+    }
+    write_vectors(size, f, u, r, word, k, from, to, row, data)
+}
+
 // The next payload word, where all was tested.
 fn take(
     size: u32,
@@ -98,17 +162,18 @@ fn take(
     row: [u32; 4],
     data: &mut [u32],
 ) -> [u32; 4]
-    requires { ⌜ CycleFits (r .cl) (r .wl) × UnpackingFits f u × MemoryFits size (now «data») ⌝ }
+    requires { ⌜ CycleFits (r .cl) (r .wl) × UnpackingFits f (r .cl) (r .wl) u × MemoryFits size (now «data») ⌝ }
     ensures { λ rows. ⌜ written rows (now («data» .exit)) ≡ unpackWord size f u r word (written row (now («data» .entry))) ⌝ }
 {
-    let k = payload_words(f, u.count) - u.due;
-    let from = whole_vectors(f, u.count, k);
-    let to = whole_vectors(f, u.count, k + 1);
+    let vectors = vectors_before(r.cl, r.wl, u.count);
+    let k = payload_words(f, vectors) - u.due;
+    let from = whole_vectors(f, vectors, k);
+    let to = whole_vectors(f, vectors, k + 1);
     if from == to {
         return row;
     }
     let s = acting_registers(f, u, r);
-    write_vectors(size, f, u, s, word, k, from, to, row, data)
+    write_completed(size, f, u, s, word, k, from, to, row, data)
 }
 
 // The next payload word of an UNPACK, in a memory of `size` quadwords, on any input at all.
@@ -150,8 +215,78 @@ fn acceptable_input(size: u32, f: Format, u: Unpacking, r: Registers, data: &[u3
         return false;
     }
     if cycle_in_range(r.cl, r.wl) {
-        unpacking_in_range(f, u)
+        unpacking_in_range(f, r.cl, r.wl, u)
     } else {
         false
+    }
+}
+
+// All writes of an UNPACK with CL 0, each a fill without a vector before it.
+fn write_unfed(size: u32, u: Unpacking, r: Registers, row: [u32; 4], data: &mut [u32]) -> [u32; 4]
+    requires { ⌜ UnfedFits size u r (now «data») ⌝ }
+    ensures { λ rows. ⌜ written rows (now («data» .exit))
+        ≡ writesFrom size (u .address) r (λ j. []) (u .count) 0 (written row (now («data» .entry))) ⌝ }
+{
+    let codes = unfold_mask(r.mask);
+    let col = r.col;
+    let mut rows = row;
+    let mut i = 0;
+    while i < u.count {
+        let c = row_of_cycle(r.wl, i) as usize;
+        let chosen = codes[c];
+        let next = write_filling(size, u.address, r, i, [0; 4], chosen, col[c], rows, data);
+        rows = next;
+        i += 1;
+    }
+    rows
+}
+
+fn unfed_acceptable(size: u32, u: Unpacking, r: Registers, data: &[u32]) -> bool
+    ensures { λ b. ⌜ b ≡ unfedAcceptable size u r (now («data» .entry)) ⌝ }
+{
+    if size < 1 {
+        return false;
+    }
+    if ADDRESSES < size {
+        return false;
+    }
+    if data.len() != 4 * size as usize {
+        return false;
+    }
+    if cycle_in_range(r.cl, r.wl) {
+        if r.cl != 0 {
+            return false;
+        }
+        if ADDRESS_MOST < u.address {
+            return false;
+        }
+        return u.count <= 256;
+    }
+    false
+}
+
+// The writes of an UNPACK code with CL 0, which has no payload, in a memory of `size` quadwords, on any input at all.
+pub fn write_without_payload(
+    size: u32,
+    f: Format,
+    u: Unpacking,
+    r: Registers,
+    row: [u32; 4],
+    data: &mut [u32],
+) -> Rows
+    ensures { λ s. ⌜ left s (now («data» .exit)) ≡ unfedOf size f u r row (now («data» .entry)) ⌝ }
+{
+    if unfed_acceptable(size, u, r, data) {
+        let s = acting_registers(f, u, r);
+        let rows = write_unfed(size, u, s, row, data);
+        Rows {
+            accepted: true,
+            row: rows,
+        }
+    } else {
+        Rows {
+            accepted: false,
+            row,
+        }
     }
 }

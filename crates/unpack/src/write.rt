@@ -3,11 +3,12 @@ use super::Registers;
 use super::cycle::cycles_before;
 use super::cycle::place_in_cycle;
 ghost use mathlib.Core.Path.{_≡_};
+ghost use mathlib.Core.Bool.{true, false};
 ghost use Prim.Native.Nat.{_<_, _≤_, _+_, _*_, _%_};
 ghost use lib.ListN.{length, getD};
-ghost use Rattle.unpack.specs.Position.{addressMost, positionOf};
+ghost use Rattle.unpack.specs.Position.{filling, addressMost, positionOf};
 ghost use Rattle.unpack.specs.Mask.{rowOfCycle, codeRow};
-ghost use Rattle.unpack.specs.Write.{added, rowOf, dataOf, fieldOf, rowsAfter, putField, writtenAt, written, writeVector};
+ghost use Rattle.unpack.specs.Write.{added, rowOf, dataOf, fieldOf, rowsAfter, putField, writtenAt, written, writeVector, registersAt};
 ghost use Rattle.unpack.specs.Whole.{storeQuadword};
 ghost use Rattle.unpack.specs.Range.{CycleFits};
 ghost use Rattle.unpack.specs.Inner.{MemoryFits, plain};
@@ -145,16 +146,16 @@ fn wrapped(size: u32, at: u32) -> u32
     if at < size { at } else { at % size }
 }
 
-// The quadword that a write goes to.
+// The quadword that a write goes to, where none fills.
 fn position(size: u32, address: u32, cl: u32, wl: u32, i: u32) -> u32
-    requires { ⌜ CycleFits cl wl × (0 < size) × (address ≤ addressMost) × (i ≤ 255) ⌝ }
+    requires { ⌜ CycleFits cl wl × (filling cl wl ≡ false) × (0 < size) × (address ≤ addressMost) × (i ≤ 255) ⌝ }
     ensures { λ r. ⌜ r ≡ positionOf size address cl wl i ⌝ }
 {
     let start = cycles_before(wl, i) * cl;
     wrapped(size, address + start + place_in_cycle(wl, i))
 }
 
-// Write i of an UNPACK, with the mask's codes and COL of its row.
+// Write i of an UNPACK without fills, with the mask's codes and COL of its row.
 pub(crate) fn write_vector(
     size: u32,
     address: u32,
@@ -166,10 +167,43 @@ pub(crate) fn write_vector(
     row: [u32; 4],
     data: &mut [u32],
 ) -> [u32; 4]
-    requires { ⌜ CycleFits (r .cl) (r .wl) × MemoryFits size (now «data») × (address ≤ addressMost) × (i ≤ 255)
+    requires { ⌜ CycleFits (r .cl) (r .wl) × (filling (r .cl) (r .wl) ≡ false) × MemoryFits size (now «data») × (address ≤ addressMost) × (i ≤ 255)
         × (codes ≡ codeRow (r .mask) (rowOfCycle (r .wl) i)) × (col ≡ getD (r .col) (rowOfCycle (r .wl) i) 0) ⌝ }
     ensures { λ rows. ⌜ written rows (now («data» .exit)) ≡ writeVector size address r i fields (written row (now («data» .entry))) ⌝ }
 {
     let quad = position(size, address, r.cl, r.wl, i);
     write_quadword(data, quad as usize, fields, row, col, codes, r.mode)
+}
+
+// MODE of write i of an UNPACK with fills: a fill is without.
+fn mode_at(r: Registers, i: u32) -> u32
+    requires { ⌜ CycleFits (r .cl) (r .wl) × (filling (r .cl) (r .wl) ≡ true) ⌝ }
+    ensures { λ m. ⌜ m ≡ registersAt r i .mode ⌝ }
+{
+    if r.cl <= place_in_cycle(r.wl, i) {
+        0
+    } else {
+        r.mode
+    }
+}
+
+// Write i of an UNPACK with fills, with the mask's codes and COL of its row.
+pub(crate) fn write_filling(
+    size: u32,
+    address: u32,
+    r: Registers,
+    i: u32,
+    fields: [u32; 4],
+    codes: [u32; 4],
+    col: u32,
+    row: [u32; 4],
+    data: &mut [u32],
+) -> [u32; 4]
+    requires { ⌜ CycleFits (r .cl) (r .wl) × (filling (r .cl) (r .wl) ≡ true) × MemoryFits size (now «data») × (address ≤ addressMost) × (i ≤ 255)
+        × (codes ≡ codeRow (r .mask) (rowOfCycle (r .wl) i)) × (col ≡ getD (r .col) (rowOfCycle (r .wl) i) 0) ⌝ }
+    ensures { λ rows. ⌜ written rows (now («data» .exit))
+        ≡ writeVector size address (registersAt r i) i fields (written row (now («data» .entry))) ⌝ }
+{
+    let quad = wrapped(size, address + i);
+    write_quadword(data, quad as usize, fields, row, col, codes, mode_at(r, i))
 }

@@ -5,4 +5,4 @@ use Rattle.unpack.proofs.range.cycle_refused.Tie as tie
 
 pub cycle-refused-spec : {M : Type 1} → statement M
 unfolding cycleRefused
-cycle-refused-spec = tie.close (tie.spec (λ c. search in-turn depth 8) (λ c. search in-turn depth 8))
+cycle-refused-spec = tie.close (tie.spec (λ c. search in-turn depth 8))

@@ -1,43 +1,92 @@
-use Rattle.unpack.proofs.StepLaws.{taken-few, word-fits, word-taken}
-use Rattle.unpack.proofs.WriteLaws.{vectors-none}
-use Rattle.unpack.specs.Step.{takenWords}
+use mathlib.Core.Path.{_≡_, refl}
+use Prim.Native.Nat.{ℕ, _-_}
 use native.Mathlib.Omega.{arith}
-use mathlib.Core.Path.{refl, sym}
 use borrow.Author.Needs.{needs}
+use Rattle.unpack.specs.declared.Format.{Format}
+use Rattle.unpack.specs.declared.Unpacking.{Unpacking}
+use Rattle.unpack.specs.declared.Registers.{Registers}
+use Rattle.unpack.specs.Payload.{payloadWords}
+use Rattle.unpack.specs.Position.{vectorsBefore}
+use Rattle.unpack.specs.Step.{takenWords}
+use Rattle.unpack.proofs.CycleLaws.{vectors-few}
+use Rattle.unpack.proofs.StepLaws.{taken-few, completed-fits, word-taken, none-completed}
 use Rattle.unpack.proofs.step.take.Statement.{statement}
 use Rattle.unpack.proofs.step.take.Tie as tie
 
-whole-vectors-requires : tie.Need-whole-vectors-requires
+-- the words taken, from the vectors and the words of the whole payload
+taken-is : (f : Format) (r : Registers) (u : Unpacking) {v n : ℕ} → v ≡ vectorsBefore (r .cl) (r .wl) (u .count) → n ≡ payloadWords f v
+    → n - u .due ≡ takenWords f r u
 unfolding takenWords
-whole-vectors-requires c κs = let s = c .before .before .before in let t = taken-few (s .args .f) (s .args .u) (s .pre .1) in omega (arith, c .before .payload-words .ensures)
+taken-is f r u ev en = rw (en, ev)
+
+payload-words-requires : tie.Need-payload-words-requires
+payload-words-requires c κs =
+    let s = c .before .before in
+    let v = vectors-few (s .args .r .cl) (s .args .r .wl) (s .args .u .count) in
+    let n = s .pre .1 .few in
+    omega (arith, c .vectors-before .ensures)
+
+sub-k : tie.Need-sub-k
+sub-k c =
+    let p = c .before in
+    let m = p .before .before .before .pre .1 .most in
+    rw (p .payload-words .ensures, p .before .vectors-before .ensures) m
+
+whole-vectors-requires : tie.Need-whole-vectors-requires
+whole-vectors-requires c κs =
+    let p = c .before in
+    let s = p .before .before .before in
+    let t = taken-few (s .args .f) (s .args .r) (s .args .u) (s .pre .1) in
+    let k = taken-is (s .args .f) (s .args .r) (s .args .u) (p .before .vectors-before .ensures) (p .payload-words .ensures) in
+    omega arith
 
 whole-vectors-requires-2 : tie.Need-whole-vectors-requires-2
-unfolding takenWords
-whole-vectors-requires-2 c κs = let s = c .before .before .before .before in let t = taken-few (s .args .f) (s .args .u) (s .pre .1) in omega (arith, c .before .before .payload-words .ensures)
+whole-vectors-requires-2 c κs =
+    let p = c .before .before in
+    let s = p .before .before .before in
+    let t = taken-few (s .args .f) (s .args .r) (s .args .u) (s .pre .1) in
+    let k = taken-is (s .args .f) (s .args .r) (s .args .u) (p .before .vectors-before .ensures) (p .payload-words .ensures) in
+    omega arith
 
 returns : tie.Need-returns
-unfolding takenWords
-returns c = word-taken _ _ _ _ _ _ refl (rw (c .before .before .before .before .payload-words .ensures)) (c .before .before .whole-vectors .ensures) (c .before .whole-vectors2 .ensures) (sym (vectors-none _ _ _ _ _ _ (omega (arith, c .if1 .taken)) _))
+returns c =
+    let b = c .before in
+    let p = b .before .before .before in
+    let v = p .before .vectors-before .ensures in
+    word-taken _ _ _ _ _ _ refl (taken-is _ _ _ v (p .payload-words .ensures)) v (b .before .whole-vectors .ensures) (b .whole-vectors2 .ensures)
+    (none-completed _ _ _ _ _ _ _ _ _ (c .if1 .taken))
 
-write-vectors-requires : tie.Need-write-vectors-requires
-unfolding takenWords
-write-vectors-requires c κs = let q = c .before .before .before .before .before .before .before .before .pre in word-fits _ _ _ _ _ (q .0) (q .1) (q .2) (c .before .acting-registers .ensures) (rw (c .before .before .before .before .before .before .payload-words .ensures)) (c .before .before .before .before .whole-vectors .ensures) (c .before .before .before .whole-vectors2 .ensures)
+write-completed-requires : tie.Need-write-completed-requires
+write-completed-requires c κs =
+    let a = c .before in
+    let b = a .before .before in
+    let p = b .before .before .before in
+    let v = p .before .vectors-before .ensures in
+    let q = p .before .before .before .pre in
+    completed-fits _ _ _ _ _ (q .0) (q .1) (q .2) (a .acting-registers .ensures) (taken-is _ _ _ v (p .payload-words .ensures)) v (b .before .whole-vectors .ensures) (b .whole-vectors2 .ensures)
 
 returns-2 : tie.Need-returns-2
-unfolding takenWords
-returns-2 c = word-taken _ _ _ _ _ _ (c .before .before .before .before .acting-registers .ensures) (rw (c .before .before .before .before .before .before .before .before .before .payload-words .ensures)) (c .before .before .before .before .before .before .before .whole-vectors .ensures) (c .before .before .before .before .before .before .whole-vectors2 .ensures) (c .before .before .write-vectors .ensures)
+returns-2 c =
+    let w = c .before .before in
+    let a = w .before .before in
+    let b = a .before .before in
+    let p = b .before .before .before in
+    let v = p .before .vectors-before .ensures in
+    word-taken _ _ _ _ _ _ (a .acting-registers .ensures) (taken-is _ _ _ v (p .payload-words .ensures)) v (b .before .whole-vectors .ensures) (b .whole-vectors2 .ensures)
+    (w .write-completed .ensures)
 
 pub take-spec : {M : Type 1} → statement M
 take-spec =
     tie.close
     (tie.spec
     (λ c κs. search needs)
-    (λ c. search needs)
+    payload-words-requires
+    sub-k
     whole-vectors-requires
     (λ c. search needs)
     whole-vectors-requires-2
     returns
     (λ c κs. search needs)
-    write-vectors-requires
+    write-completed-requires
     (λ c. search needs)
     returns-2)

@@ -7,7 +7,7 @@ use Rattle.unpack.proofs.write.write_vector.Tie as tie
 write-quadword-requires : tie.Need-write-quadword-requires
 write-quadword-requires c κs =
     let s = c .before .before .before in
-    let m = s .pre .1 in
+    let m = s .pre .2 in
     let p = position-inside (s .args .size) (s .args .address) (s .args .r .cl) (s .args .r .wl) (s .args .i) (m .some) in
     let l = m .long in
     omega (arith, c .before .position .ensures)
@@ -16,7 +16,7 @@ returns : tie.Need-returns
 returns c =
     let w = c .before .before .write-quadword .ensures in
     let p = c .before .before .before .before in
-    vector-written _ _ _ _ _ _ _ (p .position .ensures) (p .before .before .pre .4) (p .before .before .pre .5) (w .0) (w .1)
+    vector-written _ _ _ _ _ _ _ (p .position .ensures) (p .before .before .pre .5) (p .before .before .pre .6) (w .0) (w .1)
 
 pub write-vector-spec : {M : Type 1} → statement M
 write-vector-spec =

@@ -1,0 +1,122 @@
+use mathlib.Core.Path.{_≡_, refl, sym, _∙_}
+use mathlib.Core.Bool.{true}
+use Prim.Native.Nat.{_-_, _≤_, _+_}
+use native.Mathlib.Omega.{arith}
+use lib.ListN.{length}
+use borrow.Author.Needs.{needs}
+use Rattle.unpack.specs.Position.{filling}
+use Rattle.unpack.specs.Mask.{unfolded}
+use Rattle.unpack.specs.Write.{written, writesFrom}
+use Rattle.unpack.specs.Step.{heldVector}
+use Rattle.unpack.specs.Inner.{WordFits}
+use Rattle.unpack.proofs.CycleLaws.{vectors-few}
+use Rattle.unpack.proofs.WriteLaws.{row-few, row-chosen, filling-at, writes-more, writes-none}
+use Rattle.unpack.proofs.StepLaws.{word-fits-again, number-up, number-some, number-in}
+use Rattle.unpack.proofs.step.write_cycles.Statement.{statement}
+use Rattle.unpack.proofs.step.write_cycles.Tie as tie
+
+abbrev Inv-loop : tie.InvT-loop
+Inv-loop size f u r word k from to data₀ codes col rows₀ i₀ «data» rows i =
+    record {
+      fills : filling (r .cl) (r .wl) ≡ true;
+      fits : WordFits size f u r k from to «data»;
+      later : from ≤ i;
+      length : length «data» ≡ length data₀;
+      codes : codes ≡ unfolded (r .mask);
+      col : col ≡ r .col;
+      same :
+          writesFrom size (u .address) r (heldVector f u word k) (to - i) i (written rows «data»)
+          ≡ writesFrom size (u .address) r (heldVector f u word k) (to - from) from (written rows₀ data₀);
+    }
+
+abbrev μ-loop : tie.MeasureT-loop
+μ-loop size f u r word k from to data₀ codes col rows₀ i₀ «data» rows i = to - i
+
+loop-holds : tie.Need-loop-holds Inv-loop μ-loop
+loop-holds c =
+    let p = c .before .before .before .pre in
+    record { fills = p .0; fits = p .1; later = omega arith; length = refl; codes = c .before .unfold-mask .ensures; col = refl; same = refl }
+
+add-vectors-before : tie.Need-add-vectors-before Inv-loop μ-loop
+add-vectors-before c = let f = c .before .loop .inv .fits .few in let l = c .loop-test .taken in omega arith
+
+sub-held-vector : tie.Need-sub-held-vector Inv-loop μ-loop
+sub-held-vector c =
+    let i = c .before .before .loop .inv in
+    number-some (i .fits .each _ (i .later) (c .before .loop-test .taken)) (c .vectors-before .ensures)
+
+held-vector-requires : tie.Need-held-vector-requires Inv-loop μ-loop
+held-vector-requires c κs =
+    let at-loop = c .before .before in
+    let i = at-loop .loop .inv in
+    let w = i .fits in
+    let a = at-loop .before .before .before .before .args in
+    let v = vectors-few (a .r .cl) (a .r .wl) (at-loop .loop .i + 1) in
+    let l = c .before .loop-test .taken in
+    let n = w .few in
+    (number-in (w .each _ (i .later) l) (c .vectors-before .ensures), w .words, omega (arith, c .vectors-before .ensures))
+
+row-of-cycle-requires : tie.Need-row-of-cycle-requires Inv-loop μ-loop
+row-of-cycle-requires c κs = c .before .before .before .loop .inv .fits .cycle .some
+
+array-copy-out-chosen : tie.Need-array-copy-out-chosen Inv-loop μ-loop
+array-copy-out-chosen c = row-few _ _ (c .row-of-cycle .ensures)
+
+array-read-write-filling : tie.Need-array-read-write-filling Inv-loop μ-loop
+array-read-write-filling c = row-few _ _ (c .before .row-of-cycle .ensures)
+
+write-filling-requires : tie.Need-write-filling-requires Inv-loop μ-loop
+write-filling-requires c κs =
+    let i = c .before .before .before .before .before .before .loop .inv in
+    let w = i .fits in
+    let e = c .before .before .row-of-cycle .ensures in
+    (w .cycle, i .fills, w .memory, w .inside, (let f = w .few in omega arith), row-chosen _ _ _ (i .codes) e, rw (i .col, e))
+
+loop-again : tie.Need-loop-again Inv-loop μ-loop
+loop-again c =
+    let v = c .before .before in
+    let held = v .before .before .before .before in
+    let in-loop = held .before .before in
+    let i = in-loop .before .loop .inv in
+    let e = v .write-filling .kept .1 .1 .1 .1 .1 .1 .1 .1 .0 in
+    let l = i .later in
+    let y = i .fits .each _ (i .later) (in-loop .loop-test .taken) in
+    record {
+      fills = i .fills;
+      fits = word-fits-again e (i .fits);
+      later = omega arith;
+      length = e ∙ i .length;
+      codes = i .codes;
+      col = i .col;
+      same =
+          writes-more _ _ _ _ _ _ (in-loop .loop-test .taken) _ (v .write-filling .ensures ∙ rw (held .held-vector .ensures) (filling-at _ _ _ _ _ (number-up y (held .before .vectors-before .ensures)) _))
+          ∙ i .same;
+    }
+
+returns : tie.Need-returns Inv-loop μ-loop
+returns c = sym (writes-none _ _ _ _ _ _ (c .loop-test .left) _) ∙ c .before .loop .inv .same
+
+pub write-cycles-spec : {M : Type 1} → statement M
+write-cycles-spec =
+    tie.close
+    (tie.spec
+    Inv-loop
+    μ-loop
+    (λ c κs. search needs)
+    loop-holds
+    add-vectors-before
+    (λ c κs. search needs)
+    sub-held-vector
+    held-vector-requires
+    row-of-cycle-requires
+    (λ c. search needs)
+    (λ c. search needs)
+    array-copy-out-chosen
+    (λ c. search needs)
+    array-read-write-filling
+    write-filling-requires
+    (λ c. search needs)
+    (λ c. search needs)
+    loop-again
+    (λ c. c .before .loop .inv .length)
+    returns)
