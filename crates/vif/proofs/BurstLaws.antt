@@ -88,7 +88,7 @@ module _ (size : ℕ) (v : Vif) (f : Format) (u : Unpacking) (word : ℕ) (row m
         some = omega arith;
         accepted =
             rw (memory-accepted size m (record { some = s .some; most = s .most; long = l ∙ s .long }), fits-cycle (v .cl) (v .wl) (x .cycle))
-            (fits-unpacking f (holds u word) (record { inside = y .inside; some = y .some; few = y .few; left = omega arith; most = omega arith }));
+            (fits-unpacking f (v .cl) (v .wl) (holds u word) (record { inside = y .inside; some = y .some; few = y .few; left = omega arith; most = omega arith }));
       }
 
   module _ {r : Registers} {s : Rows} {m : List ℕ} (er : r ≡ writeRegisters v) (es : unpackLeft s m ≡ unpackTakeOf size f u r word row mem)

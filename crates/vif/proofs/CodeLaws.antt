@@ -2,17 +2,24 @@
 use mathlib.Core.Path.{_≡_, refl, ap, _∙_}
 use mathlib.Core.Bool.{Bool, true, false}
 use mathlib.Core.List.{List, [], _∷_}
-use Prim.Native.Nat.{ℕ, _+_, _%_}
+use Prim.Native.Nat.{ℕ, _+_, _%_, _≤_}
 use native.Mathlib.Omega.{arith}
+use borrow.Author.Tests.{eq-eqb, ne-eqb, le-leb}
 use Rattle.fields.specs.Fields.{if}
 use Rattle.fields.specs.Refusals.{logFull}
 use Rattle.gif.specs.Log.{entry, lacksRoom, Entered, entered, entryOf}
 use Rattle.memories.specs.declared.VifUnit.{VifUnit}
+use Rattle.memories.specs.Units.{quadwords}
+use Rattle.memories.proofs.UnitLaws.{quadwords-some, quadwords-most}
 use Rattle.unpack.specs.declared.Format.{Format}
 use Rattle.unpack.specs.declared.Unpacking.{Unpacking}
-use Rattle.unpack.specs.Position.{addresses}
+use Rattle.unpack.specs.declared.Registers.{Registers}
+use Rattle.unpack.specs.declared.Rows.{Rows}
+use Rattle.unpack.specs.Position.{addresses, addressMost}
 use Rattle.unpack.specs.Range.{cycleRefused}
-use Rattle.unpack.specs.Step.{unpackingOf}
+use Rattle.unpack.specs.Inner.{MemoryFits}
+use Rattle.unpack.specs.Step.{Left as UnpackLeft, left as unpackLeft, unpackingOf, unfedAcceptable, unfedOf}
+use Rattle.unpack.proofs.StepLaws.{count-few, accepted-cycle}
 use Rattle.vif.specs.declared.Code.{Code}
 use Rattle.vif.specs.declared.UnpackCode.{UnpackCode}
 use Rattle.vif.specs.declared.CodeResult.{CodeResult}
@@ -20,44 +27,75 @@ use Rattle.vif.specs.declared.Decoded.{Decoded}
 use Rattle.vif.specs.declared.VifAnswer.the-variants.{Word, Refused}
 use Rattle.vif.specs.declared.Waiting.the-variants.{UnpackDue}
 use Rattle.vif.specs.declared.Vif.{Vif}
-use Rattle.vif.specs.Execute.{Executed, executed, started, startProgram, waitsFor, addressOf, beginUnpack, executeOf, decodedStep}
+use Rattle.vif.specs.Setters.{withRow}
+use Rattle.vif.specs.Payload.{writeRegisters}
+use Rattle.vif.specs.Execute.{Executed, executed, codeResult, resultWith, started, startProgram, waitsFor, addressOf, begunUnpack, unfedWritten, unfedStep, beginUnpack, executeOf, decodedStep}
+use Rattle.vif.specs.Inner.{CodeReady}
+use Rattle.vif.proofs.RangeLaws.{memory-accepted}
 
 -- what holds at the code that an arm knows holds at the value itself
-pub by-code : (which : VifUnit) {c d : Code} → c ≡ d → (v : Vif) (i : Bool) (used : ℕ) (log : List ℕ) {e : Executed} → e ≡ executeOf which d v i used log
-    → e ≡ executeOf which c v i used log
-by-code which q v i used log h = rw q h
+pub by-code : (which : VifUnit) {c d : Code} → c ≡ d → (v : Vif) (i : Bool) (used : ℕ) (mem log : List ℕ) {e : Executed}
+    → e ≡ executeOf which d v i used mem log → e ≡ executeOf which c v i used mem log
+by-code which q v i used mem log h = rw q h
 
-pub by-decoded : (which : VifUnit) {c d : Decoded} → c ≡ d → (v : Vif) (i : Bool) (used : ℕ) (log : List ℕ) {e : Executed} → e ≡ decodedStep which d v i used log
-    → e ≡ decodedStep which c v i used log
-by-decoded which q v i used log h = rw q h
+pub by-decoded : (which : VifUnit) {c d : Decoded} → c ≡ d → (v : Vif) (i : Bool) (used : ℕ) (mem log : List ℕ) {e : Executed}
+    → e ≡ decodedStep which d v i used mem log → e ≡ decodedStep which c v i used mem log
+by-decoded which q v i used mem log h = rw q h
 
 -- a program start by whether its entry was stored
-module _ (which : VifUnit) (r x : ℕ) (v : Vif) (i : Bool) (used : ℕ) (log : List ℕ) {b : Bool} {m : List ℕ} (e : entered b m ≡ entryOf log used (entry r x)) where
-  pub program-started : b ≡ true → executed (Word i) (started which v) (used + 1) m ≡ startProgram which r x v i used log
+module _ (which : VifUnit) (r x : ℕ) (v : Vif) (i : Bool) (used : ℕ) (mem log : List ℕ) {b : Bool} {m : List ℕ}
+    (e : entered b m ≡ entryOf log used (entry r x)) where
+  pub program-started : b ≡ true → executed (Word i) (started which v) (used + 1) mem m ≡ startProgram which r x v i used mem log
   unfolding startProgram entryOf if
   program-started t = go (lacksRoom log used (entry r x ∷ [])) refl
     where
-      go : (c : Bool) → lacksRoom log used (entry r x ∷ []) ≡ c → executed (Word i) (started which v) (used + 1) m ≡ startProgram which r x v i used log
+      go : (c : Bool) → lacksRoom log used (entry r x ∷ []) ≡ c → executed (Word i) (started which v) (used + 1) mem m ≡ startProgram which r x v i used mem log
       go true w = absurd (let e′ = rw w at e in let s = ap (λ (y : Entered). y .stored) e′ in let z : _≡_ {A = ℕ} 0 1 = cc in omega arith)
       go false w = let e′ = rw w at e in rw (w, ap (λ (y : Entered). y .log) e′)
 
-  pub program-refused : b ≡ false → executed (Refused logFull) v used m ≡ startProgram which r x v i used log
+  pub program-refused : b ≡ false → executed (Refused logFull) v used mem m ≡ startProgram which r x v i used mem log
   unfolding startProgram entryOf if
   program-refused t = go (lacksRoom log used (entry r x ∷ [])) refl
     where
-      go : (c : Bool) → lacksRoom log used (entry r x ∷ []) ≡ c → executed (Refused logFull) v used m ≡ startProgram which r x v i used log
+      go : (c : Bool) → lacksRoom log used (entry r x ∷ []) ≡ c → executed (Refused logFull) v used mem m ≡ startProgram which r x v i used mem log
       go false w = absurd (let e′ = rw w at e in let s = ap (λ (y : Entered). y .stored) e′ in let z : _≡_ {A = ℕ} 0 1 = cc in omega arith)
       go true w = let e′ = rw w at e in rw (w, ap (λ (y : Entered). y .log) e′)
 
 -- an UNPACK reads ten bits of its address
-pub unpacking-mod : (f : Format) (num : ℕ) (usn masked i : Bool) (a b : ℕ) → a % addresses ≡ b % addresses
-    → unpackingOf f a num usn masked i ≡ unpackingOf f b num usn masked i
+pub begun-mod : (f : Format) (u : UnpackCode) (v : Vif) (i : Bool) (a : ℕ) {w : Unpacking} → a % addresses ≡ addressOf u (v .tops) % addresses
+    → w ≡ unpackingOf f (v .cl) (v .wl) a (u .num) (u .usn) (u .masked) i → w ≡ begunUnpack f u v i
 unfolding unpackingOf
-unpacking-mod f num usn masked i a b h = rw h
+begun-mod f u v i a h e = e ∙ rw h
 
-pub unpack-begun : (which : VifUnit) (f : Format) (u : UnpackCode) (v : Vif) (i : Bool) (used a : ℕ) {w : Unpacking} {r : CodeResult}
-    → cycleRefused (v .cl) (v .wl) ≡ false → a % addresses ≡ addressOf u (v .tops) % addresses → w ≡ unpackingOf f a (u .num) (u .usn) (u .masked) i
-    → r ≡ waitsFor v (UnpackDue f w) used → r ≡ beginUnpack which f u v i used
-unfolding beginUnpack if
-unpack-begun which f u v i used a h ea ew er =
-    rw h (er ∙ rw (ew, unpacking-mod f (u .num) (u .usn) (u .masked) i a (addressOf u (v .tops)) ea))
+-- ---- UNPACK's own step
+
+module _ (which : VifUnit) (f : Format) (u : UnpackCode) (v : Vif) (i : Bool) (mem : List ℕ) (c : cycleRefused (v .cl) (v .wl) ≡ false) where
+  -- with CL 0 its writes pass UNPACK's tests
+  pub unfed-accepted : CodeReady which v mem → v .cl ≡ 0 → unfedAcceptable (quadwords which) (begunUnpack f u v i) (writeRegisters v) mem ≡ true
+  unfolding unfedAcceptable unpackingOf
+  unfed-accepted r z =
+      let m : MemoryFits (quadwords which) mem = record { some = quadwords-some which; most = quadwords-most which; long = r .long } in
+      let a : addressOf u (v .tops) % addresses ≤ addressMost = omega arith in
+      rw (memory-accepted (quadwords which) mem m, accepted-cycle (v .cl) (v .wl) c (r .most) (r .wide), eq-eqb (v .cl) 0 z, le-leb _ addressMost a, le-leb _ 256 (count-few (u .num)))
+
+  module _ (used : ℕ) (log : List ℕ) {w : Unpacking} (ew : w ≡ begunUnpack f u v i) where
+    pub unpack-unfed : v .cl ≡ 0 → {e : Executed} → e ≡ unfedStep (unfedWritten which f w v mem) v i used log
+        → e ≡ beginUnpack which f u v i used mem log
+    unfolding beginUnpack if
+    unpack-unfed z q = rw (c, eq-eqb (v .cl) 0 z, ← ew) q
+
+    pub unpack-begun : (v .cl ≡ 0 → ⊥) → {r : CodeResult} → r ≡ waitsFor v (UnpackDue f w) used
+        → resultWith r mem log ≡ beginUnpack which f u v i used mem log
+    unfolding beginUnpack if
+    unpack-begun z q = rw (c, ne-eqb (v .cl) 0 z, ← ew, q)
+
+-- what UNPACK's writes without payload leave
+pub unfed-done : (which : VifUnit) (f : Format) (u : Unpacking) (v : Vif) (i : Bool) (used : ℕ) (mem log : List ℕ)
+    → unfedAcceptable (quadwords which) u (writeRegisters v) mem ≡ true
+    → {r : Registers} {s : Rows} {m : List ℕ} {v′ : Vif} {o : CodeResult} → r ≡ writeRegisters v
+    → unpackLeft s m ≡ unfedOf (quadwords which) f u r (v .row) mem → v′ ≡ withRow v (s .row) → o ≡ codeResult (Word i) v′ used
+    → resultWith o m log ≡ unfedStep (unfedWritten which f u v mem) v i used log
+unfolding unfedOf if
+unfed-done which f u v i used mem log h er es ev eo =
+    let e = rw (er, h) at es in
+    rw (eo, ev, ap (λ (o : UnpackLeft). o .row) e, ap (λ (o : UnpackLeft). o .mem) e)

@@ -21,10 +21,13 @@ use Rattle.gif.proofs.StepLaws.{Wrote, step-wrote}
 use Rattle.memories.specs.declared.VifUnit.{VifUnit}
 use Rattle.memories.specs.Units.{quadwords, instructions}
 use Rattle.memories.specs.Lengths.{Lent}
+use Rattle.unpack.specs.declared.Format.{Format}
+use Rattle.unpack.specs.Range.{cycleRefused}
 use Rattle.unpack.specs.Write.{written}
-use Rattle.unpack.proofs.LengthLaws.{word-length}
+use Rattle.unpack.proofs.LengthLaws.{word-length, unfed-length}
 use Rattle.vif.specs.declared.Code.{Code}
 use Rattle.vif.specs.declared.Code.the-variants.{Nop, Stcycl, Offset, Base, Itop, Stmod, Mskpath3, Mark, Flushe, Flush, Flusha, Mscal, Mscalf, Mscnt, Stmask, Strow, Stcol, Mpg, Direct, Directhl, Unpack}
+use Rattle.vif.specs.declared.UnpackCode.{UnpackCode}
 use Rattle.vif.specs.declared.CodeResult.{CodeResult}
 use Rattle.vif.specs.declared.Decoded.{Decoded}
 use Rattle.vif.specs.declared.Decoded.the-variants.{Known, Unknown}
@@ -35,7 +38,7 @@ use Rattle.vif.specs.declared.Waiting.{Waiting}
 use Rattle.vif.specs.declared.Waiting.the-variants.{Nothing, MaskDue, RowDue, ColDue, MpgDue, DirectDue, DirecthlDue, UnpackDue}
 use Rattle.vif.specs.declared.Vif.{Vif}
 use Rattle.vif.specs.Codes.{interruptOf, decodeOf}
-use Rattle.vif.specs.Execute.{Executed, executed, codeResult, resultWith, startProgram, setMode, beginMpg, beginUnpack, executeOf, decodedStep}
+use Rattle.vif.specs.Execute.{Executed, executed, resultWith, startProgram, setMode, beginMpg, begunUnpack, beginUnpack, executeOf, decodedStep}
 use Rattle.vif.specs.Payload.{mpgStored, bytesOf, wordPlace, writeRegisters}
 use Rattle.vif.specs.Step.{Left, leaves, refused, wordIn, afterCode, afterGif, giveQuadword, directStep, unpackStep, codeStep, stepBy, vifStep}
 
@@ -52,8 +55,9 @@ pub record Kept (v : Vif) (p : Path) (used : ℕ) (m : Lent) (o : Left) : Type 0
   pub log-grows : LogGrows used (m .log) (o .used) (o .memories .log)
 
 -- the same of a code's own step
-record Does (v : Vif) (used : ℕ) (log : List ℕ) (e : Executed) : Type 0 where
-  same : (n : ℕ) → e .answer ≡ Refused n → e ≡ executed (Refused n) v used log
+record Does (v : Vif) (used : ℕ) (mem log : List ℕ) (e : Executed) : Type 0 where
+  same : (n : ℕ) → e .answer ≡ Refused n → e ≡ executed (Refused n) v used mem log
+  mem-length : length (e .mem) ≡ length mem
   log-grows : LogGrows used log (e .used) (e .log)
 
 no-word : {i : Bool} {n : ℕ} → Word i ≡ Refused n → ⊥
@@ -62,23 +66,24 @@ no-word e = let z : _≡_ {A = ℕ} 0 1 = cc in omega arith
 no-quadword : {i : Bool} {n : ℕ} → Quadword i ≡ Refused n → ⊥
 no-quadword e = let z : _≡_ {A = ℕ} 0 1 = cc in omega arith
 
-module _ (which : VifUnit) (v : Vif) (used : ℕ) (log : List ℕ) (h : entrySize * used ≤ length log) where
+module _ (which : VifUnit) (v : Vif) (used : ℕ) (mem log : List ℕ) (h : entrySize * used ≤ length log) where
   stays : LogGrows used log used log
   stays = record { same-length = refl; room = h }
 
-  does-word : (i : Bool) (u : Vif) → Does v used log (executed (Word i) u used log)
-  does-word i u = record { same = λ n e. absurd (no-word e); log-grows = stays }
+  does-word : (i : Bool) (u : Vif) → Does v used mem log (executed (Word i) u used mem log)
+  does-word i u = record { same = λ n e. absurd (no-word e); mem-length = refl; log-grows = stays }
 
-  does-refused : (k : ℕ) → Does v used log (executed (Refused k) v used log)
-  does-refused k = record { same = λ n e. let q : k ≡ n = cc in ap (λ (j : ℕ). executed (Refused j) v used log) q; log-grows = stays }
+  does-refused : (k : ℕ) → Does v used mem log (executed (Refused k) v used mem log)
+  does-refused k = record { same = λ n e. let q : k ≡ n = cc in ap (λ (j : ℕ). executed (Refused j) v used mem log) q; mem-length = refl; log-grows = stays }
 
-  does-start : (r x : ℕ) (i : Bool) → Does v used log (startProgram which r x v i used log)
+  does-start : (r x : ℕ) (i : Bool) → Does v used mem log (startProgram which r x v i used mem log)
   unfolding startProgram lacksRoom
   does-start r x i =
-      if-ind-by (Does v used log) (ltb (length log) (entrySize * (used + 1))) (λ e. does-refused logFull)
+      if-ind-by (Does v used mem log) (ltb (length log) (entrySize * (used + 1))) (λ e. does-refused logFull)
       (λ e.
       record {
         same = λ n q. absurd (no-word q);
+        mem-length = refl;
         log-grows =
             record {
               same-length = logged-length log used (entry r x ∷ []);
@@ -86,17 +91,30 @@ module _ (which : VifUnit) (v : Vif) (used : ℕ) (log : List ℕ) (h : entrySiz
             };
       })
 
-  does-choice : (b : Bool) (k : ℕ) (r : CodeResult) → Does v used log (resultWith r log) → Does v used log (resultWith (if b (codeResult (Refused k) v used) r) log)
-  does-choice b k r d = if-ind (λ (r : CodeResult). Does v used log (resultWith r log)) b (does-refused k) d
+  does-mode : (m : ℕ) (i : Bool) → Does v used mem log (resultWith (setMode m v i used) mem log)
+  unfolding setMode
+  does-mode m i = if-ind (λ (r : CodeResult). Does v used mem log (resultWith r mem log)) (eqb m 3) (does-refused modeWrong) (does-word i _)
 
-  does : (c : Code) (i : Bool) → Does v used log (executeOf which c v i used log)
-  unfolding setMode beginMpg beginUnpack
+  does-unpack : (f : Format) (u : UnpackCode) (i : Bool) → Does v used mem log (beginUnpack which f u v i used mem log)
+  unfolding beginUnpack
+  does-unpack f u i =
+      if-ind (Does v used mem log) (cycleRefused (v .cl) (v .wl)) (does-refused cycleWrong)
+      (if-ind (Does v used mem log) (eqb (v .cl) 0)
+      (record {
+        same = λ n e. absurd (no-word e);
+        mem-length = unfed-length (quadwords which) f (begunUnpack f u v i) (writeRegisters v) (written (v .row) mem);
+        log-grows = stays;
+      })
+      (does-word false _))
+
+  does : (c : Code) (i : Bool) → Does v used mem log (executeOf which c v i used mem log)
+  unfolding beginMpg
   does Nop i = does-word i _
   does (Stcycl cl wl) i = does-word i _
   does (Offset x) i = does-word i _
   does (Base x) i = does-word i _
   does (Itop x) i = does-word i _
-  does (Stmod m) i = does-choice _ modeWrong _ (does-word i _)
+  does (Stmod m) i = does-mode m i
   does (Mskpath3 b) i = does-word i _
   does (Mark x) i = does-word i _
   does Flushe i = does-word i _
@@ -111,9 +129,9 @@ module _ (which : VifUnit) (v : Vif) (used : ℕ) (log : List ℕ) (h : entrySiz
   does (Mpg a num) i = does-word false _
   does (Direct n) i = does-word false _
   does (Directhl n) i = does-word false _
-  does (Unpack f u) i = does-choice _ cycleWrong _ (does-word false _)
+  does (Unpack f u) i = does-unpack f u i
 
-  does-decoded : (d : Decoded) (i : Bool) → Does v used log (decodedStep which d v i used log)
+  does-decoded : (d : Decoded) (i : Bool) → Does v used mem log (decodedStep which d v i used mem log)
   does-decoded (Known c) i = does c i
   does-decoded (Unknown n) i = does-refused n
 
@@ -139,10 +157,10 @@ module _ (which : VifUnit) (v : Vif) (p : Path) (used : ℕ) (m : Lent) (h : ent
   kept-code : (word : ℕ) → Kept v p used m (codeStep which v p word used m)
   unfolding codeStep
   kept-code word =
-      let d = does-decoded which v used (m .log) h (decodeOf which word) (interruptOf word) in
+      let d = does-decoded which v used (m .mem) (m .log) h (decodeOf which word) (interruptOf word) in
       record {
         same = λ n e. ap (λ (x : Executed). afterCode x p m) (d .same n e);
-        mem-length = refl;
+        mem-length = d .mem-length;
         code-length = refl;
         log-grows = d .log-grows;
       }

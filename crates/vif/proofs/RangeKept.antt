@@ -5,6 +5,7 @@ use mathlib.Core.List.{List}
 use Prim.Native.Nat.{ℕ, _+_, _*_, _-_, _^_, _<_, _≤_}
 use native.Mathlib.Omega.{arith}
 use borrow.Author.Tests.{leb-true, le-leb, eqb-true, eqb-false}
+use lib.ListN.{length}
 use lib.Dec.{eqb, leb}
 use Rattle.fields.specs.Fields.{bits, quadword}
 use Rattle.fields.specs.Refusals.{cmdUnlisted, formatMissing}
@@ -19,14 +20,16 @@ use Rattle.gif.proofs.RangeLaws.{log-fits}
 use Rattle.gif.proofs.StepLaws.{step-ranged}
 use Rattle.memories.specs.declared.VifUnit.{VifUnit}
 use Rattle.memories.specs.declared.VifUnit.the-variants.{Vif1}
+use Rattle.memories.specs.Units.{dataWords}
 use Rattle.memories.specs.Lengths.{Lent}
+use Rattle.unpack.specs.declared.Format.{Format}
 use Rattle.unpack.specs.declared.NamedFormat.{NamedFormat}
 use Rattle.unpack.specs.declared.NamedFormat.the-variants.{Named, Missing}
 use Rattle.unpack.specs.Formats.{formatNamed}
 use Rattle.unpack.specs.Position.{addressMost}
 use Rattle.unpack.specs.Range.{cycleRefused, cycleInRange}
-use Rattle.unpack.specs.Step.{countOf, holds, unpackingOf}
-use Rattle.unpack.proofs.StepLaws.{count-range, accepted-cycle, unpacking-fits, fits-unpacking, begun-fits}
+use Rattle.unpack.specs.Step.{countOf, holds}
+use Rattle.unpack.proofs.StepLaws.{count-range, accepted-cycle, cycle-fits, unpacking-fits, fits-unpacking, begun-fits}
 use Rattle.vif.specs.declared.Code.{Code}
 use Rattle.vif.specs.declared.Code.the-variants.{Nop, Stcycl, Offset, Base, Itop, Stmod, Mskpath3, Mark, Flushe, Flush, Flusha, Mscal, Mscalf, Mscnt, Stmask, Strow, Stcol, Mpg, Direct, Directhl, Unpack}
 use Rattle.vif.specs.declared.UnpackCode.{UnpackCode}
@@ -40,10 +43,10 @@ use Rattle.vif.specs.declared.Waiting.the-variants.{Nothing, MaskDue, Ro
 use Rattle.vif.specs.declared.Vif.{Vif}
 use Rattle.vif.specs.Setters.{withWaiting}
 use Rattle.vif.specs.Codes.{immOf, numOf, cmdOf, quadwordsOf, mpgAddressMost, codeListed, plainCode, unpackCode, unpackNumbers, codeOf, decodeOf}
-use Rattle.vif.specs.Execute.{Executed, nextTops, started, startProgram, setMode, addressOf, beginMpg, beginUnpack, executeOf, decodedStep}
+use Rattle.vif.specs.Execute.{Executed, nextTops, started, startProgram, setMode, beginMpg, begunUnpack, beginUnpack, executeOf, decodedStep}
 use Rattle.vif.specs.Payload.{orNothing}
 use Rattle.vif.specs.Range.{upTo, registersInRange, directInRange, waitingInRange, unitInRange}
-use Rattle.vif.specs.Inner.{StepReady}
+use Rattle.vif.specs.Inner.{CodeReady, StepReady}
 use Rattle.vif.specs.Step.{Left, afterGif, giveQuadword, directStep, unpackStep, codeStep, stepBy, vifStep}
 use Rattle.vif.proofs.RangeLaws.{up-to-fits, fits-up-to, waiting-ranged, row-due, col-due, mpg-due}
 use Rattle.vif.proofs.KeepLaws.{step-kept, log-stays}
@@ -99,6 +102,10 @@ pub unit-ranged : (which : VifUnit) (v : Vif) → RegistersFit v → waitingInRa
     → unitInRange which v ≡ true
 unfolding unitInRange
 unit-ranged which v f h = rw (fit-registers v f) h
+
+-- what a code's own step needs
+pub code-ready : (which : VifUnit) (v : Vif) (mem : List ℕ) → unitInRange which v ≡ true → length mem ≡ dataWords which → CodeReady which v mem
+code-ready which v mem h l = let f = unit-registers which v h in record { long = l; most = f .cl-fits; wide = f .wl-fits }
 
 -- ---- decoded codes hold numbers of their fields
 
@@ -244,9 +251,9 @@ module _ (which : VifUnit) (v : Vif) (f : RegistersFit v) (q : v .waiting ≡ No
         mark-fits = k;
       })
 
-  ranged-start : (r x : ℕ) (i : Bool) (used : ℕ) (log : List ℕ) → Ranged which (startProgram which r x v i used log .unit)
+  ranged-start : (r x : ℕ) (i : Bool) (used : ℕ) (mem log : List ℕ) → Ranged which (startProgram which r x v i used mem log .unit)
   unfolding startProgram
-  ranged-start r x i used log = if-ind (λ (e : Executed). Ranged which (e .unit)) _ unchanged (moved which refl)
+  ranged-start r x i used mem log = if-ind (λ (e : Executed). Ranged which (e .unit)) _ unchanged (moved which refl)
     where
       moved : (k : VifUnit) → which ≡ k → Ranged which (started k v)
       moved Vif1 e =
@@ -259,42 +266,54 @@ module _ (which : VifUnit) (v : Vif) (f : RegistersFit v) (q : v .waiting ≡ No
   cycle-ranged : cycleRefused (v .cl) (v .wl) ≡ false → cycleInRange (v .cl) (v .wl) ≡ true
   cycle-ranged h = accepted-cycle (v .cl) (v .wl) h (f .cl-fits) (f .wl-fits)
 
-  ranged : (c : Code) → CodeFits which c → (i : Bool) (used : ℕ) (log : List ℕ) → Ranged which (executeOf which c v i used log .unit)
-  unfolding setMode beginMpg beginUnpack waitingInRange
-  ranged Nop h i used log = unchanged
-  ranged (Stcycl cl wl) h i used log = fit _ (h .0) (h .1) (f .ofst-fits) (f .base-fits) (f .tops-fits) (f .top-fits) (f .itops-fits) (f .itop-fits) (f .mode-fits) (f .mark-fits) refl
-  ranged (Offset x) h i used log = fit _ (f .cl-fits) (f .wl-fits) h (f .base-fits) (f .base-fits) (f .top-fits) (f .itops-fits) (f .itop-fits) (f .mode-fits) (f .mark-fits) refl
-  ranged (Base x) h i used log = fit _ (f .cl-fits) (f .wl-fits) (f .ofst-fits) h (f .tops-fits) (f .top-fits) (f .itops-fits) (f .itop-fits) (f .mode-fits) (f .mark-fits) refl
-  ranged (Itop x) h i used log = fit _ (f .cl-fits) (f .wl-fits) (f .ofst-fits) (f .base-fits) (f .tops-fits) (f .top-fits) h (f .itop-fits) (f .mode-fits) (f .mark-fits) refl
-  ranged (Stmod m) h i used log =
+  -- with CL 0 nothing waits after an UNPACK; else its payload is due
+  ranged-unpack : (g : Format) (u : UnpackCode) (i : Bool) (used : ℕ) (mem log : List ℕ) → Ranged which (beginUnpack which g u v i used mem log .unit)
+  unfolding beginUnpack waitingInRange
+  ranged-unpack g u i used mem log =
+      if-ind-by (λ (e : Executed). Ranged which (e .unit)) (cycleRefused (v .cl) (v .wl)) (λ e. unchanged)
+      (λ e.
+      if-ind-by (λ (o : Executed). Ranged which (o .unit)) (eqb (v .cl) 0)
+      (λ z. fit _ (f .cl-fits) (f .wl-fits) (f .ofst-fits) (f .base-fits) (f .tops-fits) (f .top-fits) (f .itops-fits) (f .itop-fits) (f .mode-fits) (f .mark-fits) refl)
+      (λ z.
+      let c = eqb-false (v .cl) 0 z in
+      let w = cycle-fits (v .cl) (v .wl) (cycle-ranged e) .some in
+      ranged-waits (UnpackDue g (begunUnpack g u v i))
+      (rw (cycle-ranged e) (fits-unpacking g (v .cl) (v .wl) _ (begun-fits g (v .cl) (v .wl) _ _ _ _ _ (omega arith) w)))))
+
+  ranged : (c : Code) → CodeFits which c → (i : Bool) (used : ℕ) (mem log : List ℕ) → Ranged which (executeOf which c v i used mem log .unit)
+  unfolding setMode beginMpg waitingInRange
+  ranged Nop h i used mem log = unchanged
+  ranged (Stcycl cl wl) h i used mem log = fit _ (h .0) (h .1) (f .ofst-fits) (f .base-fits) (f .tops-fits) (f .top-fits) (f .itops-fits) (f .itop-fits) (f .mode-fits) (f .mark-fits) refl
+  ranged (Offset x) h i used mem log = fit _ (f .cl-fits) (f .wl-fits) h (f .base-fits) (f .base-fits) (f .top-fits) (f .itops-fits) (f .itop-fits) (f .mode-fits) (f .mark-fits) refl
+  ranged (Base x) h i used mem log = fit _ (f .cl-fits) (f .wl-fits) (f .ofst-fits) h (f .tops-fits) (f .top-fits) (f .itops-fits) (f .itop-fits) (f .mode-fits) (f .mark-fits) refl
+  ranged (Itop x) h i used mem log = fit _ (f .cl-fits) (f .wl-fits) (f .ofst-fits) (f .base-fits) (f .tops-fits) (f .top-fits) h (f .itop-fits) (f .mode-fits) (f .mark-fits) refl
+  ranged (Stmod m) h i used mem log =
       if-ind-by (λ (r : CodeResult). Ranged which (r .unit)) (eqb m 3) (λ e. unchanged)
       (λ e.
       let z = eqb-false m 3 e in
       fit _ (f .cl-fits) (f .wl-fits) (f .ofst-fits) (f .base-fits) (f .tops-fits) (f .top-fits) (f .itops-fits) (f .itop-fits) (omega arith) (f .mark-fits) refl)
-  ranged (Mskpath3 b) h i used log = fit _ (f .cl-fits) (f .wl-fits) (f .ofst-fits) (f .base-fits) (f .tops-fits) (f .top-fits) (f .itops-fits) (f .itop-fits) (f .mode-fits) (f .mark-fits) refl
-  ranged (Mark x) h i used log = fit _ (f .cl-fits) (f .wl-fits) (f .ofst-fits) (f .base-fits) (f .tops-fits) (f .top-fits) (f .itops-fits) (f .itop-fits) (f .mode-fits) h refl
-  ranged Flushe h i used log = unchanged
-  ranged Flush h i used log = unchanged
-  ranged Flusha h i used log = unchanged
-  ranged (Mscal x) h i used log = ranged-start 256 x i used log
-  ranged (Mscalf x) h i used log = ranged-start 257 x i used log
-  ranged Mscnt h i used log = ranged-start 258 0 i used log
-  ranged Stmask h i used log = ranged-waits (MaskDue i) refl
-  ranged Strow h i used log = ranged-waits (RowDue 4 i) (fits-up-to 4 4 (omega arith) (omega arith))
-  ranged Stcol h i used log = ranged-waits (ColDue 4 i) (fits-up-to 4 4 (omega arith) (omega arith))
-  ranged (Mpg a num) h i used log =
+  ranged (Mskpath3 b) h i used mem log = fit _ (f .cl-fits) (f .wl-fits) (f .ofst-fits) (f .base-fits) (f .tops-fits) (f .top-fits) (f .itops-fits) (f .itop-fits) (f .mode-fits) (f .mark-fits) refl
+  ranged (Mark x) h i used mem log = fit _ (f .cl-fits) (f .wl-fits) (f .ofst-fits) (f .base-fits) (f .tops-fits) (f .top-fits) (f .itops-fits) (f .itop-fits) (f .mode-fits) h refl
+  ranged Flushe h i used mem log = unchanged
+  ranged Flush h i used mem log = unchanged
+  ranged Flusha h i used mem log = unchanged
+  ranged (Mscal x) h i used mem log = ranged-start 256 x i used mem log
+  ranged (Mscalf x) h i used mem log = ranged-start 257 x i used mem log
+  ranged Mscnt h i used mem log = ranged-start 258 0 i used mem log
+  ranged Stmask h i used mem log = ranged-waits (MaskDue i) refl
+  ranged Strow h i used mem log = ranged-waits (RowDue 4 i) (fits-up-to 4 4 (omega arith) (omega arith))
+  ranged Stcol h i used mem log = ranged-waits (ColDue 4 i) (fits-up-to 4 4 (omega arith) (omega arith))
+  ranged (Mpg a num) h i used mem log =
       let n = count-range num in
       ranged-waits (MpgDue a (countOf num) (countOf num + countOf num) i)
       (rw (le-leb a mpgAddressMost h, fits-up-to 256 (countOf num) (n .0) (n .1)) (fits-up-to (countOf num + countOf num) (countOf num + countOf num) (omega arith) (omega arith)))
-  ranged (Direct n) h i used log = ranged-waits (DirectDue n i) h
-  ranged (Directhl n) h i used log = ranged-waits (DirecthlDue n i) h
-  ranged (Unpack g u) h i used log =
-      if-ind-by (λ (r : CodeResult). Ranged which (r .unit)) (cycleRefused (v .cl) (v .wl)) (λ e. unchanged)
-      (λ e. ranged-waits (UnpackDue g (unpackingOf g (addressOf u (v .tops)) (u .num) (u .usn) (u .masked) i)) (rw (cycle-ranged e) (fits-unpacking g _ (begun-fits g _ _ _ _ _))))
+  ranged (Direct n) h i used mem log = ranged-waits (DirectDue n i) h
+  ranged (Directhl n) h i used mem log = ranged-waits (DirecthlDue n i) h
+  ranged (Unpack g u) h i used mem log = ranged-unpack g u i used mem log
 
-  ranged-decoded : (d : Decoded) → DecodedFits which d → (i : Bool) (used : ℕ) (log : List ℕ) → Ranged which (decodedStep which d v i used log .unit)
-  ranged-decoded (Known c) h i used log = ranged c h i used log
-  ranged-decoded (Unknown n) h i used log = unchanged
+  ranged-decoded : (d : Decoded) → DecodedFits which d → (i : Bool) (used : ℕ) (mem log : List ℕ) → Ranged which (decodedStep which d v i used mem log .unit)
+  ranged-decoded (Known c) h i used mem log = ranged c h i used mem log
+  ranged-decoded (Unknown n) h i used mem log = unchanged
 
 -- ---- a payload word
 
@@ -367,7 +386,7 @@ module _ (which : VifUnit) (v : Vif) (h : unitInRange which v ≡ true) (p : Pat
 
   ranged-by : (w : Waiting) → v .waiting ≡ w → (n : Incoming) → StaysRanged which (stepBy which w v p n used m)
   unfolding codeStep unpackStep waitingInRange
-  ranged-by Nothing q n = record { unit-held = ranged-decoded which v fits q (decodeOf which _) (decode-fits which _ .fits) _ used (m .log) .held; path-held = g }
+  ranged-by Nothing q n = record { unit-held = ranged-decoded which v fits q (decodeOf which _) (decode-fits which _ .fits) _ used (m .mem) (m .log) .held; path-held = g }
   ranged-by (MaskDue i) q n = after _ (again _ refl refl refl refl refl refl refl refl refl refl) refl refl refl _ refl refl
   ranged-by (RowDue due i) q n =
       let d = row-due which v h q in
@@ -395,14 +414,14 @@ module _ (which : VifUnit) (v : Vif) (h : unitInRange which v ≡ true) (p : Pat
   ranged-by (DirecthlDue due i) q n = direct-ranged n due i _ (or-nothing-ranged which due _ (v .cl) (v .wl) (fewer 0x51 due (waiting-ranged which v h q)))
   ranged-by (UnpackDue f u) q n =
       let r = waiting-ranged which v h q in
-      let x = unpacking-fits f u (and-right (cycleInRange (v .cl) (v .wl)) _ r) in
+      let x = unpacking-fits f (v .cl) (v .wl) u (and-right (cycleInRange (v .cl) (v .wl)) _ r) in
       let l = x .left in
       let o = x .most in
       after _ (again _ refl refl refl refl refl refl refl refl refl refl) refl refl
       (or-nothing-ranged which (u .due) _ (v .cl) (v .wl)
       (λ z.
       rw (and-left (cycleInRange (v .cl) (v .wl)) _ r)
-      (fits-unpacking f (holds u _)
+      (fits-unpacking f (v .cl) (v .wl) (holds u _)
       (record { inside = x .inside; some = x .some; few = x .few; left = omega arith; most = omega arith }))))
       _
       refl

@@ -96,6 +96,6 @@ module _ (which : VifUnit) (v : Vif) (h : unitInRange which v ≡ true) where
   unfolding waitingInRange acceptable
   unpack-due {f} {u} q mem l =
       let r = waiting-ranged q in
-      let x = unpacking-fits f u (and-right (cycleInRange (v .cl) (v .wl)) _ r) in
+      let x = unpacking-fits f (v .cl) (v .wl) u (and-right (cycleInRange (v .cl) (v .wl)) _ r) in
       let m : MemoryFits (quadwords which) mem = record { some = quadwords-some which; most = quadwords-most which; long = l } in
       record { some = x .left; accepted = rw (memory-accepted (quadwords which) mem m) r }

@@ -30,11 +30,12 @@ use Rattle.unpack.specs.declared.Unpacking.{Unpacking}
 use Rattle.unpack.specs.Payload.{payloadWords, vectorBits}
 use Rattle.unpack.specs.Write.{Written, written}
 use Rattle.unpack.specs.Position.{addresses}
-use Rattle.unpack.specs.Range.{cycleRefused}
+use Rattle.unpack.specs.Range.{cycleRefused, payloadFor}
 use Rattle.unpack.specs.Step.{countOf, unpackingOf, holds, unpackWord}
 use Rattle.unpack.specs.Whole.{takeWords, heldAfter, copyVectors, fourWords}
 use Rattle.unpack.proofs.FormatLaws.{named-number}
 use Rattle.unpack.proofs.PayloadLaws.{payload-some}
+use Rattle.unpack.proofs.CycleLaws.{plain-vectors, vectors-some}
 use Rattle.unpack.proofs.StepLaws.{count-range}
 use Rattle.unpack.proofs.VectorLaws.{Words}
 use Rattle.unpack.proofs.WholeLaws.{payload-theorem, payload-due, v4-payload}
@@ -51,10 +52,10 @@ use Rattle.vif.specs.declared.Waiting.the-variants.{Nothing, MpgDue, Dir
 use Rattle.vif.specs.declared.Vif.{Vif}
 use Rattle.vif.specs.Setters.{withCycle, withMode, withRow, withWaiting}
 use Rattle.vif.specs.Codes.{interruptOf, quadwordsOf, mpgAddresses, codeListed, plainCode, unpackNumbers, codeOf, decodeOf}
-use Rattle.vif.specs.Execute.{started, startProgram, setMode, beginMpg, addressOf, beginUnpack, executeOf}
+use Rattle.vif.specs.Execute.{started, startProgram, setMode, beginMpg, addressOf, begunUnpack, beginUnpack, executeOf}
 use Rattle.vif.specs.Payload.{completes, orNothing, bytesOf, wordPlace, mpgStored, writeRegisters}
 use Rattle.vif.specs.Step.{leaves, wordIn, afterCode, codeStep, giveQuadword, unpackStep, vifStep}
-use Rattle.vif.specs.Feeds.{Fed, fed, Feeds, none, more, aWord, aQuadword, wordsIn, QuadwordsIn, no-quadword, one-quadword, Zeros, one-zero, storeInstruction, copyInstructions, unpackWaits, begunUnpack, unpackedFed}
+use Rattle.vif.specs.Feeds.{Fed, fed, Feeds, none, more, aWord, aQuadword, wordsIn, QuadwordsIn, no-quadword, one-quadword, Zeros, one-zero, storeInstruction, copyInstructions, unpackWaits, unpackedFed}
 use Rattle.vif.proofs.StepLaws.{by-waiting}
 
 -- ---- steps one after another
@@ -79,7 +80,7 @@ feeds-as f e = rw (← e) f
 
 -- an idle unit reads the next word as a code
 pub code-taken : (which : VifUnit) (v : Vif) (p : Path) (used : ℕ) (m : Lent) (n : Incoming) {w : ℕ} {c : Code} → v .waiting ≡ Nothing → wordIn n ≡ w → decodeOf which w ≡ Known c
-    → interruptOf w ≡ false → vifStep which v p n used m ≡ afterCode (executeOf which c v false used (m .log)) p m
+    → interruptOf w ≡ false → vifStep which v p n used m ≡ afterCode (executeOf which c v false used (m .mem) (m .log)) p m
 unfolding vifStep codeStep
 code-taken which v p used m n h e d i = sym (by-waiting which h v p n used m (rw (e, d, i)))
 
@@ -163,59 +164,64 @@ words-length : (ns : List Incoming) → length (wordsIn ns) ≡ length ns
 words-length [] = refl
 words-length (n ∷ ns) = ap suc (words-length ns)
 
--- an idle unit with CL and WL that UNPACK accepts takes the code, and its payload is due
-module _ (which : VifUnit) (v : Vif) (p : Path) (used : ℕ) (m : Lent) (n : Incoming) (f : Format) (u : UnpackCode) (h : v .waiting ≡ Nothing)
-    (c : cycleRefused (v .cl) (v .wl) ≡ false) (d : decodeOf which (wordIn n) ≡ Known (Unpack f u)) (i : interruptOf (wordIn n) ≡ false) where
-  begun-due : 1 ≤ begunUnpack f u v .due
-  unfolding unpackingOf
-  begun-due = payload-some f (countOf (u .num)) (count-range (u .num) .0)
+-- a cycle that rule 22 accepts has a write
+cycle-some : (cl wl : ℕ) → cycleRefused cl wl ≡ false → 1 ≤ wl
+unfolding cycleRefused
+cycle-some cl wl h = let z = eqb-false wl 0 h in omega arith
 
-  begun-quiet : begunUnpack f u v .interrupt ≡ false
+-- an idle unit with CL and WL that UNPACK accepts and CL not 0 takes the code, and its payload is due
+module _ (which : VifUnit) (v : Vif) (p : Path) (used : ℕ) (m : Lent) (n : Incoming) (f : Format) (u : UnpackCode) (h : v .waiting ≡ Nothing)
+    (c : cycleRefused (v .cl) (v .wl) ≡ false) (k : 1 ≤ v .cl) (d : decodeOf which (wordIn n) ≡ Known (Unpack f u)) (i : interruptOf (wordIn n) ≡ false) where
+  begun-due : 1 ≤ begunUnpack f u v false .due
+  unfolding unpackingOf
+  begun-due = payload-some f _ (vectors-some (v .cl) (v .wl) k (cycle-some (v .cl) (v .wl) c) (countOf (u .num)) (count-range (u .num) .0))
+
+  begun-quiet : begunUnpack f u v false .interrupt ≡ false
   unfolding unpackingOf
   begun-quiet = refl
 
-  begun-words : begunUnpack f u v .due ≡ payloadWords f (countOf (u .num))
+  begun-words : begunUnpack f u v false .due ≡ payloadFor f (v .cl) (v .wl) (countOf (u .num))
   unfolding unpackingOf
   begun-words = refl
 
   -- the code's own step
-  unpack-taken : vifStep which v p n used m ≡ leaves (Word false) (unpacks v (v .row) f (begunUnpack f u v)) p used m
+  unpack-taken : vifStep which v p n used m ≡ leaves (Word false) (unpacks v (v .row) f (begunUnpack f u v false)) p used m
   unfolding beginUnpack if
-  unpack-taken = code-taken which v p used m n h refl d i ∙ rw (c, waits-on f (begunUnpack f u v) begun-due)
+  unpack-taken = code-taken which v p used m n h refl d i ∙ rw (c, ne-eqb (v .cl) 0 (λ z. omega arith), waits-on f (begunUnpack f u v false) begun-due)
 
   -- the code and payload words, step by step
-  unpack-fed : (ns : List Incoming) → length ns ≤ payloadWords f (countOf (u .num))
+  unpack-fed : (ns : List Incoming) → length ns ≤ payloadFor f (v .cl) (v .wl) (countOf (u .num))
       → Feeds which aWord (fed v p used m) (n ∷ ns)
-      (unpackFed v p used (m .code) (m .log) f (heldAfter (begunUnpack f u v) (wordsIn ns))
-      (takeWords (quadwords which) f (begunUnpack f u v) (writeRegisters v) (wordsIn ns) (written (v .row) (m .mem))))
+      (unpackFed v p used (m .code) (m .log) f (heldAfter (begunUnpack f u v false) (wordsIn ns))
+      (takeWords (quadwords which) f (begunUnpack f u v false) (writeRegisters v) (wordsIn ns) (written (v .row) (m .mem))))
   unpack-fed ns l =
       more unpack-taken
-      (unpack-feeds which v p used (m .code) (m .log) f (begunUnpack f u v) ns (written (v .row) (m .mem)) begun-quiet (rw begun-words l))
+      (unpack-feeds which v p used (m .code) (m .log) f (begunUnpack f u v false) ns (written (v .row) (m .mem)) begun-quiet (rw begun-words l))
 
   -- "After k payload words, exactly the vectors lying wholly in them have been written": the unit's ROW and data memory, all else as it was
-  pub unit-payload : (ns : List Incoming) → Words (wordsIn ns) → length ns ≤ payloadWords f (countOf (u .num))
-      → Feeds which aWord (fed v p used m) (n ∷ ns) (unpackedFed which v p used m f u (wordsIn ns) (unpackWaits f (heldAfter (begunUnpack f u v) (wordsIn ns))))
+  pub unit-payload : (ns : List Incoming) → Words (wordsIn ns) → length ns ≤ payloadFor f (v .cl) (v .wl) (countOf (u .num))
+      → Feeds which aWord (fed v p used m) (n ∷ ns) (unpackedFed which v p used m f u (wordsIn ns) (unpackWaits f (heldAfter (begunUnpack f u v false) (wordsIn ns))))
   unit-payload ns w l =
-      rw (← payload-theorem (quadwords which) f (addressOf u (v .tops)) (u .num) (u .usn) (u .masked) false (writeRegisters v) (wordsIn ns) (written (v .row) (m .mem)) w (rw words-length l))
+      rw (← payload-theorem (quadwords which) f (addressOf u (v .tops)) (u .num) (u .usn) (u .masked) false (writeRegisters v) (wordsIn ns) (written (v .row) (m .mem)) w k (cycle-some (v .cl) (v .wl) c) (rw words-length l))
       (unpack-fed ns l)
 
   -- the payload words that are left
-  due-left : (ns : List Incoming) → heldAfter (begunUnpack f u v) (wordsIn ns) .due ≡ payloadWords f (countOf (u .num)) - length ns
-  due-left ns = payload-due f (addressOf u (v .tops)) (u .num) (u .usn) (u .masked) false (wordsIn ns) ∙ rw (words-length ns)
+  due-left : (ns : List Incoming) → heldAfter (begunUnpack f u v false) (wordsIn ns) .due ≡ payloadFor f (v .cl) (v .wl) (countOf (u .num)) - length ns
+  due-left ns = payload-due f (v .cl) (v .wl) (addressOf u (v .tops)) (u .num) (u .usn) (u .masked) false (wordsIn ns) ∙ rw (words-length ns)
 
   -- the same of a whole payload, after which nothing waits
-  pub unit-payload-whole : (ns : List Incoming) → Words (wordsIn ns) → length ns ≡ payloadWords f (countOf (u .num))
+  pub unit-payload-whole : (ns : List Incoming) → Words (wordsIn ns) → length ns ≡ payloadFor f (v .cl) (v .wl) (countOf (u .num))
       → Feeds which aWord (fed v p used m) (n ∷ ns) (unpackedFed which v p used m f u (wordsIn ns) Nothing)
   unit-payload-whole ns w l =
       let e = due-left ns in
-      rw (← waits-no-more f (heldAfter (begunUnpack f u v) (wordsIn ns)) (omega arith)) (unit-payload ns w (omega arith))
+      rw (← waits-no-more f (heldAfter (begunUnpack f u v false) (wordsIn ns)) (omega arith)) (unit-payload ns w (omega arith))
 
   -- and of a part of one, after which the UNPACK waits on
-  pub unit-payload-part : (ns : List Incoming) → Words (wordsIn ns) → length ns < payloadWords f (countOf (u .num))
-      → Feeds which aWord (fed v p used m) (n ∷ ns) (unpackedFed which v p used m f u (wordsIn ns) (UnpackDue f (heldAfter (begunUnpack f u v) (wordsIn ns))))
+  pub unit-payload-part : (ns : List Incoming) → Words (wordsIn ns) → length ns < payloadFor f (v .cl) (v .wl) (countOf (u .num))
+      → Feeds which aWord (fed v p used m) (n ∷ ns) (unpackedFed which v p used m f u (wordsIn ns) (UnpackDue f (heldAfter (begunUnpack f u v false) (wordsIn ns))))
   unit-payload-part ns w l =
       let e = due-left ns in
-      rw (← waits-on f (heldAfter (begunUnpack f u v) (wordsIn ns)) (omega arith)) (unit-payload ns w (omega arith))
+      rw (← waits-on f (heldAfter (begunUnpack f u v false) (wordsIn ns)) (omega arith)) (unit-payload ns w (omega arith))
 
 -- ---- data: NOP, STCYCL 1 1, STMOD 0, UNPACK V4-32
 
@@ -283,14 +289,15 @@ data-fed : (which : VifUnit) (v : Vif) (p : Path) (used : ℕ) (m : Lent) (n a :
     → Feeds which aWord (fed v p used m) (k ∷ ns) (fed v p used (lent (copyVectors (quadwords which) a (fourWords (wordsIn ns)) n 0 (m .mem)) (m .code) (m .log)))
 unfolding cycleRefused addressOf if
 data-fed which v p used m n a h hc hw hm hr some few inside k ns e w l =
-    let c : cycleRefused (v .cl) (v .wl) ≡ false = rw (hc, hw) in
+    let c : cycleRefused (v .cl) (v .wl) ≡ false = rw hw in
     let d : decodeOf which (wordIn k) ≡ Known (Unpack V4x32 (dataCode n a)) = rw e (data-decoded n a some few inside which) in
     let i : interruptOf (wordIn k) ≡ false = rw e (data-quiet n a some few inside) in
+    let q : 1 ≤ v .cl = omega arith in
     let g : countOf n ≡ n = count-num n some few in
     let b : a % addresses ≡ a = omega arith in
-    let t : length ns ≡ payloadWords V4x32 (countOf n) = rw (g, v4-words n, ← words-length ns) l in
-    let o = due-left which v p used m k V4x32 (dataCode n a) h c d i ns in
-    feeds-as (unpack-fed which v p used m k V4x32 (dataCode n a) h c d i ns (omega arith))
+    let t : length ns ≡ payloadFor V4x32 (v .cl) (v .wl) (countOf n) = rw (g, plain-vectors (v .cl) (v .wl) n (rw (hc, hw)), v4-words n, ← words-length ns) l in
+    let o = due-left which v p used m k V4x32 (dataCode n a) h c q d i ns in
+    feeds-as (unpack-fed which v p used m k V4x32 (dataCode n a) h c q d i ns (omega arith))
     (unpacked-same v p used (m .code) (m .log) (v4-payload (quadwords which) a n false false (writeRegisters v) (wordsIn ns) (written (v .row) (m .mem)) w (rw g l) hc hw hm hr ∙ rw (g, b)) (waits-no-more V4x32 _ (omega arith) ∙ sym h))
 
 -- NOP, STCYCL 1 1, STMOD 0 and UNPACK V4-32 copy the payload: words 4j to 4j + 3 to quadword a + j modulo the memory's size

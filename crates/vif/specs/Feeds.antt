@@ -14,7 +14,6 @@ use Rattle.memories.specs.Lengths.{Lent, lent}
 use Rattle.unpack.specs.declared.Format.{Format}
 use Rattle.unpack.specs.declared.Unpacking.{Unpacking}
 use Rattle.unpack.specs.Write.{Written, written}
-use Rattle.unpack.specs.Step.{unpackingOf}
 use Rattle.unpack.specs.Whole.{unpackedBy}
 use Rattle.vif.specs.declared.Incoming.{Incoming}
 use Rattle.vif.specs.declared.Incoming.the-variants.{Word0}
@@ -25,7 +24,7 @@ use Rattle.vif.specs.declared.Waiting.{Waiting}
 use Rattle.vif.specs.declared.Waiting.the-variants.{Nothing, UnpackDue}
 use Rattle.vif.specs.declared.Vif.{Vif}
 use Rattle.vif.specs.Setters.{withRow, withWaiting}
-use Rattle.vif.specs.Execute.{addressOf}
+use Rattle.vif.specs.Execute.{begunUnpack}
 use Rattle.vif.specs.Payload.{bytesOf, writeRegisters}
 use Rattle.vif.specs.Step.{leaves, wordIn, vifStep}
 
@@ -83,13 +82,9 @@ copyInstructions size a ws (suc n) j code =
 unfoldable pub unpackWaits : Format → Unpacking → Waiting
 unpackWaits f u = if (eqb (u .due) 0) Nothing (UnpackDue f u)
 
--- the UNPACK that a code without interrupt bit begins
-abbrev pub begunUnpack : Format → UnpackCode → Vif → Unpacking
-begunUnpack f u v = unpackingOf f (addressOf u (v .tops)) (u .num) (u .usn) (u .masked) false
-
--- ROW and data memory after payload words of it
+-- ROW and data memory after payload words of an UNPACK code without interrupt bit
 abbrev pub unpackedWith : VifUnit → Vif → List ℕ → Format → UnpackCode → List ℕ → Written
-unpackedWith which v mem f u ws = unpackedBy (quadwords which) f (begunUnpack f u v) (writeRegisters v) ws (written (v .row) mem)
+unpackedWith which v mem f u ws = unpackedBy (quadwords which) f (begunUnpack f u v false) (writeRegisters v) ws (written (v .row) mem)
 
 -- all else is as it was, but for what waits
 abbrev pub unpackedFed : VifUnit → Vif → Path → ℕ → Lent → Format → UnpackCode → List ℕ → Waiting → Fed

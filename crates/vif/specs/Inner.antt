@@ -9,6 +9,7 @@ use Rattle.gif.specs.declared.QuadwordsResult.{QuadwordsResult}
 use Rattle.gif.specs.Log.{logRefused}
 use Rattle.gif.specs.Range.{pathInRange}
 use Rattle.memories.specs.declared.VifUnit.{VifUnit}
+use Rattle.memories.specs.Units.{dataWords}
 use Rattle.memories.specs.Lengths.{Lent, lent, LengthsFit}
 use Rattle.unpack.specs.declared.Format.{Format}
 use Rattle.unpack.specs.declared.Unpacking.{Unpacking}
@@ -28,6 +29,12 @@ use Rattle.vif.specs.Feed.{FedOn, fedOn, fedOnBy, feedsOf}
 pub record GifReady (p : Path) (used : ℕ) (log : List ℕ) : Type 0 where
   pub logged : logRefused log used ≡ false
   pub ranged : pathInRange p ≡ true
+
+-- data memory and the cycle are what the writes of a code's own step need
+pub record CodeReady (which : VifUnit) (v : Vif) (mem : List ℕ) : Type 0 where
+  pub long : length mem ≡ dataWords which
+  pub most : v .cl ≤ 255
+  pub wide : v .wl ≤ 255
 
 -- a data memory of `size` quadwords and a waiting UNPACK pass UNPACK's tests
 pub record UnpackReady (size : ℕ) (v : Vif) (f : Format) (u : Unpacking) (mem : List ℕ) : Type 0 where

@@ -42,7 +42,7 @@ waitingInRange which (ColDue due i) cl wl = upTo 4 due
 waitingInRange which (MpgDue a n due i) cl wl = leb a mpgAddressMost && (upTo 256 n && upTo (n + n) due)
 waitingInRange which (DirectDue due i) cl wl = directInRange which 0x50 due
 waitingInRange which (DirecthlDue due i) cl wl = directInRange which 0x51 due
-waitingInRange which (UnpackDue f u) cl wl = cycleInRange cl wl && unpackingInRange f u
+waitingInRange which (UnpackDue f u) cl wl = cycleInRange cl wl && unpackingInRange f cl wl u
 
 unfoldable pub unitInRange : VifUnit → Vif → Bool
 unitInRange which v = registersInRange v && waitingInRange which (v .waiting) (v .cl) (v .wl)

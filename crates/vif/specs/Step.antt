@@ -72,10 +72,10 @@ refused n v p used m = leaves (Refused n) v p used m
 
 -- a code's own step
 abbrev pub afterCode : Executed → Path → Lent → Left
-afterCode e p m = leaves (e .answer) (e .unit) p (e .used) (lent (m .mem) (m .code) (e .log))
+afterCode e p m = leaves (e .answer) (e .unit) p (e .used) (lent (e .mem) (m .code) (e .log))
 
 unfoldable pub codeStep : VifUnit → Vif → Path → ℕ → ℕ → Lent → Left
-codeStep which v p word used m = afterCode (decodedStep which (decodeOf which word) v (interruptOf word) used (m .log)) p m
+codeStep which v p word used m = afterCode (decodedStep which (decodeOf which word) v (interruptOf word) used (m .mem) (m .log)) p m
 
 -- a quadword of DIRECT, by what the GIF made of it
 abbrev pub afterGif : GifAnswer → GifLeft → Vif → Path → ℕ → Bool → Waiting → ℕ → Lent → Left

@@ -14,19 +14,27 @@ use super::registers::with_mark;
 use super::registers::with_mode;
 use super::registers::with_mskpath3;
 use super::registers::with_offset;
+use super::registers::with_row;
 use super::registers::with_start;
 use super::registers::with_waiting;
+use super::registers::write_registers;
 use fields::refusals;
 use memories::VifUnit;
 use unpack::ADDRESSES;
 use unpack::Format;
+use unpack::Unpacking;
 ghost use mathlib.Core.Path.{_≡_};
-ghost use mathlib.Core.Bool.{false};
-ghost use Prim.Native.Nat.{_%_};
+ghost use mathlib.Core.Bool.{true, false};
+ghost use mathlib.Core.List.{List};
+ghost use Prim.Native.Nat.{ℕ, _%_};
+ghost use Rattle.memories.specs.Units.{quadwords};
 ghost use Rattle.unpack.specs.Position.{addresses};
+ghost use Rattle.unpack.specs.Step.{unfedAcceptable};
 ghost use Rattle.vif.specs.Codes.{interruptOf, decodeOf};
 ghost use Rattle.vif.specs.Setters.{withWaiting};
-ghost use Rattle.vif.specs.Execute.{codeResult, resultWith, nextTops, started, startProgram, setMode, addressOf, beginMpg, beginUnpack, executeOf, decodedStep};
+ghost use Rattle.vif.specs.Payload.{writeRegisters};
+ghost use Rattle.vif.specs.Inner.{CodeReady};
+ghost use Rattle.vif.specs.Execute.{codeResult, resultWith, nextTops, started, startProgram, setMode, addressOf, beginMpg, begunUnpack, unfedWritten, unfedStep, beginUnpack, executeOf, decodedStep};
 
 fn answered(answer: VifAnswer, unit: Vif, used: u64) -> CodeResult
     ensures { λ r. ⌜ r ≡ codeResult answer unit used ⌝ }
@@ -69,6 +77,7 @@ fn start(which: VifUnit, unit: Vif) -> Vif
     }
 }
 
+// Data memory is any.
 fn start_program(
     which: VifUnit,
     register: u64,
@@ -78,7 +87,8 @@ fn start_program(
     log: &mut [u64],
     used: u64,
 ) -> CodeResult
-    ensures { λ r. ⌜ resultWith r (now (log .exit)) ≡ startProgram which register value unit interrupt used (now (log .entry)) ⌝ }
+    ensures { λ r. ⌜ ((mem : List ℕ) → resultWith r mem (now (log .exit))
+        ≡ startProgram which register value unit interrupt used mem (now (log .entry))) ⌝ }
 {
     if gif::write_entry(log, used, register, value as u64) {
         done(start(which, unit), interrupt, used + 1)
@@ -108,22 +118,67 @@ fn address_of(u: UnpackCode, tops: u32) -> u32
     }
 }
 
+// The UNPACK that a code begins.
+fn begun_unpack(f: Format, u: UnpackCode, unit: Vif, interrupt: bool) -> Unpacking
+    ensures { λ r. ⌜ r ≡ begunUnpack f u unit interrupt ⌝ }
+{
+    let address = address_of(u, unit.tops);
+    unpack::waiting_for(
+        f,
+        unit.cl,
+        unit.wl,
+        address,
+        u.num,
+        u.usn,
+        u.masked,
+        interrupt,
+    )
+}
+
+// An UNPACK with CL 0, which has no payload: its writes. The log is any.
+fn unfed_unpack(
+    which: VifUnit,
+    f: Format,
+    u: Unpacking,
+    unit: Vif,
+    interrupt: bool,
+    data: &mut [u32],
+    used: u64,
+) -> CodeResult
+    requires { ⌜ unfedAcceptable (quadwords which) u (writeRegisters unit) (now «data») ≡ true ⌝ }
+    ensures { λ r. ⌜ ((log : List ℕ) → resultWith r (now («data» .exit)) log
+        ≡ unfedStep (unfedWritten which f u unit (now («data» .entry))) unit interrupt used log) ⌝ }
+{
+    let registers = write_registers(unit);
+    let row = unit.row;
+    let size = memories::quadwords(which);
+    let r = unpack::write_without_payload(size, f, u, registers, row, data);
+    let rows = r.row;
+    done(with_row(unit, rows), interrupt, used)
+}
+
+// The log is any.
 fn begin_unpack(
     which: VifUnit,
     f: Format,
     u: UnpackCode,
     unit: Vif,
     interrupt: bool,
+    data: &mut [u32],
     used: u64,
 ) -> CodeResult
-    ensures { λ r. ⌜ r ≡ beginUnpack which f u unit interrupt used ⌝ }
+    requires { ⌜ CodeReady which unit (now «data») ⌝ }
+    ensures { λ r. ⌜ ((log : List ℕ) → resultWith r (now («data» .exit)) log
+        ≡ beginUnpack which f u unit interrupt used (now («data» .entry)) log) ⌝ }
 {
     if unpack::cycle_refused(unit.cl, unit.wl) {
         return answered(VifAnswer::Refused(refusals::CYCLE_WRONG), unit, used);
     }
-    let address = address_of(u, unit.tops);
-    let waiting = unpack::waiting_for(f, address, u.num, u.usn, u.masked, interrupt);
-    waits(unit, Waiting::UnpackDue(f, waiting), used)
+    let begun = begun_unpack(f, u, unit, interrupt);
+    if unit.cl == 0 {
+        return unfed_unpack(which, f, begun, unit, interrupt, data, used);
+    }
+    waits(unit, Waiting::UnpackDue(f, begun), used)
 }
 
 fn begin_mpg(address: u32, num: u32, unit: Vif, interrupt: bool, used: u64) -> CodeResult
@@ -145,10 +200,13 @@ fn execute(
     code: Code,
     unit: Vif,
     interrupt: bool,
+    data: &mut [u32],
     log: &mut [u64],
     used: u64,
 ) -> CodeResult
-    ensures { λ r. ⌜ resultWith r (now (log .exit)) ≡ executeOf which code unit interrupt used (now (log .entry)) ⌝ }
+    requires { ⌜ CodeReady which unit (now «data») ⌝ }
+    ensures { λ r. ⌜ resultWith r (now («data» .exit)) (now (log .exit))
+        ≡ executeOf which code unit interrupt used (now («data» .entry)) (now (log .entry)) ⌝ }
 {
     match code {
         Code::Nop => done(unit, interrupt, used),
@@ -171,7 +229,7 @@ fn execute(
         Code::Mpg { address, num } => begin_mpg(address, num, unit, interrupt, used),
         Code::Direct(n) => waits(unit, Waiting::DirectDue { due: n, interrupt }, used),
         Code::Directhl(n) => waits(unit, Waiting::DirecthlDue { due: n, interrupt }, used),
-        Code::Unpack(f, u) => begin_unpack(which, f, u, unit, interrupt, used),
+        Code::Unpack(f, u) => begin_unpack(which, f, u, unit, interrupt, data, used),
     }
 }
 
@@ -180,14 +238,16 @@ pub(crate) fn take_code(
     which: VifUnit,
     word: u32,
     unit: Vif,
+    data: &mut [u32],
     log: &mut [u64],
     used: u64,
 ) -> CodeResult
-    ensures { λ r. ⌜ resultWith r (now (log .exit))
-        ≡ decodedStep which (decodeOf which word) unit (interruptOf word) used (now (log .entry)) ⌝ }
+    requires { ⌜ CodeReady which unit (now «data») ⌝ }
+    ensures { λ r. ⌜ resultWith r (now («data» .exit)) (now (log .exit))
+        ≡ decodedStep which (decodeOf which word) unit (interruptOf word) used (now («data» .entry)) (now (log .entry)) ⌝ }
 {
     match decode(which, word) {
-        Decoded::Known(code) => execute(which, code, unit, word / 2147483648 == 1, log, used),
+        Decoded::Known(code) => execute(which, code, unit, word / 2147483648 == 1, data, log, used),
         Decoded::Unknown(n) => answered(VifAnswer::Refused(n), unit, used),
     }
 }

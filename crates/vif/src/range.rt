@@ -99,10 +99,10 @@ fn waiting_in_range(which: VifUnit, waiting: Waiting, cl: u32, wl: u32) -> bool
 }
 
 fn unpack_in_range(cl: u32, wl: u32, f: unpack::Format, u: unpack::Unpacking) -> bool
-    ensures { λ r. ⌜ r ≡ (cycleInRange cl wl && unpackingInRange f u) ⌝ }
+    ensures { λ r. ⌜ r ≡ (cycleInRange cl wl && unpackingInRange f cl wl u) ⌝ }
 {
     if unpack::cycle_in_range(cl, wl) {
-        return unpack::unpacking_in_range(f, u);
+        return unpack::unpacking_in_range(f, cl, wl, u);
     }
     false
 }

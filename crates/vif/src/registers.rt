@@ -1,10 +1,12 @@
-// The unit with some of its registers replaced.
+// The unit with some of its registers replaced, and those that UNPACK reads.
 use super::Vif;
 use super::Waiting;
+use unpack::Registers;
 ghost use mathlib.Core.Path.{_≡_};
 ghost use lib.ListN.{set};
 ghost use Prim.Native.Nat.{_<_};
 ghost use Rattle.vif.specs.Setters.{withCycle, withOffset, withBase, withItops, withMode, withMskpath3, withMark, withMask, withRow, withCol, withStart, withWaiting};
+ghost use Rattle.vif.specs.Payload.{writeRegisters};
 
 pub(crate) fn with_cycle(v: Vif, cl: u32, wl: u32) -> Vif
     ensures { λ r. ⌜ r ≡ withCycle v cl wl ⌝ }
@@ -114,4 +116,17 @@ pub(crate) fn with_waiting(v: Vif, waiting: Waiting) -> Vif
     ensures { λ r. ⌜ r ≡ withWaiting v waiting ⌝ }
 {
     Vif { waiting, ..v }
+}
+
+pub(crate) fn write_registers(unit: Vif) -> Registers
+    ensures { λ r. ⌜ r ≡ writeRegisters unit ⌝ }
+{
+    let col = unit.col;
+    Registers {
+        cl: unit.cl,
+        wl: unit.wl,
+        mode: unit.mode,
+        mask: unit.mask,
+        col,
+    }
 }

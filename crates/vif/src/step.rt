@@ -16,6 +16,7 @@ use super::payload::row_word;
 use super::range::unit_in_range;
 use super::registers::with_row;
 use super::registers::with_waiting;
+use super::registers::write_registers;
 use fields::refusals;
 use gif::Path;
 use memories::VifUnit;
@@ -23,7 +24,6 @@ use memories::instructions;
 use memories::lengths_refusal;
 use memories::quadwords;
 use unpack::Format;
-use unpack::Registers;
 use unpack::Unpacking;
 ghost use mathlib.Core.Path.{_≡_};
 ghost use mathlib.Core.List.{List};
@@ -36,9 +36,9 @@ ghost use Rattle.vif.specs.Range.{unitInRange};
 ghost use Rattle.unpack.specs.Step.{holds};
 ghost use Rattle.vif.specs.declared.VifAnswer.the-variants.{Word};
 ghost use Rattle.vif.specs.declared.Waiting.the-variants.{DirectDue, DirecthlDue};
-ghost use Rattle.vif.specs.Payload.{completes, rowWord, colWord, mpgStored, mpgWord, writeRegisters, unpackUnit};
+ghost use Rattle.vif.specs.Payload.{completes, rowWord, colWord, mpgStored, mpgWord, unpackUnit};
 ghost use Rattle.vif.specs.Step.{answers, left, wordIn, codeStep, unpackStep, vifStep, takeOf};
-ghost use Rattle.vif.specs.Inner.{UnpackReady, MpgReady, StepReady};
+ghost use Rattle.vif.specs.Inner.{CodeReady, UnpackReady, MpgReady, StepReady};
 
 fn word_in(next: Incoming) -> u32
     ensures { λ r. ⌜ r ≡ wordIn next ⌝ }
@@ -57,29 +57,18 @@ fn code_word(
     word: u32,
     unit: Vif,
     path2: Path,
+    data: &mut [u32],
     log: &mut [u64],
     used: u64,
 ) -> VifResult
-    ensures { λ r. ⌜ ((mem code : List ℕ) → left r (lent mem code (now (log .exit)))
-        ≡ codeStep which unit path2 word used (lent mem code (now (log .entry)))) ⌝ }
+    requires { ⌜ CodeReady which unit (now «data») ⌝ }
+    ensures { λ r. ⌜ ((code : List ℕ) → left r (lent (now («data» .exit)) code (now (log .exit)))
+        ≡ codeStep which unit path2 word used (lent (now («data» .entry)) code (now (log .entry)))) ⌝ }
 {
-    let r = take_code(which, word, unit, log, used);
+    let r = take_code(which, word, unit, data, log, used);
     let answer = r.answer;
     let after = r.unit;
     answered(answer, after, path2, r.used)
-}
-
-pub(crate) fn write_registers(unit: Vif) -> Registers
-    ensures { λ r. ⌜ r ≡ writeRegisters unit ⌝ }
-{
-    let col = unit.col;
-    Registers {
-        cl: unit.cl,
-        wl: unit.wl,
-        mode: unit.mode,
-        mask: unit.mask,
-        col,
-    }
 }
 
 pub(crate) fn held(u: Unpacking, word: u32) -> Unpacking
@@ -245,7 +234,7 @@ pub(crate) fn step(
     let word = word_in(next);
     let waiting = unit.waiting;
     match waiting {
-        Waiting::Nothing => code_word(which, word, unit, path2, log, used),
+        Waiting::Nothing => code_word(which, word, unit, path2, data, log, used),
         Waiting::MaskDue(i) => answered(VifAnswer::Word(i), mask_word(unit, word), path2, used),
         Waiting::RowDue { due, interrupt } => row_step(word, due, interrupt, unit, path2, used),
         Waiting::ColDue { due, interrupt } => col_step(word, due, interrupt, unit, path2, used),

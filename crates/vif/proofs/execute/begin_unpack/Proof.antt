@@ -1,17 +1,43 @@
-use Rattle.vif.proofs.CodeLaws.{unpack-begun}
-use Rattle.vif.specs.Execute.{beginUnpack}
-use Rattle.fields.specs.Fields.{if}
 use mathlib.Core.Path.{sym, _∙_}
 use borrow.Author.Needs.{needs}
+use Rattle.fields.specs.Fields.{if}
+use Rattle.vif.specs.Execute.{beginUnpack}
+use Rattle.vif.proofs.CodeLaws.{unfed-accepted, unpack-unfed, unpack-begun}
 use Rattle.vif.proofs.execute.begin_unpack.Statement.{statement}
 use Rattle.vif.proofs.execute.begin_unpack.Tie as tie
 
-returns : tie.Need-returns
+refused : tie.Need-returns
 unfolding beginUnpack if
-returns c = rw (sym (c .before .before .cycle-refused .ensures) ∙ c .before .if1 .taken) (c .answered .ensures)
+refused c =
+    λ log.
+    let tested = c .before .before in
+    rw (sym (tested .cycle-refused .ensures) ∙ c .before .if1 .taken, c .answered .ensures)
 
-returns-2 : tie.Need-returns-2
-returns-2 c = unpack-begun _ _ _ _ _ _ _ (sym (c .before .before .before .before .cycle-refused .ensures) ∙ c .before .before .before .if1 .left) (c .before .before .address-of .ensures) (c .before .waiting-for .ensures) (c .waits .ensures)
+unfed-unpack-requires : tie.Need-unfed-unpack-requires
+unfed-unpack-requires c κs =
+    let begun = c .before .before .before in
+    let tested = begun .before .before in
+    let start = tested .before .before in
+    let x = start .args in
+    rw (begun .begun-unpack .ensures)
+    (unfed-accepted (x .which) (x .f) (x .u) (x .unit) (x .interrupt) _ (sym (tested .cycle-refused .ensures) ∙ begun .before .if1 .left) (start .pre) (c .before .if2 .taken))
+
+unfed : tie.Need-returns-2
+unfed c =
+    λ log.
+    let wrote = c .before .before in
+    let begun = wrote .before .before .before .before in
+    let tested = begun .before .before in
+    let x = tested .before .before .args in
+    unpack-unfed (x .which) (x .f) (x .u) (x .unit) (x .interrupt) _ (sym (tested .cycle-refused .ensures) ∙ begun .before .if1 .left) _ log (begun .begun-unpack .ensures) (wrote .before .before .if2 .taken) (wrote .unfed-unpack .ensures log)
+
+waits : tie.Need-returns-3
+waits c =
+    λ log.
+    let begun = c .before .before .before in
+    let tested = begun .before .before in
+    let x = tested .before .before .args in
+    unpack-begun (x .which) (x .f) (x .u) (x .unit) (x .interrupt) _ (sym (tested .cycle-refused .ensures) ∙ begun .before .if1 .left) _ log (begun .begun-unpack .ensures) (c .before .if2 .left) (c .waits .ensures)
 
 pub begin-unpack-spec : {M : Type 1} → statement M
 begin-unpack-spec =
@@ -19,8 +45,10 @@ begin-unpack-spec =
     (tie.spec
     (λ c κs. search needs)
     (λ c κs. search needs)
-    returns
+    refused
     (λ c κs. search needs)
+    unfed-unpack-requires
+    (λ c. search needs)
+    unfed
     (λ c κs. search needs)
-    (λ c κs. search needs)
-    returns-2)
+    waits)

@@ -9,10 +9,10 @@ add-done : tie.Need-add-done
 add-done c = let s = entry-stored _ _ _ (c .before .before .before .before .write-entry .ensures) (c .before .if1 .taken) in omega arith
 
 returns : tie.Need-returns
-returns c = rw (c .done .ensures, c .before .start .ensures) (program-started _ _ _ _ _ _ _ (c .before .before .before .before .before .write-entry .ensures) (c .before .before .if1 .taken))
+returns c = λ mem. rw (c .done .ensures, c .before .start .ensures) (program-started _ _ _ _ _ _ mem _ (c .before .before .before .before .before .write-entry .ensures) (c .before .before .if1 .taken))
 
 returns-2 : tie.Need-returns-2
-returns-2 c = rw (c .answered .ensures) (program-refused _ _ _ _ _ _ _ (c .before .before .before .before .write-entry .ensures) (c .before .if1 .left))
+returns-2 c = λ mem. rw (c .answered .ensures) (program-refused _ _ _ _ _ _ mem _ (c .before .before .before .before .write-entry .ensures) (c .before .if1 .left))
 
 pub start-program-spec : {M : Type 1} → statement M
 start-program-spec =

@@ -1,9 +1,15 @@
 use borrow.Author.Needs.{needs}
 use Rattle.vif.specs.Step.{vifStep}
+use Rattle.vif.proofs.RangeKept.{code-ready}
 use Rattle.vif.proofs.RangeLaws.{row-due, col-due, mpg-ready, direct-due, directhl-due, unpack-due}
 use Rattle.vif.proofs.StepLaws.{by-waiting}
 use Rattle.vif.proofs.step.step.Statement.{statement}
 use Rattle.vif.proofs.step.step.Tie as tie
+
+code-word-requires : tie.Need-code-word-requires
+code-word-requires c κs =
+    let start = c .before .before .before .before .before .before .before .before in
+    code-ready _ (start .args .unit) _ (start .pre .ranged) (start .pre .fit .long)
 
 row-step-requires : tie.Need-row-step-requires
 row-step-requires c κs =
@@ -38,8 +44,9 @@ unpack-word-requires c κs =
 code : tie.Need-returns
 unfolding vifStep
 code c =
-    let told = c .before .before .before .before in
-    by-waiting _ (told .enum-told .given .1) _ _ _ _ _ (rw (← told .before .before .word-in .ensures) (c .before .before .code-word .ensures _ _))
+    let done = c .before .before .before .before in
+    let told = done .before .before .before in
+    by-waiting _ (told .enum-told .given .1) _ _ _ _ _ (rw (← told .before .before .word-in .ensures) (done .code-word .ensures _))
 
 mask : tie.Need-returns-2
 unfolding vifStep
@@ -90,7 +97,7 @@ step-spec =
     (tie.spec
     (λ c κs. search needs)
     (λ c. search needs)
-    (λ c κs. search needs)
+    code-word-requires
     (λ c. search needs)
     (λ c κs. search needs)
     (λ c κs. search needs)
@@ -108,6 +115,7 @@ step-spec =
     (λ c κs. search needs)
     (λ c. search needs)
     unpack-word-requires
+    (λ c. search needs)
     (λ c. search needs)
     code
     mask
