@@ -5,6 +5,7 @@ pub mod StepLaws
 pub mod MpgLaws
 pub mod KeepLaws
 pub mod RangeKept
+pub mod UnpackLaws
 pub mod SheetLaws
 pub mod FeedLaws
 pub mod BurstLaws

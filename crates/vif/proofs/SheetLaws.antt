@@ -1,17 +1,17 @@
--- What the records of a test sheet do to the unit, over their sizes, and an UNPACK's payload at the unit.
+-- What the records of a test sheet do to the unit, over their sizes.
 use mathlib.Core.Path.{_≡_, refl, sym, ap, _∙_}
-use mathlib.Core.Bool.{Bool, true, false}
+use mathlib.Core.Logic.{inl}
+use mathlib.Core.Bool.{true, false}
 use mathlib.Core.List.{List, [], _∷_, _++_}
 use Prim.Native.Nat.{ℕ, zero, suc, _+_, _*_, _-_, _/_, _%_, _^_, _<_, _≤_}
 use native.Mathlib.Nat.{add-zero, zero-add}
 use native.Mathlib.Numerals.{add-one}
 use native.Mathlib.Omega.{arith}
-use borrow.Author.Tests.{eqb-true, eqb-false, eq-eqb, ne-eqb, le-ltb}
+use borrow.Author.Tests.{ne-eqb, le-ltb}
 use lib.ListN.{length, getD}
 use lib.Seq.{sets}
 use lib.Dec.{eqb}
 use Rattle.fields.specs.Fields.{if, bits, quadword}
-use Rattle.fields.proofs.ChoiceLaws.{if-ind}
 use Rattle.gif.specs.declared.Path.{Path}
 use Rattle.gif.specs.declared.Place.the-variants.{Idle}
 use Rattle.gif.specs.Log.{entrySize, entry, logged, lacksRoom}
@@ -24,22 +24,17 @@ use Rattle.memories.specs.declared.VifUnit.{VifUnit}
 use Rattle.memories.specs.declared.VifUnit.the-variants.{Vif1}
 use Rattle.memories.specs.Units.{quadwords, instructions}
 use Rattle.memories.specs.Lengths.{Lent, lent}
-use Rattle.unpack.specs.declared.Format.{Format}
 use Rattle.unpack.specs.declared.Format.the-variants.{V4x32}
-use Rattle.unpack.specs.declared.Unpacking.{Unpacking}
 use Rattle.unpack.specs.Payload.{payloadWords, vectorBits}
 use Rattle.unpack.specs.Write.{Written, written}
 use Rattle.unpack.specs.Position.{addresses}
-use Rattle.unpack.specs.Range.{cycleRefused, payloadFor}
-use Rattle.unpack.specs.Step.{countOf, unpackingOf, holds, unpackWord}
-use Rattle.unpack.specs.Whole.{takeWords, heldAfter, copyVectors, fourWords}
+use Rattle.unpack.specs.Range.{cycleRefused}
+use Rattle.unpack.specs.Step.{countOf}
+use Rattle.unpack.specs.Whole.{copyVectors, fourWords}
 use Rattle.unpack.proofs.FormatLaws.{named-number}
-use Rattle.unpack.proofs.PayloadLaws.{payload-some}
-use Rattle.unpack.proofs.CycleLaws.{plain-vectors, vectors-some}
-use Rattle.unpack.proofs.StepLaws.{count-range}
+use Rattle.unpack.proofs.CycleLaws.{plain-vectors}
 use Rattle.unpack.proofs.VectorLaws.{Words}
-use Rattle.unpack.proofs.WholeLaws.{payload-theorem, payload-due, v4-payload}
-use Rattle.vif.specs.declared.Code.{Code}
+use Rattle.unpack.proofs.WholeLaws.{v4-payload}
 use Rattle.vif.specs.declared.Code.the-variants.{Nop, Stcycl, Stmod, Mscal, Mpg, Direct, Unpack}
 use Rattle.vif.specs.declared.UnpackCode.{UnpackCode}
 use Rattle.vif.specs.declared.Decoded.the-variants.{Known}
@@ -48,15 +43,16 @@ use Rattle.vif.specs.declared.Incoming.the-variants.{Word0}
 use Rattle.vif.specs.declared.VifAnswer.{VifAnswer}
 use Rattle.vif.specs.declared.VifAnswer.the-variants.{Word, Quadword}
 use Rattle.vif.specs.declared.Waiting.{Waiting}
-use Rattle.vif.specs.declared.Waiting.the-variants.{Nothing, MpgDue, DirectDue, UnpackDue}
+use Rattle.vif.specs.declared.Waiting.the-variants.{Nothing, MpgDue, DirectDue}
 use Rattle.vif.specs.declared.Vif.{Vif}
 use Rattle.vif.specs.Setters.{withCycle, withMode, withRow, withWaiting}
 use Rattle.vif.specs.Codes.{interruptOf, quadwordsOf, mpgAddresses, codeListed, plainCode, unpackNumbers, codeOf, decodeOf}
-use Rattle.vif.specs.Execute.{started, startProgram, setMode, beginMpg, addressOf, begunUnpack, beginUnpack, executeOf}
-use Rattle.vif.specs.Payload.{completes, orNothing, bytesOf, wordPlace, mpgStored, writeRegisters}
-use Rattle.vif.specs.Step.{leaves, wordIn, afterCode, codeStep, giveQuadword, unpackStep, vifStep}
-use Rattle.vif.specs.Feeds.{Fed, fed, Feeds, none, more, aWord, aQuadword, wordsIn, QuadwordsIn, no-quadword, one-quadword, Zeros, one-zero, storeInstruction, copyInstructions, unpackWaits, unpackedFed}
-use Rattle.vif.proofs.StepLaws.{by-waiting}
+use Rattle.vif.specs.Execute.{started, startProgram, setMode, beginMpg, addressOf}
+use Rattle.vif.specs.Payload.{orNothing, bytesOf, wordPlace, mpgStored, writeRegisters}
+use Rattle.vif.specs.Step.{leaves, wordIn, giveQuadword, vifStep}
+use Rattle.vif.specs.Feeds.{Fed, fed, Feeds, none, more, aWord, aQuadword, wordsIn, QuadwordsIn, no-quadword, one-quadword, Zeros, one-zero, storeInstruction, copyInstructions}
+use Rattle.vif.proofs.StepLaws.{code-taken}
+use Rattle.vif.proofs.UnpackLaws.{quiet, waits-no-more, words-length, payloadOf, due-left, unpack-fed}
 
 -- ---- steps one after another
 
@@ -78,12 +74,6 @@ feeds-as f e = rw (← e) f
 
 -- ---- a code's own step
 
--- an idle unit reads the next word as a code
-pub code-taken : (which : VifUnit) (v : Vif) (p : Path) (used : ℕ) (m : Lent) (n : Incoming) {w : ℕ} {c : Code} → v .waiting ≡ Nothing → wordIn n ≡ w → decodeOf which w ≡ Known c
-    → interruptOf w ≡ false → vifStep which v p n used m ≡ afterCode (executeOf which c v false used (m .mem) (m .log)) p m
-unfolding vifStep codeStep
-code-taken which v p used m n h e d i = sym (by-waiting which h v p n used m (rw (e, d, i)))
-
 nop-decoded : (which : VifUnit) → decodeOf which 0 ≡ Known Nop
 unfolding decodeOf codeOf plainCode bits if
 nop-decoded Vif1 = refl
@@ -93,135 +83,6 @@ pub feeds-nop : {which : VifUnit} {v : Vif} {p : Path} {used : ℕ} {m : Lent} �
     → Feeds which aWord (fed v p used m) ns y → Feeds which aWord (fed v p used m) (n ∷ ns) y
 unfolding bits
 feeds-nop {which} {v} {p} {used} {m} h {y} {n} e f = more (code-taken which v p used m n h e (nop-decoded which) refl) f
-
--- ---- the payload of UNPACK
-
--- without the interrupt bit nothing completes an interrupt
-quiet : (due : ℕ) → completes due false ≡ false
-unfolding completes
-quiet due = if-ind (λ (b : Bool). b ≡ false) (eqb due 1) refl refl
-
--- the same answer and what waits leave the same
-same-left : {b c : Bool} (v : Vif) (p : Path) (used : ℕ) (m : Lent) {w x : Waiting} → b ≡ c → w ≡ x
-    → leaves (Word b) (withWaiting v w) p used m ≡ leaves (Word c) (withWaiting v x) p used m
-same-left v p used m e q = rw (e, q)
-
--- a payload word more
-waits-next : (f : Format) (u : Unpacking) (x : ℕ) → 1 ≤ u .due → orNothing (u .due) (UnpackDue f (holds u x)) ≡ unpackWaits f (holds u x)
-unfolding orNothing unpackWaits
-waits-next f u x h =
-    let e : eqb (u .due) 1 ≡ eqb (u .due - 1) 0 = same (u .due) h in
-    rw e
-  where
-    same : (k : ℕ) → 1 ≤ k → eqb k 1 ≡ eqb (k - 1) 0
-    same k l = go (eqb k 1) refl
-      where
-        go : (b : Bool) → eqb k 1 ≡ b → b ≡ eqb (k - 1) 0
-        go true e = let q = eqb-true k 1 e in sym (eq-eqb (k - 1) 0 (omega arith))
-        go false e = let q = eqb-false k 1 e in sym (ne-eqb (k - 1) 0 (λ z. q (omega arith)))
-
--- with words due it waits
-waits-on : (f : Format) (u : Unpacking) → 1 ≤ u .due → unpackWaits f u ≡ UnpackDue f u
-unfolding unpackWaits if
-waits-on f u h = rw (ne-eqb (u .due) 0 (λ e. omega arith))
-
--- with none due it doesn't
-waits-no-more : (f : Format) (u : Unpacking) → u .due ≡ 0 → unpackWaits f u ≡ Nothing
-unfolding unpackWaits if
-waits-no-more f u h = rw (eq-eqb (u .due) 0 h)
-
--- the unit with an UNPACK that waits
-abbrev unpacks : Vif → List ℕ → Format → Unpacking → Vif
-unpacks v row f u = withWaiting (withRow v row) (unpackWaits f u)
-
--- the unit and data memory after words
-abbrev unpackFed : Vif → Path → ℕ → List ℕ → List ℕ → Format → Unpacking → Written → Fed
-unpackFed v p used code log f u x = fed (unpacks v (x .row) f u) p used (lent (x .mem) code log)
-
-module _ (which : VifUnit) (v : Vif) (p : Path) (used : ℕ) (code log : List ℕ) (f : Format) where
-  -- a payload word's step
-  unpack-word : (u : Unpacking) (n : Incoming) (x : Written) → u .interrupt ≡ false → 1 ≤ u .due
-      → vifStep which (unpacks v (x .row) f u) p n used (lent (x .mem) code log)
-      ≡ leaves (Word false) (unpacks v (unpackWord (quadwords which) f u (writeRegisters v) (wordIn n) x .row) f (holds u (wordIn n))) p used
-      (lent (unpackWord (quadwords which) f u (writeRegisters v) (wordIn n) x .mem) code log)
-  unfolding vifStep unpackStep
-  unpack-word u n x i h =
-      sym (by-waiting which (waits-on f u h) (unpacks v (x .row) f u) p n used (lent (x .mem) code log)
-      (same-left (withRow v (unpackWord (quadwords which) f u (writeRegisters v) (wordIn n) x .row)) p used (lent (unpackWord (quadwords which) f u (writeRegisters v) (wordIn n) x .mem) code log) (sym (ap (completes (u .due)) i ∙ quiet (u .due))) (sym (waits-next f u (wordIn n) h))))
-
-  -- payload words one after another
-  unpack-feeds : (u : Unpacking) (ns : List Incoming) (x : Written) → u .interrupt ≡ false → length ns ≤ u .due
-      → Feeds which aWord (unpackFed v p used code log f u x) ns
-      (unpackFed v p used code log f (heldAfter u (wordsIn ns)) (takeWords (quadwords which) f u (writeRegisters v) (wordsIn ns) x))
-  unfolding takeWords heldAfter
-  unpack-feeds u [] x i h = none
-  unpack-feeds u (n ∷ ns) x i h =
-      more (unpack-word u n x i (omega arith))
-      (unpack-feeds (holds u (wordIn n)) ns (unpackWord (quadwords which) f u (writeRegisters v) (wordIn n) x) i (omega arith))
-
--- words as many as came
-words-length : (ns : List Incoming) → length (wordsIn ns) ≡ length ns
-words-length [] = refl
-words-length (n ∷ ns) = ap suc (words-length ns)
-
--- a cycle that rule 22 accepts has a write
-cycle-some : (cl wl : ℕ) → cycleRefused cl wl ≡ false → 1 ≤ wl
-unfolding cycleRefused
-cycle-some cl wl h = let z = eqb-false wl 0 h in omega arith
-
--- an idle unit with CL and WL that UNPACK accepts and CL not 0 takes the code, and its payload is due
-module _ (which : VifUnit) (v : Vif) (p : Path) (used : ℕ) (m : Lent) (n : Incoming) (f : Format) (u : UnpackCode) (h : v .waiting ≡ Nothing)
-    (c : cycleRefused (v .cl) (v .wl) ≡ false) (k : 1 ≤ v .cl) (d : decodeOf which (wordIn n) ≡ Known (Unpack f u)) (i : interruptOf (wordIn n) ≡ false) where
-  begun-due : 1 ≤ begunUnpack f u v false .due
-  unfolding unpackingOf
-  begun-due = payload-some f _ (vectors-some (v .cl) (v .wl) k (cycle-some (v .cl) (v .wl) c) (countOf (u .num)) (count-range (u .num) .0))
-
-  begun-quiet : begunUnpack f u v false .interrupt ≡ false
-  unfolding unpackingOf
-  begun-quiet = refl
-
-  begun-words : begunUnpack f u v false .due ≡ payloadFor f (v .cl) (v .wl) (countOf (u .num))
-  unfolding unpackingOf
-  begun-words = refl
-
-  -- the code's own step
-  unpack-taken : vifStep which v p n used m ≡ leaves (Word false) (unpacks v (v .row) f (begunUnpack f u v false)) p used m
-  unfolding beginUnpack if
-  unpack-taken = code-taken which v p used m n h refl d i ∙ rw (c, ne-eqb (v .cl) 0 (λ z. omega arith), waits-on f (begunUnpack f u v false) begun-due)
-
-  -- the code and payload words, step by step
-  unpack-fed : (ns : List Incoming) → length ns ≤ payloadFor f (v .cl) (v .wl) (countOf (u .num))
-      → Feeds which aWord (fed v p used m) (n ∷ ns)
-      (unpackFed v p used (m .code) (m .log) f (heldAfter (begunUnpack f u v false) (wordsIn ns))
-      (takeWords (quadwords which) f (begunUnpack f u v false) (writeRegisters v) (wordsIn ns) (written (v .row) (m .mem))))
-  unpack-fed ns l =
-      more unpack-taken
-      (unpack-feeds which v p used (m .code) (m .log) f (begunUnpack f u v false) ns (written (v .row) (m .mem)) begun-quiet (rw begun-words l))
-
-  -- "After k payload words, exactly the vectors lying wholly in them have been written": the unit's ROW and data memory, all else as it was
-  pub unit-payload : (ns : List Incoming) → Words (wordsIn ns) → length ns ≤ payloadFor f (v .cl) (v .wl) (countOf (u .num))
-      → Feeds which aWord (fed v p used m) (n ∷ ns) (unpackedFed which v p used m f u (wordsIn ns) (unpackWaits f (heldAfter (begunUnpack f u v false) (wordsIn ns))))
-  unit-payload ns w l =
-      rw (← payload-theorem (quadwords which) f (addressOf u (v .tops)) (u .num) (u .usn) (u .masked) false (writeRegisters v) (wordsIn ns) (written (v .row) (m .mem)) w k (cycle-some (v .cl) (v .wl) c) (rw words-length l))
-      (unpack-fed ns l)
-
-  -- the payload words that are left
-  due-left : (ns : List Incoming) → heldAfter (begunUnpack f u v false) (wordsIn ns) .due ≡ payloadFor f (v .cl) (v .wl) (countOf (u .num)) - length ns
-  due-left ns = payload-due f (v .cl) (v .wl) (addressOf u (v .tops)) (u .num) (u .usn) (u .masked) false (wordsIn ns) ∙ rw (words-length ns)
-
-  -- the same of a whole payload, after which nothing waits
-  pub unit-payload-whole : (ns : List Incoming) → Words (wordsIn ns) → length ns ≡ payloadFor f (v .cl) (v .wl) (countOf (u .num))
-      → Feeds which aWord (fed v p used m) (n ∷ ns) (unpackedFed which v p used m f u (wordsIn ns) Nothing)
-  unit-payload-whole ns w l =
-      let e = due-left ns in
-      rw (← waits-no-more f (heldAfter (begunUnpack f u v false) (wordsIn ns)) (omega arith)) (unit-payload ns w (omega arith))
-
-  -- and of a part of one, after which the UNPACK waits on
-  pub unit-payload-part : (ns : List Incoming) → Words (wordsIn ns) → length ns < payloadFor f (v .cl) (v .wl) (countOf (u .num))
-      → Feeds which aWord (fed v p used m) (n ∷ ns) (unpackedFed which v p used m f u (wordsIn ns) (UnpackDue f (heldAfter (begunUnpack f u v false) (wordsIn ns))))
-  unit-payload-part ns w l =
-      let e = due-left ns in
-      rw (← waits-on f (heldAfter (begunUnpack f u v false) (wordsIn ns)) (omega arith)) (unit-payload ns w (omega arith))
 
 -- ---- data: NOP, STCYCL 1 1, STMOD 0, UNPACK V4-32
 
@@ -294,11 +155,12 @@ data-fed which v p used m n a h hc hw hm hr some few inside k ns e w l =
     let i : interruptOf (wordIn k) ≡ false = rw e (data-quiet n a some few inside) in
     let q : 1 ≤ v .cl = omega arith in
     let g : countOf n ≡ n = count-num n some few in
-    let b : a % addresses ≡ a = omega arith in
-    let t : length ns ≡ payloadFor V4x32 (v .cl) (v .wl) (countOf n) = rw (g, plain-vectors (v .cl) (v .wl) n (rw (hc, hw)), v4-words n, ← words-length ns) l in
-    let o = due-left which v p used m k V4x32 (dataCode n a) h c q d i ns in
-    feeds-as (unpack-fed which v p used m k V4x32 (dataCode n a) h c q d i ns (omega arith))
-    (unpacked-same v p used (m .code) (m .log) (v4-payload (quadwords which) a n false false (writeRegisters v) (wordsIn ns) (written (v .row) (m .mem)) w (rw g l) hc hw hm hr ∙ rw (g, b)) (waits-no-more V4x32 _ (omega arith) ∙ sym h))
+    let y : a % addresses ≡ a = omega arith in
+    let t : length ns ≡ payloadOf V4x32 (dataCode n a) v = rw (g, plain-vectors (v .cl) (v .wl) n (rw (hc, hw)), v4-words n, ← words-length ns) l in
+    let o = due-left V4x32 (dataCode n a) v false (wordsIn ns) in
+    let b = words-length ns in
+    feeds-as (unpack-fed which v p used m k V4x32 (dataCode n a) false h c d i q ns (inl refl) (omega arith))
+    (unpacked-same v p used (m .code) (m .log) (v4-payload (quadwords which) a n false false (writeRegisters v) (wordsIn ns) (written (v .row) (m .mem)) w (rw g l) hc hw hm hr ∙ rw (g, y)) (waits-no-more V4x32 _ (omega arith) ∙ sym h))
 
 -- NOP, STCYCL 1 1, STMOD 0 and UNPACK V4-32 copy the payload: words 4j to 4j + 3 to quadword a + j modulo the memory's size
 pub feeds-data : (which : VifUnit) (v : Vif) (p : Path) (used : ℕ) (m : Lent) (n a : ℕ) (ws : List ℕ) (ns : List Incoming) → v .waiting ≡ Nothing → length (v .row) ≡ 4

@@ -4,7 +4,7 @@ use mathlib.Core.Bool.{Bool, true, false, _&&_}
 use mathlib.Core.List.{List}
 use Prim.Native.Nat.{ℕ}
 use borrow.Author.Tests.{ne-eqb}
-use Rattle.fields.specs.Fields.{if, quadword}
+use Rattle.fields.specs.Fields.{if}
 use Rattle.fields.specs.Refusals.{outOfRange}
 use Rattle.fields.proofs.ChoiceLaws.{and-left, and-right}
 use Rattle.gif.specs.declared.Path.{Path}
@@ -24,14 +24,19 @@ use Rattle.unpack.specs.declared.Unpacking.{Unpacking}
 use Rattle.unpack.specs.declared.Registers.{Registers}
 use Rattle.unpack.specs.declared.Rows.{Rows}
 use Rattle.unpack.specs.Step.{Left as UnpackLeft, left as unpackLeft, takeOf as unpackTakeOf}
+use Rattle.vif.specs.declared.Code.{Code}
+use Rattle.vif.specs.declared.Decoded.the-variants.{Known}
 use Rattle.vif.specs.declared.Incoming.{Incoming}
 use Rattle.vif.specs.declared.VifAnswer.the-variants.{Word}
 use Rattle.vif.specs.declared.Waiting.{Waiting}
+use Rattle.vif.specs.declared.Waiting.the-variants.{Nothing}
 use Rattle.vif.specs.declared.Vif.{Vif}
+use Rattle.vif.specs.Codes.{interruptOf, decodeOf}
+use Rattle.vif.specs.Execute.{executeOf}
 use Rattle.vif.specs.Payload.{completes, writeRegisters, unpackUnit}
 use Rattle.vif.specs.Range.{unitInRange}
 use Rattle.vif.specs.Inner.{GifReady, UnpackReady, StepReady}
-use Rattle.vif.specs.Step.{Left, left, refused, answers, afterGif, afterQuadword, giveQuadword, directStep, unpackStep, stepBy, vifStep, takeOf}
+use Rattle.vif.specs.Step.{Left, left, refused, answers, wordIn, afterCode, codeStep, afterGif, afterQuadword, giveQuadword, directStep, unpackStep, stepBy, vifStep, takeOf}
 
 -- what holds at the case that an arm knows holds at the value itself
 pub by-answer : {a b : GifAnswer} → a ≡ b → (o : GifLeft) (v : Vif) (p : Path) (due : ℕ) (i : Bool) (w : Waiting) (used : ℕ) (m : Lent) {x : Left}
@@ -45,6 +50,12 @@ by-incoming q v p due i w used m h = rw q h
 pub by-waiting : (which : VifUnit) {w k : Waiting} → w ≡ k → (v : Vif) (p : Path) (n : Incoming) (used : ℕ) (m : Lent) {x : Left}
     → x ≡ stepBy which k v p n used m → x ≡ stepBy which w v p n used m
 by-waiting which q v p n used m h = rw q h
+
+-- an idle unit reads the next word as a code
+pub code-taken : (which : VifUnit) (v : Vif) (p : Path) (used : ℕ) (m : Lent) (n : Incoming) {w : ℕ} {c : Code} {i : Bool} → v .waiting ≡ Nothing → wordIn n ≡ w
+    → decodeOf which w ≡ Known c → interruptOf w ≡ i → vifStep which v p n used m ≡ afterCode (executeOf which c v i used (m .mem) (m .log)) p m
+unfolding vifStep codeStep
+code-taken which v p used m n h e d i = sym (by-waiting which h v p n used m (rw (e, d, i)))
 
 -- a quadword that the GIF tested
 pub gave : (quad : ℕ) (v : Vif) (p : Path) (due : ℕ) (i : Bool) (w : Waiting) (used : ℕ) (mem code log : List ℕ) → GifReady p used log

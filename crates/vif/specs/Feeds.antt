@@ -1,6 +1,6 @@
 -- For proofs, but for Fed: words and quadwords given to a unit one after another, each with the same answer.
 use Prim.Native.Nat.{ℕ, zero, suc, _+_, _*_, _%_, _^_}
-use mathlib.Core.Bool.{false}
+use mathlib.Core.Bool.{Bool, false}
 use mathlib.Core.List.{List, [], _∷_, _++_}
 use mathlib.Core.Path.{_≡_}
 use lib.ListN.{getD}
@@ -82,12 +82,12 @@ copyInstructions size a ws (suc n) j code =
 unfoldable pub unpackWaits : Format → Unpacking → Waiting
 unpackWaits f u = if (eqb (u .due) 0) Nothing (UnpackDue f u)
 
--- ROW and data memory after payload words of an UNPACK code without interrupt bit
-abbrev pub unpackedWith : VifUnit → Vif → List ℕ → Format → UnpackCode → List ℕ → Written
-unpackedWith which v mem f u ws = unpackedBy (quadwords which) f (begunUnpack f u v false) (writeRegisters v) ws (written (v .row) mem)
+-- ROW and data memory after payload words of an UNPACK code with its interrupt bit
+abbrev pub unpackedWith : VifUnit → Vif → List ℕ → Format → UnpackCode → Bool → List ℕ → Written
+unpackedWith which v mem f u i ws = unpackedBy (quadwords which) f (begunUnpack f u v i) (writeRegisters v) ws (written (v .row) mem)
 
 -- all else is as it was, but for what waits
-abbrev pub unpackedFed : VifUnit → Vif → Path → ℕ → Lent → Format → UnpackCode → List ℕ → Waiting → Fed
-unpackedFed which v p used m f u ws w =
-    fed (withWaiting (withRow v (unpackedWith which v (m .mem) f u ws .row)) w) p used
-    (lent (unpackedWith which v (m .mem) f u ws .mem) (m .code) (m .log))
+abbrev pub unpackedFed : VifUnit → Vif → Path → ℕ → Lent → Format → UnpackCode → Bool → List ℕ → Waiting → Fed
+unpackedFed which v p used m f u i ws w =
+    fed (withWaiting (withRow v (unpackedWith which v (m .mem) f u i ws .row)) w) p used
+    (lent (unpackedWith which v (m .mem) f u i ws .mem) (m .code) (m .log))

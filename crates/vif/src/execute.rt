@@ -157,7 +157,7 @@ fn unfed_unpack(
     done(with_row(unit, rows), interrupt, used)
 }
 
-// The log is any.
+// UNPACK's own step. The log is any.
 fn begin_unpack(
     which: VifUnit,
     f: Format,
