@@ -57,13 +57,22 @@ static void follow_gif(struct trail *trail, struct path_place *path, size_t at)
     path->taken = 0;
 }
 
+/* The vectors that writes take from the payload; where WL is above CL, the others fill. */
+static uint64_t payload_vectors(const struct trail *trail, uint64_t writes)
+{
+    if (trail->wl <= trail->cl)
+        return writes;
+    uint64_t last = writes % trail->wl;
+    return trail->cl * (writes / trail->wl) + (last < trail->cl ? last : trail->cl);
+}
+
 /* Payload words of UNPACK. */
-static uint64_t unpack_words(uint32_t code)
+static uint64_t unpack_words(const struct trail *trail, uint32_t code)
 {
     unsigned vl = code >> 24 & 3, vn = code >> 26 & 3;
-    uint64_t vectors = (code >> 16 & 255) != 0 ? code >> 16 & 255 : 256;
+    uint64_t writes = (code >> 16 & 255) != 0 ? code >> 16 & 255 : 256;
     uint64_t bits = vl == 3 ? 16 : (32u >> vl) * (vn + 1);
-    return (vectors * bits + 31) / 32;
+    return (payload_vectors(trail, writes) * bits + 31) / 32;
 }
 
 /* Takes a code: what is due after it. */
@@ -72,6 +81,10 @@ static void follow_code(struct trail *trail, uint32_t code)
     uint32_t cmd = code >> 24 & 127, num = code >> 16 & 255, imm = code & 0xFFFF;
     trail->direct = cmd == 0x50 || cmd == 0x51;
     trail->due = 0;
+    if (cmd == 0x01) {
+        trail->cl = imm & 255;
+        trail->wl = imm >> 8;
+    }
     if (trail->direct)
         trail->due = imm != 0 ? imm : 65536;
     else if (cmd == 0x20)
@@ -81,7 +94,7 @@ static void follow_code(struct trail *trail, uint32_t code)
     else if (cmd == 0x4A)
         trail->due = 2 * (num != 0 ? num : 256);
     else if (cmd >= 0x60)
-        trail->due = unpack_words(code);
+        trail->due = unpack_words(trail, code);
 }
 
 /* A word to VIF1, or a quadword inside DIRECT; how many words were taken, 0 where the chain stops. */
@@ -215,6 +228,8 @@ void trail_from_state(struct trail *trail, const struct tejborun_state *state)
     trail->stack[1] = chain->stack[1];
     trail->direct = unit->waiting == TEJBORUN_WAITS_DIRECT || unit->waiting == TEJBORUN_WAITS_DIRECTHL;
     trail->due = unit->waiting != TEJBORUN_WAITS_NONE ? unit->due : 0;
+    trail->cl = unit->cl;
+    trail->wl = unit->wl;
     trail->path[0] = path_in_state(&state->path2);
     trail->path[1] = path_in_state(&state->path3);
     bool tag_words = chain->tag_words == 0 || follow_words(trail, chain->tag_word_at / 4, 4 - chain->tag_word_at / 4 % 4);

@@ -37,6 +37,7 @@ struct trail {
     unsigned depth;
     bool direct;   /* quadwords of DIRECT are due, else words of another code */
     uint64_t due;
+    uint64_t cl, wl; /* as STCYCL left them */
     struct path_place path[2]; /* 2 and 3 */
     size_t left;               /* words that are still followed */
 };

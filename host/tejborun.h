@@ -62,7 +62,7 @@ enum tejborun_answer {
     /* VIF step */
     TEJBORUN_BAD_CMD = 20,    /* CMD not listed */
     TEJBORUN_BAD_FORMAT = 21, /* UNPACK with vl 3 and vn below 3 */
-    TEJBORUN_BAD_CYCLE = 22,  /* UNPACK with WL 0 or WL above CL */
+    TEJBORUN_BAD_CYCLE = 22,  /* UNPACK with WL 0 */
     TEJBORUN_BAD_MODE = 23,   /* STMOD 3 */
     TEJBORUN_BAD_DIRECT = 24, /* DIRECT payload due and the next word is not word 0 */
 

@@ -28,7 +28,7 @@ static const struct meaning meanings[] = {
     {TEJBORUN_BAD_PAYLOAD, "payload or pending words lie outside main memory", 0, NULL},
     {TEJBORUN_BAD_CMD, "a VIF code whose CMD is not listed", 0, NULL},
     {TEJBORUN_BAD_FORMAT, "UNPACK with vl 3 and vn below 3", 0, NULL},
-    {TEJBORUN_BAD_CYCLE, "UNPACK with WL 0 or WL above CL", 0, NULL},
+    {TEJBORUN_BAD_CYCLE, "UNPACK with WL 0", 0, NULL},
     {TEJBORUN_BAD_MODE, "STMOD with mode 3", 0, NULL},
     {TEJBORUN_BAD_DIRECT, "DIRECT payload is due and the next word is not word 0 of its quadword", 0, NULL},
     {TEJBORUN_BAD_DESCRIPTOR, "GIF descriptor B is met at its data", 0, NULL},

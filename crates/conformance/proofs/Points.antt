@@ -9,11 +9,11 @@ use Rattle.gif.specs.Step.{commit, tagStep, packedWith, gifStep}
 use Rattle.unpack.specs.Formats.{namedIn}
 use Rattle.unpack.specs.Mask.{rowOfCycle, codeAt, maskOf}
 use Rattle.unpack.specs.Payload.{vectorBits, payloadWords, wholeVectors}
-use Rattle.unpack.specs.Position.{positionOf}
+use Rattle.unpack.specs.Position.{fills, vectorsBefore, writesDone, positionOf}
 use Rattle.unpack.specs.Range.{cycleRefused}
 use Rattle.unpack.specs.Vector.{extended, element, fieldsOf, fiveFields, vectorAt}
-use Rattle.unpack.specs.Write.{added, rowOf, dataOf, fieldOf, rowsAfter, putField, writtenAt, writeVector, writeVectors}
-use Rattle.unpack.specs.Step.{countOf, unpackingOf, takenWords, acting, heldVector, wordOf, unpackWord}
+use Rattle.unpack.specs.Write.{added, rowOf, dataOf, fieldOf, rowsAfter, putField, writtenAt, writeVector, registersAt, writeAt, writesFrom}
+use Rattle.unpack.specs.Step.{countOf, unpackingOf, takenWords, acting, heldVector, doneAfter, wordOf, unfedWrites, unpackWord}
 use Rattle.memories.specs.Lengths.{lengthsRefusal}
 use Rattle.vif.specs.Codes.{quadwordsOf as directQuadwordsOf, plainCode, unpackNumbers, codeOf, decodeOf}
 use Rattle.vif.specs.Execute.{startProgram, setMode, beginMpg, addressOf, beginUnpack}
@@ -43,7 +43,7 @@ unfolding logged lacksRoom logRefused packedWrites formatOf nregOf gifQuadwordsO
 gifOpen = tt
 
 unpackOpen : Unit {0}
-unfolding rowOfCycle codeAt maskOf vectorBits payloadWords wholeVectors positionOf extended element fieldsOf fiveFields vectorAt added rowOf dataOf fieldOf rowsAfter putField writtenAt writeVector writeVectors countOf unpackingOf takenWords acting heldVector wordOf unpackWord
+unfolding rowOfCycle codeAt maskOf vectorBits payloadWords wholeVectors fills vectorsBefore writesDone positionOf extended element fieldsOf fiveFields vectorAt added rowOf dataOf fieldOf rowsAfter putField writtenAt writeVector registersAt writeAt writesFrom countOf unpackingOf takenWords acting heldVector doneAfter wordOf unfedWrites unpackWord
 unpackOpen = tt
 
 vifOpen : Unit {0}
@@ -69,14 +69,14 @@ opened = tt
 -- ---- the table, from its end up: a lemma takes the points of one line of document 01 in front of those after it
 
 -- "MPG at 2,047"
-mpg : AllHold (drop 24 points)
+mpg : AllHold (drop 25 points)
 unfolding opened
 mpg = (refl, (refl, (refl, tt)))
 
 -- "CL 4, WL 2. CL 2, WL 3"
 cycle : AllHold (drop 20 points)
 unfolding opened
-cycle = (refl, (refl, (refl, (refl, mpg))))
+cycle = (refl, (refl, (refl, (refl, (refl, mpg)))))
 
 -- "MODE 2"
 mode : AllHold (drop 18 points)
@@ -127,4 +127,4 @@ requestsOpened = tt
 -- every point of a request holds
 pub request-points-hold : AllHold requestPoints
 unfolding requestsOpened
-request-points-hold = (refl, (refl, (refl, (refl, (refl, (refl, tt))))))
+request-points-hold = (refl, (refl, (refl, (refl, (refl, (refl, (refl, (refl, (refl, (refl, (refl, (refl, tt))))))))))))

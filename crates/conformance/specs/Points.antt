@@ -173,7 +173,7 @@ rowAdded =
 abbrev pub skipping : List ℕ
 skipping = 0x01000204 ∷ 0 ∷ 0 ∷ 0x60040000 ∷ 1 ∷ 2 ∷ 3 ∷ 4 ∷ []
 
--- STCYCL 2, 3; two NOPs; the same UNPACK
+-- STCYCL 2, 3; two NOPs; the same UNPACK, whose payload is three words; the fourth is a NOP
 abbrev pub filling : List ℕ
 filling = 0x01000302 ∷ 0 ∷ 0 ∷ 0x60040000 ∷ 1 ∷ 2 ∷ 3 ∷ 4 ∷ []
 
@@ -213,11 +213,12 @@ points =
     -- "MODE 2, ROW FFFFFFFF, data 2: 1." The data written, and ROW.
     ∷ point (quadwordIn (runOfWords 3 rowAdded) 0) (1 ∷ 1 ∷ 1 ∷ 1 ∷ [])
     ∷ point (rowIn (runOfWords 3 rowAdded)) (1 ∷ 1 ∷ 1 ∷ 1 ∷ [])
-    -- "CL 4, WL 2, NUM 4, A 0: 0, 1, 4, 5. CL 2, WL 3: refused 22."
+    -- "CL 4, WL 2, NUM 4, A 0: 0, 1, 4, 5. CL 2, WL 3: refused 22.", of which request 3 says: "Bench point CL 2, WL 3: accepted."
     ∷ point (quadwordsFrom (runOfWords 2 skipping) 0) (0 ∷ 1 ∷ 4 ∷ 5 ∷ [])
     ∷ point (quadwordIn (runOfWords 2 skipping) 0 ++ quadwordIn (runOfWords 2 skipping) 1) (1 ∷ 1 ∷ 1 ∷ 1 ∷ 2 ∷ 2 ∷ 2 ∷ 2 ∷ [])
     ∷ point (quadwordIn (runOfWords 2 skipping) 4 ++ quadwordIn (runOfWords 2 skipping) 5) (3 ∷ 3 ∷ 3 ∷ 3 ∷ 4 ∷ 4 ∷ 4 ∷ 4 ∷ [])
-    ∷ point (answerIn (runOfWords 2 filling)) (22 ∷ [])
+    ∷ point (answerIn (runOfWords 2 filling) ++ quadwordIn (runOfWords 2 filling) 0 ++ quadwordIn (runOfWords 2 filling) 1) (0 ∷ 1 ∷ 1 ∷ 1 ∷ 1 ∷ 2 ∷ 2 ∷ 2 ∷ 2 ∷ [])
+    ∷ point (quadwordIn (runOfWords 2 filling) 2 ++ quadwordIn (runOfWords 2 filling) 3) (2 ∷ 2 ∷ 2 ∷ 2 ∷ 3 ∷ 3 ∷ 3 ∷ 3 ∷ [])
     -- "MPG at 2,047, two instructions: 2,047 and 0."
     ∷ point (instructionsFrom (runOfWords 2 program) 2047) (2047 ∷ 0 ∷ [])
     ∷ point (instructionIn (runOfWords 2 program) 2047) (1 ∷ 0 ∷ 0 ∷ 0 ∷ 2 ∷ 0 ∷ 0 ∷ 0 ∷ [])
@@ -240,6 +241,18 @@ rowMasked = differencesOf 0x71020000
 abbrev pub rowUnmasked : List ℕ
 rowUnmasked = differencesOf 0x61020000
 
+-- STMASK with code 1 everywhere; STROW 7, 8, 9, 10; STCYCL 0, 2; UNPACK S-32 with M and bit 31, NUM 3, A 1, which has no payload
+abbrev pub unfed : List ℕ
+unfed = 0x20000000 ∷ 0x55555555 ∷ 0x30000000 ∷ 7 ∷ 8 ∷ 9 ∷ 10 ∷ 0x01000200 ∷ 0xf0030001 ∷ 0 ∷ 0 ∷ 0 ∷ []
+
+-- STMASK, code 0 in row 0 and 1 in row 1; STROW 10, 20, 30, 40; STMOD 2; STCYCL 1, 2; UNPACK S-32 with M, NUM 2, A 0; its word
+abbrev pub fillOfRow : List ℕ
+fillOfRow = 0x20000000 ∷ 0x00005500 ∷ 0x30000000 ∷ 10 ∷ 20 ∷ 30 ∷ 40 ∷ 0x05000002 ∷ 0x01000201 ∷ 0x70020000 ∷ 1 ∷ 0 ∷ []
+
+-- STCYCL 1, 2; two NOPs; UNPACK S-32, NUM 2, A 1,023; its word; three NOPs
+abbrev pub fillAcross : List ℕ
+fillAcross = 0x01000201 ∷ 0 ∷ 0 ∷ 0x600203ff ∷ 5 ∷ 0 ∷ 0 ∷ 0 ∷ []
+
 unfoldable pub requestPoints : List Point
 requestPoints =
     -- request 2: "in MODE 2 a field's ROW is replaced only where that field's mask code is 0." Only X has code 0: 10 + 1, then 11 + 2.
@@ -250,4 +263,13 @@ requestPoints =
     ∷ point (rowIn (runOfWords 4 rowUnmasked)) (13 ∷ 23 ∷ 33 ∷ 43 ∷ [])
     ∷ point (quadwordIn (runOfWords 4 rowUnmasked) 0) (11 ∷ 21 ∷ 31 ∷ 41 ∷ [])
     ∷ point (quadwordIn (runOfWords 4 rowUnmasked) 1) (13 ∷ 23 ∷ 33 ∷ 43 ∷ [])
+    -- request 3: "With CL 0 there is no payload and all writes belong to the code's own step.": the interrupt mark is met there, 10 steps after the tag's
+    ∷ point (answerIn (runOfWords 3 unfed) ++ dueIn (runOfWords 3 unfed) ++ (runOfWords 3 unfed .steps ∷ [])) (91 ∷ 0 ∷ 10 ∷ [])
+    ∷ point (quadwordIn (runOfWords 3 unfed) 1 ++ quadwordIn (runOfWords 3 unfed) 3) (7 ∷ 8 ∷ 9 ∷ 10 ∷ 7 ∷ 8 ∷ 9 ∷ 10 ∷ [])
+    -- a fill under MODE 2 with code 1 gets ROW as the vector before it left it, and moves none
+    ∷ point (quadwordIn (runOfWords 3 fillOfRow) 0 ++ quadwordIn (runOfWords 3 fillOfRow) 1) (11 ∷ 21 ∷ 31 ∷ 41 ∷ 11 ∷ 21 ∷ 31 ∷ 41 ∷ [])
+    ∷ point (rowIn (runOfWords 3 fillOfRow)) (11 ∷ 21 ∷ 31 ∷ 41 ∷ [])
+    -- "Addresses run on by one each write.", across the memory's end
+    ∷ point (quadwordsFrom (runOfWords 2 fillAcross) 1023) (1023 ∷ 0 ∷ [])
+    ∷ point (quadwordIn (runOfWords 2 fillAcross) 1023 ++ quadwordIn (runOfWords 2 fillAcross) 0) (5 ∷ 5 ∷ 5 ∷ 5 ∷ 5 ∷ 5 ∷ 5 ∷ 5 ∷ [])
     ∷ []
