@@ -7,8 +7,8 @@ use crate::gif::Tag;
 use crate::gif_generate::tag_quadword;
 use crate::memory::{INSTRUCTIONS, QUADWORDS};
 use crate::random::Random;
-use crate::vif_counts::all_formats;
-use crate::vif_generate::{code_word, legal_cycle, payload_word, random_mask, stcycl};
+use crate::unpack_counts::all_formats;
+use crate::vif_generate::{code_word, payload_word, random_mask, skipping_cycle, stcycl};
 
 const NOP: u32 = 0;
 const STMOD: u32 = 0x05;
@@ -60,6 +60,7 @@ pub fn inputs() -> Vec<ChainInput> {
         word("V4-32", v4_32(random, SMALL_WORDS)),
         word("V3-16 mask mode 2", v3_16_masked(random)),
         word("S-8", s_8(random)),
+        word("S-8 filling", s_8_filling(&mut Random::new(2))),
         word("MPG", mpg(random)),
         word("DIRECT", direct(random)),
         step(LARGE, 1, v4_32(random, most)),
@@ -150,6 +151,17 @@ fn s_8(random: &mut Random) -> Vec<u32> {
     words
 }
 
+/// CL 2, WL 3: of 256 writes 171 take a vector, the others fill.
+fn s_8_filling(random: &mut Random) -> Vec<u32> {
+    let mut words = vec![stcycl(2, 3), code_word(STMOD, 0, 0)];
+    while words.len() < SMALL_WORDS {
+        let address = random.below(QUADWORDS as u64) as u32;
+        words.push(code_word(S_8, 0, address));
+        put_random(random, &mut words, 171usize.div_ceil(4));
+    }
+    words
+}
+
 fn mpg(random: &mut Random) -> Vec<u32> {
     let mut words = Vec::new();
     while words.len() < SMALL_WORDS {
@@ -220,7 +232,7 @@ fn mixed(random: &mut Random) -> ChainInput {
 
 /// Whole quadwords of VIF codes with their payload.
 fn mixed_payload(random: &mut Random) -> Vec<u32> {
-    let mut words = vec![legal_cycle(random)];
+    let mut words = vec![skipping_cycle(random)];
     for _ in 0..24 {
         match random.below(12) {
             0..=3 => put_small_code(random, &mut words),
@@ -248,7 +260,7 @@ fn put_small_code(random: &mut Random, words: &mut Vec<u32>) {
         0x00, 0x01, 0x02, 0x03, 0x04, 0x05, 0x06, 0x07, 0x10, 0x11, 0x13, 0x14, 0x15, 0x17,
     ];
     words.push(match random.pick(&commands) {
-        0x01 => legal_cycle(random),
+        0x01 => skipping_cycle(random),
         STMOD => code_word(STMOD, 0, random.below(3) as u32),
         command => code_word(command, 0, random.word() & 0xFFFF),
     });
@@ -272,7 +284,7 @@ fn put_unpack(random: &mut Random, words: &mut Vec<u32>) {
     let count = random.within(1..=64) as u32;
     let imm = random.word() & 0xC3FF;
     words.push(code_word(UNPACK | masked | format.number(), count, imm));
-    let payload = (count * format.vector_bits()).div_ceil(32);
+    let payload = format.words_of(count);
     words.extend((0..payload).map(|_| payload_word(random)));
 }
 

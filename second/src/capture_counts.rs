@@ -10,7 +10,7 @@ use crate::state_block::{
     self, chain_word, part, read_path, read_state, unit_word, used, waiting_name, waiting_number,
     write_state, StateBlock, PATHS, UNIT, WAITING,
 };
-use crate::vif::Payload;
+use crate::vif::{Code, Payload};
 use crate::vif_counts::{field_names, wrong_fields};
 use std::collections::HashMap;
 
@@ -176,16 +176,46 @@ impl Counts {
         if new.used > old.used && log::is_full(log, new.used) {
             self.add("log exactly full after a write");
         }
+        self.note_fills(old, &step);
         if step.interrupt() {
-            match (step, old.unit.waiting.is_some()) {
-                (Step::TagWord(_), false) => self.add("interrupt at a tag word that is a code"),
-                (Step::TagWord(_), true) => self.add("interrupt at a tag word that is payload"),
-                (Step::Payload(taken), _) if taken.quadword => {
-                    self.add("interrupt at a quadword of DIRECT");
-                }
-                (_, false) => self.add("interrupt at a code"),
-                (_, true) => self.add("interrupt at a payload word"),
+            self.note_interrupt(old, step);
+        }
+    }
+
+    fn note_interrupt(&mut self, old: &State, step: Step) {
+        match (step, old.unit.waiting.is_some()) {
+            (Step::TagWord(_), false) => self.add("interrupt at a tag word that is a code"),
+            (Step::TagWord(_), true) => self.add("interrupt at a tag word that is payload"),
+            (Step::Payload(taken), _) if taken.quadword => {
+                self.add("interrupt at a quadword of DIRECT");
             }
+            (_, false) => self.add("interrupt at a code"),
+            (_, true) => self.add("interrupt at a payload word"),
+        }
+    }
+
+    /// Notes what UNPACK with WL above CL takes: payload, or the code alone with CL 0.
+    fn note_fills(&mut self, old: &State, step: &Step) {
+        let address = match old.next() {
+            Next::TagWord(address) => address,
+            Next::Payload(pending) if old.channel == 1 => pending.address,
+            _ => return,
+        };
+        if !old.unit.registers.cycle().has_fills() {
+            return;
+        }
+        if waits_for_vectors(old) {
+            self.add("payload words of UNPACK, WL > CL");
+            self.add_if(
+                "tag words as payload of UNPACK, WL > CL",
+                old.tag_word.is_some(),
+            );
+        }
+        let code = Code::decode(self.main_word(address));
+        let unpack = old.unit.waiting.is_none() && matches!(code, Ok(Code::Unpack { .. }));
+        if unpack && old.unit.registers.cl == 0 {
+            self.add("UNPACK taken with CL 0");
+            self.add_if("UNPACK taken with CL 0 and an interrupt", step.interrupt());
         }
     }
 
@@ -214,6 +244,8 @@ impl Counts {
                 let name = waiting_name(waiting_number(&waiting.payload));
                 self.add(&format!("runs that go on with {name} waiting"));
             }
+            let fills = waits_for_vectors(state) && state.unit.registers.cycle().has_fills();
+            self.add_if("runs that go on with UNPACK waiting, WL > CL", fills);
         }
         let held = |path: &Path| path.place != Place::Idle;
         let path3 = state.channel == 2 && held(&state.path3);
@@ -254,6 +286,8 @@ impl Counts {
         if let (1, Some(waiting)) = (old.channel, &old.unit.waiting) {
             let name = waiting_name(waiting_number(&waiting.payload));
             self.add(&format!("tags read with {name} waiting"));
+            let fills = waits_for_vectors(old) && old.unit.registers.cycle().has_fills();
+            self.add_if("tags read with UNPACK waiting, WL > CL", fills);
         }
         let path3 = old.channel == 2 && old.path3.place != Place::Idle;
         self.add_if("tags read inside a GIF tag, path 3", path3);
@@ -583,6 +617,13 @@ fn waits_for_quadwords(state: &State) -> bool {
         .is_some_and(|waiting| matches!(waiting.payload, Payload::Direct | Payload::Directhl))
 }
 
+fn waits_for_vectors(state: &State) -> bool {
+    state
+        .unit
+        .waiting
+        .is_some_and(|waiting| matches!(waiting.payload, Payload::Unpack(_)))
+}
+
 fn entry_name(first: u32, next: Option<u32>) -> String {
     match next {
         Some(next) => format!("refused {first} at entry, {next} would be next"),
@@ -787,6 +828,12 @@ const NAMES: &[&str] = &[
     "runs of 50 to 999 steps",
     "runs of 1,000 to 99,999 steps",
     "runs of 100,000 steps or more",
+    "payload words of UNPACK, WL > CL",
+    "tag words as payload of UNPACK, WL > CL",
+    "UNPACK taken with CL 0",
+    "UNPACK taken with CL 0 and an interrupt",
+    "runs that go on with UNPACK waiting, WL > CL",
+    "tags read with UNPACK waiting, WL > CL",
     "runs that go on with a tag",
     "runs that go on with payload, channel 2",
     "runs that go on inside a GIF tag, path 2",

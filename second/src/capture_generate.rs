@@ -18,12 +18,13 @@ use crate::state_block::{
     unit_word, write_state, write_unit, StateBlock, UnitBlock, PATH2, PATH3, PATHS, PATH_WORDS,
     REGISTERS, RESET_UNIT, STATE_WORDS, UNIT, UNIT_WORDS,
 };
-use crate::vif::{self, Code, Payload, Unit, Waiting, ADDRESSES, MOST_DIRECT, MOST_NUM};
+use crate::vif::{self, Code, Payload, Registers, Unit, Waiting, ADDRESSES, MOST_DIRECT, MOST_NUM};
 use crate::vif_generate::{
-    code_word, legal_cycle, payload_word, random_code, random_mask, random_path_block,
-    random_unit_block, random_waiting_unit, stcycl, stmask_block, Taste as VifTaste, NOT_ONE,
+    code_word, payload_word, random_code, random_mask, random_path_block, random_unit_block,
+    random_waiting_unit, skipping_cycle, stcycl, stmask_block, Taste as VifTaste, NOT_ONE,
 };
 use crate::vif_points;
+use crate::vif_unpack::Cycle;
 
 /// The right lengths of the memories, as cases give them.
 const DATA: u32 = DATA_WORDS as u32;
@@ -593,7 +594,7 @@ fn add_unit_field_cases(random: &mut Random, cases: &mut Vec<Case>) {
     }
     add(random, &RESET_UNIT, unit_word::WAITING, 8);
     for code in state_block::STMASK..=state_block::UNPACK {
-        for (cl, wl) in [(4, 3), (3, 4), (4, 0)] {
+        for (cl, wl) in [(4, 3), (3, 4), (4, 0), (0, 4)] {
             let unit = one_due_block(code, cl, wl);
             for (field, values) in waiting_values() {
                 for value in values {
@@ -758,6 +759,8 @@ fn add_tag_word_cases(random: &mut Random, cases: &mut Vec<Case>) {
         [code_word(0x08, 0, 0), 0],
         [0, code_word(0x5F, 0, 0)],
         [stcycl(1, 1), code_word(0x60, 2, 0x3FF)],
+        [stcycl(2, 3), code_word(0x60, 8, 0x3FE)],
+        [stcycl(0, 3), 1 << 31 | code_word(0x60, 0, 0x3FE)],
         [code_word(0x05, 0, 3), 0],
         [code_word(0x62, 1, 0), 0],
     ];
@@ -920,9 +923,19 @@ fn add_zero_memory_cases(cases: &mut Vec<Case>) {
     }
 }
 
+/// The CL and WL that a case sets.
+#[derive(Clone, Copy)]
+enum Cycles {
+    Any,
+    /// The payload of an UNPACK is the same under all of them.
+    Skipping,
+    Only(Cycle),
+}
+
 /// What a case has more or less of.
 struct Taste {
     vif: VifTaste,
+    cycles: Cycles,
     /// Tags that are refused.
     bad_tag_percent: u64,
     /// Tags that end the chain.
@@ -946,6 +959,7 @@ impl Taste {
                 unpack_percent: random.pick(&[15, 30, 60]),
                 long_percent: random.pick(&[0, 0, 2, 10]),
             },
+            cycles: Cycles::Any,
             bad_tag_percent: random.pick(&[0, 0, 0, 1, 4]),
             end_percent: random.pick(&[0, 1, 1, 2, 6]),
             loop_percent: random.pick(&[0, 1, 5]),
@@ -955,9 +969,16 @@ impl Taste {
         }
     }
 
-    /// For loops that can go on for ever: nothing is refused, no interrupts, no log.
+    /// For loops that can go on for ever: nothing is refused, no interrupts, no log, and each code
+    /// has the same payload every time.
     fn deep(random: &mut Random) -> Taste {
         let mut taste = Taste::new(random);
+        taste.cycles = if random.percent(50) {
+            let (cl, wl) = random.pick(&[(1, 2), (2, 3), (3, 8), (1, 255), (0, 3)]);
+            Cycles::Only(Cycle { cl, wl })
+        } else {
+            Cycles::Skipping
+        };
         taste.vif.interrupt_percent = 0;
         taste.vif.illegal_percent = 0;
         taste.vif.b_percent = 0;
@@ -1173,23 +1194,31 @@ impl Maker {
                     // Not in word 3, so refused.
                     self.taste.vif.illegal_percent > 0 && random.percent(30)
                 }
-                Ok(Code::Stcycl { cl, wl }) => {
-                    self.taste.vif.illegal_percent > 0 || wl != 0 && wl <= cl
-                }
+                Ok(Code::Stcycl { cl, wl }) => self.cycle_fits(Cycle { cl, wl }),
                 Ok(Code::Unpack { .. }) => {
-                    let legal = vif::cycle_legal(&state.unit.registers);
+                    let legal = state.unit.registers.cycle().is_legal();
                     legal || self.taste.vif.illegal_percent > 0
                 }
                 Ok(_) => true,
             };
-            if good && (!self.goes_round(state) || payload_words(word) <= after) {
+            let words = payload_words(&state.unit.registers, word);
+            if good && (!self.goes_round(state) || words <= after) {
                 return interrupt | word;
             }
         }
-        if vif::cycle_legal(&state.unit.registers) {
+        if state.unit.registers.cycle().is_legal() {
             return interrupt | code_word(0x07, 0, random.word() & 0xFFFF);
         }
-        interrupt | legal_cycle(random)
+        interrupt | skipping_cycle(random)
+    }
+
+    /// Whether the taste allows a STCYCL.
+    fn cycle_fits(&self, cycle: Cycle) -> bool {
+        match self.taste.cycles {
+            Cycles::Any => self.taste.vif.illegal_percent > 0 || cycle.is_legal(),
+            Cycles::Skipping => cycle.is_legal() && !cycle.has_fills(),
+            Cycles::Only(only) => cycle == only,
+        }
     }
 
     /// Quadwords for a DIRECT in word 3, with so many words pending after it.
@@ -1440,14 +1469,12 @@ impl Maker {
 }
 
 /// The words that a code waits for; for DIRECT those of its quadwords.
-fn payload_words(word: u32) -> u32 {
+fn payload_words(registers: &Registers, word: u32) -> u32 {
     match Code::decode(word) {
-        Ok(Code::Stmask) => 1,
-        Ok(Code::Strow | Code::Stcol) => 4,
-        Ok(Code::Mpg(mpg)) => mpg.all_words(),
         Ok(Code::Direct(quadwords) | Code::Directhl(quadwords)) => 4 * quadwords,
-        Ok(Code::Unpack { format, count, .. }) => (count * format.vector_bits()).div_ceil(32),
-        _ => 0,
+        Ok(Code::Unpack { .. }) if !registers.cycle().is_legal() => 0,
+        Ok(code) => code.payload(registers).map_or(0, |(_, words)| words),
+        Err(_) => 0,
     }
 }
 
@@ -1731,6 +1758,12 @@ fn deep_case(random: &mut Random) -> Case {
         case.fill = random.number();
         let mut maker = Maker::new(case, 4 * given as usize, Taste::deep(random));
         maker.taste.vif.unpack_percent = random.pick(&[30, 80]);
+        if let (Cycles::Only(cycle), Some(state)) =
+            (maker.taste.cycles, maker.standing.state.as_mut())
+        {
+            (state.unit.registers.cl, state.unit.registers.wl) = (cycle.cl, cycle.wl);
+            maker.case.state = write_state(state);
+        }
         let channel = random.pick(&[1, 1, 2]);
         let tte = channel == 1 && random.percent(40);
         let at = 16 * random.below(given / 2) as u32;

@@ -3,11 +3,13 @@
 use crate::capture_cases::{Call, Case};
 use crate::capture_generate::{plain_case, tag};
 use crate::chain::{State, CNT, END};
+use crate::state_block::{put_part, UNIT};
 use crate::vif_points::Point;
 
 /// A run to the first word that writes, one run for each word from there on, and two to the end.
 pub fn case(point: &Point) -> Case {
-    let words = point.case().words;
+    let of_vif = point.case();
+    let words = of_vif.words;
     let quadwords = words.len() as u32 / 4;
     let main = [&tag(CNT, quadwords, 0)[..], &words, &tag(END, 0, 0)].concat();
     let run = |allowance| Call::Run { allowance };
@@ -15,7 +17,9 @@ pub fn case(point: &Point) -> Case {
     let mut calls = vec![run(quiet as u64 + 1)];
     calls.extend((quiet..point.words()).map(|_| run(1)));
     calls.extend([run(u64::MAX), run(u64::MAX)]);
-    plain_case(&State::reset(), &main, 0, &calls)
+    let mut case = plain_case(&State::reset(), &main, 0, &calls);
+    put_part(&mut case.state, UNIT, &of_vif.unit);
+    case
 }
 
 #[cfg(test)]
@@ -43,7 +47,7 @@ mod tests {
             for at in 0..words.words.len() {
                 plain.take(words.given(at));
             }
-            assert_eq!(answer, DONE);
+            assert_eq!(answer, point.refusal().unwrap_or(DONE));
             assert!(standing.data == plain.data);
         }
     }

@@ -33,6 +33,7 @@ mod sheet_points;
 mod sheet_random;
 mod sheet_time;
 mod state_block;
+mod unpack_counts;
 mod vif;
 mod vif_cases;
 mod vif_compare;
@@ -54,11 +55,11 @@ usage:
   second time-gif < INPUT > RESULT
   second vif [--counts] < CASES > RESULTS
   second generate-vif SEED WORDS > CASES
-  second points-vif mask > CASES
+  second points-vif mask|filling > CASES
   second compare-vif PROGRAM SEED[,SEED..] WORDS
   second capture [--counts] < CASES > RESULTS
   second generate-capture SEED RUNS > CASES
-  second points-capture mask > CASES
+  second points-capture mask|filling > CASES
   second compare-capture PROGRAM SEED[,SEED..] RUNS
   second bench-chain PROGRAM
   second time-chain < INPUT > RESULT

@@ -10,7 +10,6 @@ use crate::sheet::{self, Kind, Record, Refusal, HEADER, MARK};
 use crate::sheet_cases::{Case, Outcome};
 use crate::sheet_check::{foretold, End};
 use crate::state_block::{read_state, waiting_name, waiting_number, write_state, WAITING};
-use crate::vif;
 use std::collections::HashMap;
 
 const KINDS: [&str; 4] = ["data", "code", "GS", "start"];
@@ -420,7 +419,8 @@ impl Counts {
             ("path 3 inside a tag", state.path3.place != Place::Idle),
             ("path 2 with another Q", state.path2.q != 0),
             ("MODE 1 or 2", registers.mode != 0),
-            ("WL 0 or above CL", !vif::cycle_legal(registers)),
+            ("WL 0", registers.wl == 0),
+            ("WL above CL", registers.cycle().has_fills()),
             ("WL above 1", registers.wl > 1),
             ("DBF 1", registers.dbf),
         ];
@@ -725,7 +725,8 @@ const NAMES: &[&str] = &[
     "whole runs from path 3 inside a tag",
     "whole runs from path 2 with another Q",
     "whole runs from MODE 1 or 2",
-    "whole runs from WL 0 or above CL",
+    "whole runs from WL 0",
+    "whole runs from WL above CL",
     "whole runs from WL above 1",
     "whole runs from DBF 1",
     "whole runs with entries used before",

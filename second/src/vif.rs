@@ -5,7 +5,7 @@ use crate::gif;
 use crate::log::{self, Entries};
 use crate::memory::{CODE_BYTES, DATA_WORDS, INSTRUCTIONS};
 use crate::refusals;
-use crate::vif_unpack::{Format, Unpack};
+use crate::vif_unpack::{Cycle, Format, Unpack};
 
 /// What the ten bits of BASE, OFST, TOPS, TOP, ITOPS, ITOP and an UNPACK's address count.
 pub const ADDRESSES: u32 = 1_024;
@@ -35,6 +35,16 @@ pub struct Registers {
     pub mask: u32,
     pub row: [u32; 4],
     pub col: [u32; 4],
+}
+
+impl Registers {
+    #[inline]
+    pub fn cycle(&self) -> Cycle {
+        Cycle {
+            cl: self.cl,
+            wl: self.wl,
+        }
+    }
 }
 
 /// The code that waits for payload.
@@ -199,37 +209,52 @@ pub fn take(
     let registers = &mut unit.registers;
     let Some(waiting) = &mut unit.waiting else {
         let word = given.word();
-        unit.waiting = take_code(registers, word, log, used)?;
+        unit.waiting = take_code(registers, word, data, log, used)?;
         return Ok(Taken {
             quadword: false,
             interrupt: unit.waiting.is_none() && word >> 31 == 1,
         });
     };
-    let mut quadword_taken = false;
-    match &mut waiting.payload {
-        Payload::Stmask => registers.mask = given.word(),
-        Payload::Strow => registers.row[4 - waiting.due as usize] = given.word(),
-        Payload::Stcol => registers.col[4 - waiting.due as usize] = given.word(),
-        Payload::Mpg(mpg) => mpg.take_word(waiting.due, given.word(), code),
-        Payload::Direct | Payload::Directhl => {
-            let Given::Quadword(quadword) = given else {
-                return Err(refusals::PLACE);
-            };
-            gif::take(path, used, log, quadword)?;
-            quadword_taken = true;
-        }
-        Payload::Unpack(unpack) => unpack.take_word(registers, waiting.due, given.word(), data),
+    let mut taken = Taken {
+        quadword: false,
+        interrupt: false,
+    };
+    if let Payload::Direct | Payload::Directhl = waiting.payload {
+        let Given::Quadword(quadword) = given else {
+            return Err(refusals::PLACE);
+        };
+        gif::take(path, used, log, quadword)?;
+        taken.quadword = true;
+    } else {
+        waiting.take_word(registers, given.word(), data, code);
     }
     waiting.due -= 1;
-    let completed = waiting.due == 0;
-    let interrupt = completed && waiting.interrupt;
-    if completed {
+    if waiting.due == 0 {
+        taken.interrupt = waiting.interrupt;
         unit.waiting = None;
     }
-    Ok(Taken {
-        quadword: quadword_taken,
-        interrupt,
-    })
+    Ok(taken)
+}
+
+impl Waiting {
+    /// Takes a word of payload; DIRECT and DIRECTHL take none.
+    #[inline(always)]
+    fn take_word(
+        &mut self,
+        registers: &mut Registers,
+        word: u32,
+        data: &mut [u32],
+        code: &mut [u8],
+    ) {
+        match &mut self.payload {
+            Payload::Stmask => registers.mask = word,
+            Payload::Strow => registers.row[4 - self.due as usize] = word,
+            Payload::Stcol => registers.col[4 - self.due as usize] = word,
+            Payload::Mpg(mpg) => mpg.take_word(self.due, word, code),
+            Payload::Unpack(unpack) => unpack.take_word(registers, self.due, word, data),
+            Payload::Direct | Payload::Directhl => {}
+        }
+    }
 }
 
 /// Tests for the refusals 2, 3 and 4.
@@ -269,22 +294,26 @@ pub fn in_range(unit: &Unit) -> bool {
 }
 
 fn waiting_in_range(registers: &Registers, waiting: &Waiting) -> bool {
-    let all = match &waiting.payload {
-        Payload::Stmask => 1,
-        Payload::Strow | Payload::Stcol => 4,
-        Payload::Mpg(mpg) if mpg.in_range() => mpg.all_words(),
-        Payload::Direct | Payload::Directhl => MOST_DIRECT,
-        Payload::Unpack(unpack) if unpack.in_range() && cycle_legal(registers) => {
-            unpack.all_words()
-        }
-        Payload::Mpg(_) | Payload::Unpack(_) => return false,
+    let right = match &waiting.payload {
+        Payload::Mpg(mpg) => mpg.in_range(),
+        Payload::Unpack(unpack) => unpack.in_range() && registers.cycle().is_legal(),
+        _ => true,
     };
-    (1..=all).contains(&waiting.due)
+    right && (1..=waiting.payload.all_units(registers)).contains(&waiting.due)
 }
 
-/// Whether UNPACK is accepted under the held CL and WL.
-pub fn cycle_legal(registers: &Registers) -> bool {
-    registers.wl != 0 && registers.wl <= registers.cl
+impl Payload {
+    /// All words of the payload under the held CL and WL; for DIRECT and DIRECTHL the most
+    /// quadwords there can be.
+    pub fn all_units(&self, registers: &Registers) -> u32 {
+        match self {
+            Payload::Stmask => 1,
+            Payload::Strow | Payload::Stcol => 4,
+            Payload::Mpg(mpg) => mpg.all_words(),
+            Payload::Direct | Payload::Directhl => MOST_DIRECT,
+            Payload::Unpack(unpack) => unpack.all_words(registers.cycle()),
+        }
+    }
 }
 
 impl Mpg {
@@ -313,66 +342,86 @@ impl Mpg {
 fn take_code(
     registers: &mut Registers,
     word: u32,
+    data: &mut [u32],
     log: &mut [u64],
     used: &mut u64,
 ) -> Result<Option<Waiting>, u32> {
-    let waits = |payload, due| {
-        Some(Waiting {
-            payload,
-            interrupt: word >> 31 == 1,
-            due,
-        })
-    };
-    let mut waiting = None;
-    match Code::decode(word)? {
-        Code::Nop | Code::Flushe | Code::Flush | Code::Flusha => {}
-        Code::Stcycl { cl, wl } => {
-            registers.cl = cl;
-            registers.wl = wl;
-        }
-        Code::Offset(ofst) => {
-            registers.ofst = ofst;
-            registers.dbf = false;
-            registers.tops = registers.base;
-        }
-        Code::Base(base) => registers.base = base,
-        Code::Itop(itops) => registers.itops = itops,
-        Code::Stmod(mode) => registers.mode = mode,
-        Code::Mskpath3(bit) => registers.mskpath3 = bit,
-        Code::Mark(mark) => registers.mark = mark,
+    let code = Code::decode(word)?;
+    match code {
         Code::Mscal(imm) => call(registers, ENTRY_MSCAL, imm, log, used)?,
         Code::Mscalf(imm) => call(registers, ENTRY_MSCALF, imm, log, used)?,
         Code::Mscnt => call(registers, ENTRY_MSCNT, 0, log, used)?,
-        Code::Stmask => waiting = waits(Payload::Stmask, 1),
-        Code::Strow => waiting = waits(Payload::Strow, 4),
-        Code::Stcol => waiting = waits(Payload::Stcol, 4),
-        Code::Mpg(mpg) => waiting = waits(Payload::Mpg(mpg), mpg.all_words()),
-        Code::Direct(quadwords) => waiting = waits(Payload::Direct, quadwords),
-        Code::Directhl(quadwords) => waiting = waits(Payload::Directhl, quadwords),
-        Code::Unpack {
-            format,
-            masked,
-            address,
-            add_tops,
-            unsigned,
-            count,
-        } => {
-            if !cycle_legal(registers) {
-                return Err(refusals::CYCLE);
+        Code::Unpack { .. } if !registers.cycle().is_legal() => return Err(refusals::CYCLE),
+        _ => registers.set(&code),
+    }
+    let Some((payload, due)) = code.payload(registers) else {
+        return Ok(None);
+    };
+    if let (Payload::Unpack(unpack), 0) = (&payload, due) {
+        unpack.fill_all(registers, data);
+        return Ok(None);
+    }
+    Ok(Some(Waiting {
+        payload,
+        interrupt: word >> 31 == 1,
+        due,
+    }))
+}
+
+impl Registers {
+    /// What a code does to the registers, MSCAL, MSCALF and MSCNT left out.
+    fn set(&mut self, code: &Code) {
+        match *code {
+            Code::Stcycl { cl, wl } => (self.cl, self.wl) = (cl, wl),
+            Code::Offset(ofst) => {
+                self.ofst = ofst;
+                self.dbf = false;
+                self.tops = self.base;
             }
-            let added = if add_tops { registers.tops } else { 0 };
-            let unpack = Unpack {
-                format,
-                masked,
-                unsigned,
-                address: (address + added) % ADDRESSES,
-                count,
-                held: [0; 3],
-            };
-            waiting = waits(Payload::Unpack(unpack), unpack.all_words());
+            Code::Base(base) => self.base = base,
+            Code::Itop(itops) => self.itops = itops,
+            Code::Stmod(mode) => self.mode = mode,
+            Code::Mskpath3(bit) => self.mskpath3 = bit,
+            Code::Mark(mark) => self.mark = mark,
+            _ => {}
         }
     }
-    Ok(waiting)
+}
+
+impl Code {
+    /// The payload that the code waits for under these registers, and how much of it; an UNPACK
+    /// that has none too.
+    pub fn payload(&self, registers: &Registers) -> Option<(Payload, u32)> {
+        let payload = match *self {
+            Code::Stmask => Payload::Stmask,
+            Code::Strow => Payload::Strow,
+            Code::Stcol => Payload::Stcol,
+            Code::Mpg(mpg) => Payload::Mpg(mpg),
+            Code::Direct(quadwords) => return Some((Payload::Direct, quadwords)),
+            Code::Directhl(quadwords) => return Some((Payload::Directhl, quadwords)),
+            Code::Unpack {
+                format,
+                masked,
+                address,
+                add_tops,
+                unsigned,
+                count,
+            } => {
+                let added = if add_tops { registers.tops } else { 0 };
+                Payload::Unpack(Unpack {
+                    format,
+                    masked,
+                    unsigned,
+                    address: (address + added) % ADDRESSES,
+                    count,
+                    held: [0; 3],
+                })
+            }
+            _ => return None,
+        };
+        let due = payload.all_units(registers);
+        Some((payload, due))
+    }
 }
 
 /// MSCAL, MSCALF and MSCNT.
@@ -486,8 +535,41 @@ mod tests {
         bench.run(&[0x0100_0204, 0x6004_0000, 1, 2, 3, 4]);
         let firsts: Vec<u32> = (0..6).map(|at| bench.data[4 * at]).collect();
         assert_eq!(firsts, [1, 2, 0, 0, 3, 4]);
-        bench.run(&[0x0100_0302]);
+        bench.run(&[0x0100_0002]);
         assert_eq!(bench.give(0x6004_0000), Err(22));
+        assert_eq!(bench.give(0x6304_0000), Err(21));
+    }
+
+    /// S-32 of four writes under CL 2, WL 3 has three vectors.
+    #[test]
+    fn range_of_a_waiting_unpack() {
+        let unpack = Unpack {
+            format: Format::from_number(0).unwrap(),
+            masked: false,
+            unsigned: false,
+            address: 1_023,
+            count: 4,
+            held: [0; 3],
+        };
+        let fits = |cl, wl, due| {
+            let mut unit = Unit {
+                waiting: Some(Waiting {
+                    payload: Payload::Unpack(unpack),
+                    interrupt: false,
+                    due,
+                }),
+                ..Unit::default()
+            };
+            (unit.registers.cl, unit.registers.wl) = (cl, wl);
+            in_range(&unit)
+        };
+        for (cl, wl, most) in [(2, 3, 3), (3, 2, 4), (1, 255, 1), (3, 4, 3), (4, 5, 4)] {
+            assert!(!fits(cl, wl, 0) && fits(cl, wl, 1));
+            assert!(fits(cl, wl, most) && !fits(cl, wl, most + 1));
+        }
+        for due in 0..=4 {
+            assert!(!fits(0, 3, due) && !fits(2, 0, due) && !fits(0, 0, due));
+        }
     }
 
     #[test]

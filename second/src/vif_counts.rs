@@ -2,15 +2,16 @@
 
 use crate::gif::{self, Path, Place};
 use crate::log;
-use crate::memory::{CODE_BYTES, DATA_WORDS, INSTRUCTIONS, QUADWORDS};
+use crate::memory::{CODE_BYTES, DATA_WORDS, INSTRUCTIONS};
 use crate::refusals;
 use crate::state_block::{
     self, read_path, read_unit, unit_word, waiting_name, waiting_number, write_unit, UnitBlock,
     REGISTERS, WAITING,
 };
+use crate::unpack_counts;
 use crate::vif::{self, Code, Given, Payload, Registers, Unit, Waiting, ADDRESSES};
 use crate::vif_cases::{Case, Standing, INTERRUPT, REFUSED};
-use crate::vif_unpack::{Format, Unpack};
+use crate::vif_unpack::{Cycle, Format};
 use std::collections::HashMap;
 
 /// One call: what stood before it, its answer, and what stands now.
@@ -76,17 +77,6 @@ fn unused_bits(code: &Code) -> u32 {
     }
 }
 
-pub fn format_name(format: &Format) -> String {
-    let number = format.number();
-    let elements = ["S", "V2", "V3", "V4"][(number >> 2) as usize];
-    let bits = ["32", "16", "8", "5"][(number & 3) as usize];
-    format!("{elements}-{bits}")
-}
-
-pub fn all_formats() -> Vec<Format> {
-    (0..16).filter_map(Format::from_number).collect()
-}
-
 #[derive(Default)]
 pub struct Counts {
     by_name: HashMap<String, u64>,
@@ -101,21 +91,7 @@ pub struct Counts {
     interrupts: [u64; 21],
     payload_words: [u64; 7],
     completed: [u64; 7],
-    /// By format, M, USN and MODE.
-    unpacked: [[[[u64; 3]; 2]; 2]; 16],
-    vectors: u64,
-    /// Payload words of UNPACK by the vectors that they made whole.
-    vectors_per_word: [u64; 5],
-    /// Fields written by M, MODE and mask code, V4-5 left out.
-    fields: [[[u64; 4]; 3]; 2],
-    /// Writes with M set by field and code.
-    mask_codes: [[u64; 4]; 4],
-    /// Writes with M set by row.
-    mask_rows: [u64; 4],
-    /// Fields that got COL by its number.
-    cols: [u64; 4],
-    /// Fields that got ROW by its number.
-    rows_used: [u64; 4],
+    unpack: unpack_counts::Counts,
 }
 
 impl Counts {
@@ -271,7 +247,14 @@ impl Counts {
             Some(_) => None,
         };
         match (&fields[..], path_wrong) {
-            ([field], None) => self.add(&format!("refused 5, {field}")),
+            ([field], None) => {
+                self.add(&format!("refused 5, {field}"));
+                let name = "refused 5, UNPACK due too many, WL > CL alone makes it so";
+                self.add_if(
+                    name,
+                    field == "UNPACK due too many" && counted_without_fills(&unit_block),
+                );
+            }
             ([], Some(name)) => self.add(name),
             _ => self.add("refused 5, several at once"),
         }
@@ -294,7 +277,6 @@ impl Counts {
         if call.answer & INTERRUPT != 0 {
             self.interrupts[kind] += 1;
         }
-        let now = &call.now.both.as_ref().unwrap().0.registers;
         match code {
             Code::Offset(_) => {
                 self.add_if("OFFSET with DBF 1", registers.dbf);
@@ -307,15 +289,9 @@ impl Counts {
                 self.add_if("BASE with TOPS not the new BASE", registers.tops != base);
             }
             Code::Mscal(_) | Code::Mscalf(_) | Code::Mscnt => {
-                let sum = registers.base + registers.ofst;
-                self.add_if("DBF flips to 0", registers.dbf);
-                self.add_if("DBF flips to 1", !registers.dbf);
-                self.add_if("BASE + OFST from 1,024 up", now.dbf && sum >= ADDRESSES);
-                self.add_if("TOP changes", now.top != registers.top);
-                self.add_if("TOP and TOPS differ afterwards", now.top != now.tops);
-                self.add_if("ITOP changes", now.itop != registers.itop);
                 let imm = word & 0xFFFF != 0;
                 self.add_if("MSCNT with IMM", imm && code == Code::Mscnt);
+                self.note_start(registers, &call.now.both.as_ref().unwrap().0.registers);
             }
             Code::Mpg(mpg) => {
                 self.add_if("MPG with NUM 0", word >> 16 & 0xFF == 0);
@@ -329,15 +305,38 @@ impl Counts {
             Code::Unpack {
                 address, add_tops, ..
             } => {
-                let sum = address + registers.tops;
+                let high = add_tops && address + registers.tops >= ADDRESSES;
                 self.add_if("UNPACK with TOPS added", add_tops && registers.tops != 0);
-                self.add_if(
-                    "UNPACK, address + TOPS from 1,024 up",
-                    add_tops && sum >= ADDRESSES,
-                );
+                self.add_if("UNPACK, address + TOPS from 1,024 up", high);
                 self.add_if("UNPACK without TOPS", !add_tops && registers.tops != 0);
+                self.note_without_payload(registers, &code, call);
             }
             _ => {}
+        }
+    }
+
+    /// Notes what MSCAL, MSCALF and MSCNT do to the registers.
+    fn note_start(&mut self, registers: &Registers, now: &Registers) {
+        let high = now.dbf && registers.base + registers.ofst >= ADDRESSES;
+        self.add_if("DBF flips to 0", registers.dbf);
+        self.add_if("DBF flips to 1", !registers.dbf);
+        self.add_if("BASE + OFST from 1,024 up", high);
+        self.add_if("TOP changes", now.top != registers.top);
+        self.add_if("TOP and TOPS differ afterwards", now.top != now.tops);
+        self.add_if("ITOP changes", now.itop != registers.itop);
+    }
+
+    /// Notes an UNPACK whose writes all belong to the code's own step.
+    fn note_without_payload(&mut self, registers: &Registers, code: &Code, call: &Call) {
+        if let Some((Payload::Unpack(unpack), 0)) = code.payload(registers) {
+            self.unpack.note(&unpack_counts::Step {
+                registers,
+                unpack: &unpack,
+                payload: None,
+                restored: call.restored,
+                first: call.first,
+                interrupt: call.answer & INTERRUPT != 0,
+            });
         }
     }
 
@@ -349,11 +348,11 @@ impl Counts {
             refusals::COMMAND => self.add("refused 20"),
             refusals::FORMAT => {
                 self.add(&format!("refused 21, vn {}", word >> 26 & 3));
-                let legal = vif::cycle_legal(registers);
-                self.add_if("refused 21 with CL and WL for 22", !legal);
+                let legal = registers.cycle().is_legal();
+                self.add_if("refused 21 with WL for 22", !legal);
             }
-            refusals::CYCLE if registers.wl == 0 => self.add("refused 22, WL 0"),
-            refusals::CYCLE => self.add("refused 22, WL above CL"),
+            refusals::CYCLE if registers.cl == 0 => self.add("refused 22, CL 0"),
+            refusals::CYCLE => self.add("refused 22, CL not 0"),
             refusals::MODE => self.add("refused 23"),
             _ => {
                 let name = match word >> 24 & 0x7F {
@@ -399,170 +398,32 @@ impl Counts {
                 let whole = last && mpg.count == vif::MOST_NUM;
                 self.add_if("MPG of 256 instructions completed", whole);
             }
-            Payload::Direct | Payload::Directhl => {
-                match &path.place {
-                    Place::Idle => self.add("DIRECT quadwords, tags"),
-                    Place::Data { tag, .. } => {
-                        self.add(&format!("DIRECT quadwords, {:?}", tag.format));
-                    }
-                }
-                let now = &call.now.both.as_ref().unwrap().1;
-                let inside = matches!(now.place, Place::Data { .. });
-                self.add_if("DIRECT completed inside a GIF tag", last && inside);
-                self.add_if("DIRECT completed between GIF tags", last && !inside);
-            }
+            Payload::Direct | Payload::Directhl => self.note_direct(path, last, call),
             Payload::Unpack(unpack) => {
-                self.note_unpack(registers, unpack, waiting.due, call.given.word());
-                let (first, end) = unpack.made_whole(waiting.due);
-                let start = first * unpack.format.vector_bits();
-                let taken = 32 * (unpack.all_words() - waiting.due);
-                let across = end > first && start < taken;
-                self.add_if("vectors with bits from a block", across && call.restored);
+                self.unpack.note(&unpack_counts::Step {
+                    registers,
+                    unpack,
+                    payload: Some((waiting.due, call.given.word())),
+                    restored: call.restored,
+                    first: call.first,
+                    interrupt: call.answer & INTERRUPT != 0,
+                });
             }
             _ => {}
         }
     }
 
-    /// Notes a payload word of UNPACK. The registers are those before it.
-    fn note_unpack(&mut self, registers: &Registers, unpack: &Unpack, due: u32, word: u32) {
-        let (first, end) = unpack.made_whole(due);
-        self.vectors_per_word[(end - first) as usize] += 1;
-        let five = unpack.format.is_five_bits();
-        // The fields whose ROW a vector of this step has kept.
-        let mut kept = [false; 4];
-        for i in first..end {
-            self.vectors += 1;
-            let position = unpack.position(registers, i);
-            self.add_if("vectors written round the end", position >= QUADWORDS);
-            self.add_if(
-                "vectors written twice round the end",
-                position >= 2 * QUADWORDS,
-            );
-            self.add_if("vectors with i mod WL above 3", i % registers.wl > 3);
-            self.add_if("V4-5 vectors with MODE set", five && registers.mode > 0);
-            if unpack.masked {
-                self.note_mask(registers, unpack, i);
-            }
-            if !five {
-                self.note_fields(registers, unpack, i);
-            }
-            if unpack.mode(registers) == 2 {
-                let fields = unpack.window(due, word).vector(i);
-                self.note_row(unpack.codes(registers, i), fields, &mut kept);
+    fn note_direct(&mut self, path: &Path, last: bool, call: &Call) {
+        match &path.place {
+            Place::Idle => self.add("DIRECT quadwords, tags"),
+            Place::Data { tag, .. } => {
+                self.add(&format!("DIRECT quadwords, {:?}", tag.format));
             }
         }
-        if due == 1 {
-            self.note_unpack_completed(registers, unpack);
-        }
-    }
-
-    fn note_mask(&mut self, registers: &Registers, unpack: &Unpack, i: u32) {
-        let row = unpack.mask_row(registers, i) as usize;
-        self.mask_rows[row] += 1;
-        for (field, code) in unpack.codes(registers, i).into_iter().enumerate() {
-            self.mask_codes[field][code as usize] += 1;
-            match code {
-                1 => self.rows_used[field] += 1,
-                2 => self.cols[row] += 1,
-                _ => {}
-            }
-        }
-    }
-
-    fn note_fields(&mut self, registers: &Registers, unpack: &Unpack, i: u32) {
-        let fields = &mut self.fields[unpack.masked as usize][registers.mode as usize];
-        for code in unpack.codes(registers, i) {
-            fields[code as usize] += 1;
-        }
-    }
-
-    /// Notes what a vector in MODE 2 does to ROW.
-    fn note_row(&mut self, codes: [u32; 4], fields: [u32; 4], kept: &mut [bool; 4]) {
-        for (field, code) in codes.into_iter().enumerate() {
-            let moves = fields[field] != 0;
-            if code == 0 {
-                let again = "ROW kept in MODE 2, replaced later in the step";
-                self.add_if(again, kept[field] && moves);
-            } else if moves {
-                self.add(&format!("ROW kept in MODE 2, mask code {code}"));
-                kept[field] = true;
-            }
-        }
-        let some = codes.contains(&0) && codes != [0; 4];
-        self.add_if("ROW of some fields replaced in MODE 2", some);
-    }
-
-    fn note_unpack_completed(&mut self, registers: &Registers, unpack: &Unpack) {
-        let number = unpack.format.number() as usize;
-        self.unpacked[number][unpack.masked as usize][unpack.unsigned as usize]
-            [registers.mode as usize] += 1;
-        let (cl, wl) = (registers.cl, registers.wl);
-        self.add_if("UNPACK completed, WL = CL", wl == cl);
-        self.add_if("UNPACK completed, WL < CL", wl < cl);
-        self.add_if("UNPACK completed, WL 1", wl == 1);
-        self.add_if("UNPACK completed, WL above 4", wl > 4);
-        self.add_if("UNPACK completed, WL 255", wl == 255);
-        let laps = unpack.count > wl && wl < cl;
-        self.add_if("UNPACK completed, WL < CL with several rounds", laps);
-        let bits = unpack.count * unpack.format.vector_bits();
-        self.add_if("UNPACK completed with leftover bits", bits % 32 != 0);
-        let whole = unpack.format.vectors_in(unpack.all_words()) > unpack.count;
-        self.add_if("UNPACK completed with a leftover vector", whole);
-        if unpack.count == vif::MOST_NUM {
-            let name = format_name(&unpack.format);
-            self.add(&format!("UNPACK {name} of 256 vectors completed"));
-            let mode = registers.mode == 2 && !unpack.format.is_five_bits();
-            self.add_if("UNPACK of 256 vectors completed with MODE 2", mode);
-        }
-    }
-
-    fn add_unpack_rows(&self, rows: &mut Vec<(String, u64)>) {
-        let mut row = |name: &str, count: u64| rows.push((name.to_string(), count));
-        for format in all_formats() {
-            for m in 0..2 {
-                for usn in 0..2 {
-                    for mode in 0..3 {
-                        row(
-                            &format!(
-                                "UNPACK {} completed, M {m}, USN {usn}, MODE {mode}",
-                                format_name(&format)
-                            ),
-                            self.unpacked[format.number() as usize][m][usn][mode],
-                        );
-                    }
-                }
-            }
-        }
-        row("vectors written", self.vectors);
-        for (n, &count) in self.vectors_per_word.iter().enumerate() {
-            row(&format!("UNPACK words that complete {n} vectors"), count);
-        }
-    }
-
-    fn add_mask_rows(&self, rows: &mut Vec<(String, u64)>) {
-        let mut row = |name: &str, count: u64| rows.push((name.to_string(), count));
-        for mode in 0..3 {
-            let name = |m: u32, code: usize| {
-                format!("fields written, M {m}, MODE {mode}, mask code {code}")
-            };
-            row(&name(0, 0), self.fields[0][mode][0]);
-            for code in 0..4 {
-                row(&name(1, code), self.fields[1][mode][code]);
-            }
-        }
-        for (field, name) in ["X", "Y", "Z", "W"].iter().enumerate() {
-            for code in 0..4 {
-                row(
-                    &format!("mask code {code} for {name}"),
-                    self.mask_codes[field][code],
-                );
-            }
-            row(&format!("fields from ROW {field}"), self.rows_used[field]);
-        }
-        for n in 0..4 {
-            row(&format!("masked writes by row {n}"), self.mask_rows[n]);
-            row(&format!("fields from COL {n}"), self.cols[n]);
-        }
+        let now = &call.now.both.as_ref().unwrap().1;
+        let inside = matches!(now.place, Place::Data { .. });
+        self.add_if("DIRECT completed inside a GIF tag", last && inside);
+        self.add_if("DIRECT completed between GIF tags", last && !inside);
     }
 
     /// Every count by name.
@@ -589,8 +450,7 @@ impl Counts {
             );
             row(&format!("payloads completed, {kind}"), self.completed[i]);
         }
-        self.add_unpack_rows(&mut rows);
-        self.add_mask_rows(&mut rows);
+        rows.extend(self.unpack.rows());
         let names = names();
         assert!(self.by_name.keys().all(|name| names.contains(name)));
         for name in names {
@@ -643,6 +503,7 @@ fn wrong_waiting_fields(block: &UnitBlock) -> Vec<&'static str> {
     let unpack = waiting == state_block::UNPACK;
     let (cl, wl) = (block[unit_word::CL], block[unit_word::WL]);
     let format = Format::from_number(block[unit_word::FORMAT]);
+    let too_many = count_right && all_due(block).is_some_and(|all| due > all);
     let fields = [
         ("interrupt", block[unit_word::INTERRUPT] > 1),
         (
@@ -654,26 +515,38 @@ fn wrong_waiting_fields(block: &UnitBlock) -> Vec<&'static str> {
         ("USN", unpack && block[unit_word::USN] > 1),
         ("M", unpack && block[unit_word::M] > 1),
         ("beside WL 0", unpack && wl == 0),
-        ("beside WL above CL", unpack && wl > cl && wl > 0),
+        ("beside CL 0", unpack && wl != 0 && cl == 0),
         ("due 0", due == 0),
-        ("due too many", count_right && due > all_due(block)),
+        ("due too many", too_many),
     ];
     fields.iter().filter(|f| f.1).map(|f| f.0).collect()
 }
 
-/// What a waiting code has due at most, as far as its other fields say it.
-fn all_due(block: &UnitBlock) -> u32 {
+/// What a waiting code has due at most; none where its other fields do not say it. Its count is
+/// in range.
+fn all_due(block: &UnitBlock) -> Option<u32> {
     let count = block[unit_word::COUNT];
     match block[unit_word::WAITING] {
-        state_block::STMASK => 1,
-        state_block::STROW | state_block::STCOL => 4,
-        state_block::MPG => 2 * count,
-        state_block::UNPACK => match Format::from_number(block[unit_word::FORMAT]) {
-            Some(format) => (count * format.vector_bits()).div_ceil(32),
-            None => vif::MOST_DIRECT,
-        },
-        _ => vif::MOST_DIRECT,
+        state_block::STMASK => Some(1),
+        state_block::STROW | state_block::STCOL => Some(4),
+        state_block::MPG => Some(2 * count),
+        state_block::UNPACK => {
+            let format = Format::from_number(block[unit_word::FORMAT])?;
+            let (cl, wl) = (block[unit_word::CL], block[unit_word::WL]);
+            let right = (1..=255).contains(&cl) && (1..=255).contains(&wl);
+            right.then(|| format.words_of(Cycle { cl, wl }.vectors(count)))
+        }
+        _ => Some(vif::MOST_DIRECT),
     }
+}
+
+/// Whether an UNPACK waits with more words due than its vectors have, but not more than as many
+/// vectors as writes would have.
+fn counted_without_fills(block: &UnitBlock) -> bool {
+    let format = Format::from_number(block[unit_word::FORMAT]);
+    let plain = format.map_or(0, |format| format.words_of(block[unit_word::COUNT]));
+    let due = block[unit_word::DUE];
+    wrong_waiting_fields(block) == ["due too many"] && due <= plain
 }
 
 /// All names that `wrong_fields` gives.
@@ -689,7 +562,7 @@ pub fn field_names() -> Vec<String> {
         names.push(format!("MPG {field}"));
         names.push(format!("UNPACK {field}"));
     }
-    for field in ["format", "USN", "M", "beside WL 0", "beside WL above CL"] {
+    for field in ["format", "USN", "M", "beside WL 0", "beside CL 0"] {
         names.push(format!("UNPACK {field}"));
     }
     names
@@ -723,12 +596,6 @@ fn names() -> Vec<String> {
     for vn in 0..3 {
         add(format!("refused 21, vn {vn}"));
     }
-    for format in all_formats() {
-        add(format!(
-            "UNPACK {} of 256 vectors completed",
-            format_name(&format)
-        ));
-    }
     names
 }
 
@@ -761,12 +628,13 @@ const NAMES: &[&str] = &[
     "refused 4, 5 would be next",
     "refused 4, nothing else wrong",
     "refused 5, several at once",
+    "refused 5, UNPACK due too many, WL > CL alone makes it so",
     "refused 5, path block in no path",
     "refused 5, path out of range",
     "refused 20",
-    "refused 21 with CL and WL for 22",
-    "refused 22, WL 0",
-    "refused 22, WL above CL",
+    "refused 21 with WL for 22",
+    "refused 22, CL 0",
+    "refused 22, CL not 0",
     "refused 23",
     "refused 30 inside DIRECT",
     "refused 31 inside DIRECT, at a tag",
@@ -795,23 +663,4 @@ const NAMES: &[&str] = &[
     "UNPACK with TOPS added",
     "UNPACK, address + TOPS from 1,024 up",
     "UNPACK without TOPS",
-    "UNPACK completed, WL = CL",
-    "UNPACK completed, WL < CL",
-    "UNPACK completed, WL 1",
-    "UNPACK completed, WL above 4",
-    "UNPACK completed, WL 255",
-    "UNPACK completed, WL < CL with several rounds",
-    "UNPACK completed with leftover bits",
-    "UNPACK completed with a leftover vector",
-    "UNPACK of 256 vectors completed with MODE 2",
-    "vectors with bits from a block",
-    "vectors written round the end",
-    "vectors written twice round the end",
-    "vectors with i mod WL above 3",
-    "V4-5 vectors with MODE set",
-    "ROW kept in MODE 2, mask code 1",
-    "ROW kept in MODE 2, mask code 2",
-    "ROW kept in MODE 2, mask code 3",
-    "ROW kept in MODE 2, replaced later in the step",
-    "ROW of some fields replaced in MODE 2",
 ];

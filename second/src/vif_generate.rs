@@ -14,12 +14,11 @@ use crate::state_block::{
     self, first_unused, path_word, unit_word, write_unit, PathBlock, UnitBlock, IDLE_PATH,
     REGISTERS, RESET_UNIT, UNIT_WORDS,
 };
+use crate::unpack_counts::all_formats;
 use crate::vif::{
-    cycle_legal, Code, Given, Mpg, Payload, Registers, Unit, Waiting, ADDRESSES, MOST_DIRECT,
-    MOST_NUM,
+    Code, Given, Mpg, Payload, Registers, Unit, Waiting, ADDRESSES, MOST_DIRECT, MOST_NUM,
 };
 use crate::vif_cases::{taken_quadword, Case, Standing, REFUSED};
-use crate::vif_counts::all_formats;
 use crate::vif_points;
 use crate::vif_unpack::{Format, Unpack};
 
@@ -236,90 +235,16 @@ fn random_groups(random: &mut Random, calls: u32) -> Vec<u32> {
 
 /// The bench points and other cases that are the same in every file.
 fn fixed_cases() -> Vec<Case> {
-    let fed = |entries: u64, words: &[u32]| {
-        let mut maker = Maker::with(&Unit::default(), entries, 0);
-        maker.words(words);
-        maker.finish()
-    };
-    let mut cases = vec![
-        // S-8 byte FF, then with USN.
-        fed(
-            0,
-            &[
-                stcycl(1, 1),
-                code_word(0x62, 1, 0),
-                0xFF,
-                code_word(0x62, 1, 0x4001),
-                0xFF,
-            ],
-        ),
-        // V3-8, NUM 5: 4 words; then MARK shows that it ended.
-        fed(
-            0,
-            &[
-                stcycl(1, 1),
-                code_word(0x6A, 5, 0),
-                0x8382_8180,
-                0x0786_0584,
-                0x8B0A_8908,
-                0xFF8E_0D8C,
-                code_word(0x07, 0, 0x1234),
-            ],
-        ),
-        // V4-32, NUM 0: 1,024 words; then MARK shows that it ended.
-        {
-            let mut maker = Maker::with(&Unit::default(), 0, 0);
-            maker.words(&[stcycl(1, 1), code_word(0x6C, 0, 0x3F0)]);
-            for i in 0..1_024 {
-                maker.word(0xC0DE_0000 + i);
-            }
-            maker.word(code_word(0x07, 0, 0x1234));
-            maker.finish()
-        },
-        // V4-5 FFFF.
-        fed(0, &[stcycl(1, 1), code_word(0x6F, 1, 0), 0xFFFF]),
-        // MODE 2, ROW FFFFFFFF, data 2.
-        fed(
-            0,
-            &[
-                stcycl(1, 1),
-                code_word(0x05, 0, 2),
-                code_word(0x30, 0, 0),
-                u32::MAX,
-                u32::MAX,
-                u32::MAX,
-                u32::MAX,
-                code_word(0x60, 1, 0),
-                2,
-            ],
-        ),
-        // CL 4, WL 2, NUM 4, A 0: 0, 1, 4, 5.
-        fed(0, &[stcycl(4, 2), code_word(0x60, 4, 0), 1, 2, 3, 4]),
-        // CL 2, WL 3: refused 22.
-        fed(0, &[stcycl(2, 3), code_word(0x60, 4, 0), 0, 0]),
-        // MPG at 2,047, two instructions.
-        fed(0, &[code_word(0x4A, 2, 2_047), 1, 2, 3, 4]),
-    ];
+    let mut cases = unpack_points();
+    // MPG at 2,047, two instructions.
+    cases.push(fed(0, &[code_word(0x4A, 2, 2_047), 1, 2, 3, 4]));
     // DIRECT as a sheet's kind 3 record has it.
     let mut maker = Maker::with(&Unit::default(), 2, 0);
     maker.words(&[0, 0, 0, code_word(0x50, 0, 2)]);
     maker.quadword(0x0000_0000_0000_000E_1000_0000_0000_8001);
     maker.quadword(0x0042_0000_0000_0000_7777);
     cases.push(maker.finish());
-    // MSCAL moves TOP, DBF and TOPS; the third has no room.
-    cases.push(fed(
-        2,
-        &[
-            code_word(0x03, 0, 1_000),
-            code_word(0x02, 0, 100),
-            code_word(0x04, 0, 7),
-            code_word(0x14, 0, 0xFFFF),
-            code_word(0x04, 0, 8),
-            code_word(0x17, 0, 0xFFFF),
-            code_word(0x04, 0, 9),
-            code_word(0x15, 0, 5),
-        ],
-    ));
+    cases.push(two_starts());
     // STMOD 3: refused 23, MODE stays.
     let stmod = |mode| code_word(0x05, 0, mode);
     cases.push(fed(0, &[stmod(2), stmod(3), stmod(0xFFFF), stmod(1)]));
@@ -343,6 +268,64 @@ fn fixed_cases() -> Vec<Case> {
     cases
 }
 
+/// Words given to a unit after reset, with a log of so many entries.
+fn fed(entries: u64, words: &[u32]) -> Case {
+    let mut maker = Maker::with(&Unit::default(), entries, 0);
+    maker.words(words);
+    maker.finish()
+}
+
+/// The bench points of UNPACK; where a MARK comes last, it shows that the payload has ended.
+fn unpack_points() -> Vec<Case> {
+    let one = stcycl(1, 1);
+    let s_8 = |imm| code_word(0x62, 1, imm);
+    let s_32 = |num| code_word(0x60, num, 0);
+    let mark = code_word(0x07, 0, 0x1234);
+    let v3_8 = [0x8382_8180, 0x0786_0584, 0x8B0A_8908, 0xFF8E_0D8C];
+    let v4_32: Vec<u32> = (0..1_024).map(|i| 0xC0DE_0000 + i).collect();
+    let row = [
+        code_word(0x30, 0, 0),
+        u32::MAX,
+        u32::MAX,
+        u32::MAX,
+        u32::MAX,
+    ];
+    let points: [&[&[u32]]; 7] = [
+        // S-8 byte FF, then with USN.
+        &[&[one, s_8(0), 0xFF, s_8(0x4001), 0xFF]],
+        // V3-8, NUM 5: 4 words.
+        &[&[one, code_word(0x6A, 5, 0)], &v3_8, &[mark]],
+        // V4-32, NUM 0: 1,024 words.
+        &[&[one, code_word(0x6C, 0, 0x3F0)], &v4_32, &[mark]],
+        // V4-5 FFFF.
+        &[&[one, code_word(0x6F, 1, 0), 0xFFFF]],
+        // MODE 2, ROW FFFFFFFF, data 2.
+        &[&[one, code_word(0x05, 0, 2)], &row, &[s_32(1), 2]],
+        // CL 4, WL 2, NUM 4, A 0: 0, 1, 4, 5.
+        &[&[stcycl(4, 2), s_32(4), 1, 2, 3, 4]],
+        // CL 2, WL 3, NUM 4: accepted, three vectors.
+        &[&[stcycl(2, 3), s_32(4), 1, 2, 3, mark]],
+    ];
+    points.iter().map(|words| fed(0, &words.concat())).collect()
+}
+
+/// MSCAL moves TOP, DBF and TOPS; the third has no room.
+fn two_starts() -> Case {
+    fed(
+        2,
+        &[
+            code_word(0x03, 0, 1_000),
+            code_word(0x02, 0, 100),
+            code_word(0x04, 0, 7),
+            code_word(0x14, 0, 0xFFFF),
+            code_word(0x04, 0, 8),
+            code_word(0x17, 0, 0xFFFF),
+            code_word(0x04, 0, 9),
+            code_word(0x15, 0, 5),
+        ],
+    )
+}
+
 /// A block in which STMASK waits with so many words due, among words that mean nothing.
 pub fn stmask_block(due: u32) -> UnitBlock {
     let mut block = RESET_UNIT;
@@ -359,6 +342,7 @@ fn add_edge_cases(random: &mut Random, cases: &mut Vec<Case>) {
     add_waiting_cases(random, cases);
     add_command_cases(random, cases);
     add_unpack_cases(random, cases);
+    add_cycle_cases(random, cases);
     add_long_cases(random, cases);
     add_direct_cases(random, cases);
     add_call_cases(random, cases);
@@ -507,6 +491,10 @@ fn add_field_cases(random: &mut Random, cases: &mut Vec<Case>) {
         let blocks = payload_blocks(random, payload);
         add_blocks(random, cases, &blocks);
     }
+    for format in all_formats() {
+        let blocks = filling_blocks(random, format);
+        add_blocks(random, cases, &blocks);
+    }
 }
 
 fn add_blocks(random: &mut Random, cases: &mut Vec<Case>, blocks: &[UnitBlock]) {
@@ -540,8 +528,8 @@ fn block_with_unused(waiting: u32) -> UnitBlock {
 /// Blocks in which a payload waits, right but for a field at or over its limits.
 fn payload_blocks(random: &mut Random, payload: Payload) -> Vec<UnitBlock> {
     let mut unit = random_unit(random);
-    make_cycle_legal(random, &mut unit.registers);
-    let all = all_units(&payload);
+    set_cycle(&mut unit.registers, cycle_with_payload(random));
+    let all = payload.all_units(&unit.registers);
     unit.waiting = Some(Waiting {
         payload,
         interrupt: random.percent(50),
@@ -589,10 +577,44 @@ fn add_unpack_changes(changes: &mut Vec<Vec<(usize, u32)>>) {
         changes.push(vec![(field, 2)]);
         changes.push(vec![(field, u32::MAX)]);
     }
-    changes.push(vec![(unit_word::WL, 0)]);
-    for (cl, wl) in [(5, 6), (6, 6), (0, 255), (255, 255)] {
-        changes.push(vec![(unit_word::CL, cl), (unit_word::WL, wl)]);
+    for (cl, wl) in [
+        (0, 0),
+        (5, 0),
+        (0, 1),
+        (0, 255),
+        (1, 255),
+        (5, 6),
+        (6, 6),
+        (254, 255),
+        (255, 255),
+        (255, 1),
+    ] {
+        let due = (unit_word::DUE, 1);
+        changes.push(vec![(unit_word::CL, cl), (unit_word::WL, wl), due]);
     }
+}
+
+/// Blocks in which an UNPACK waits beside a WL above CL, with the words due at the limits that
+/// its vectors set, and at those that as many vectors as writes would set.
+fn filling_blocks(random: &mut Random, format: Format) -> Vec<UnitBlock> {
+    let mut blocks = Vec::new();
+    for (cl, wl) in [(1, 2), (2, 3), (3, 5), (1, 255), (254, 255)] {
+        let count = random.pick(&[2, 3, 7, 12, 255, 256]);
+        let unpack = random_unpack(random, format, count);
+        let mut unit = random_unit(random);
+        set_cycle(&mut unit.registers, stcycl(cl, wl));
+        let all = unpack.all_words(unit.registers.cycle());
+        let plain = format.words_of(count);
+        for due in [1, all, all + 1, plain, plain + 1] {
+            unit.waiting = Some(Waiting {
+                payload: Payload::Unpack(unpack),
+                interrupt: random.percent(50),
+                due,
+            });
+            blocks.push(write_unit(&unit));
+        }
+    }
+    blocks
 }
 
 /// Each kind of payload, UNPACK in each format.
@@ -612,17 +634,6 @@ fn some_payloads(random: &mut Random) -> Vec<Payload> {
     payloads
 }
 
-/// All units of a payload, the most there can be for DIRECT.
-fn all_units(payload: &Payload) -> u32 {
-    match payload {
-        Payload::Stmask => 1,
-        Payload::Strow | Payload::Stcol => 4,
-        Payload::Mpg(mpg) => mpg.all_words(),
-        Payload::Direct | Payload::Directhl => MOST_DIRECT,
-        Payload::Unpack(unpack) => unpack.all_words(),
-    }
-}
-
 /// Each waiting code with each number of units due, run to its end.
 fn add_waiting_cases(random: &mut Random, cases: &mut Vec<Case>) {
     let mut payloads = vec![Payload::Stmask, Payload::Strow, Payload::Stcol];
@@ -632,41 +643,50 @@ fn add_waiting_cases(random: &mut Random, cases: &mut Vec<Case>) {
             count,
         }));
     }
+    for payload in payloads {
+        let cycle = legal_cycle(random);
+        add_each_due(random, cases, payload, cycle);
+    }
     for format in all_formats() {
         for count in [1, 2, 3, 5] {
-            payloads.push(Payload::Unpack(random_unpack(random, format, count)));
-        }
-    }
-    for payload in payloads {
-        for due in 1..=all_units(&payload) {
-            let number = random.below(4) as u32;
-            add_waiting_case(random, cases, payload, due, number);
+            for cycle in [skipping_cycle(random), filling_cycle(random)] {
+                let unpack = random_unpack(random, format, count);
+                add_each_due(random, cases, Payload::Unpack(unpack), cycle);
+            }
         }
     }
     for payload in [Payload::Direct, Payload::Directhl] {
         for due in [1, 2, 3, MOST_DIRECT] {
             for number in 0..4 {
-                add_waiting_case(random, cases, payload, due, number);
+                let mut unit = random_unit(random);
+                unit.waiting = Some(Waiting {
+                    payload,
+                    interrupt: random.percent(50),
+                    due,
+                });
+                add_waiting_case(random, cases, &unit, number);
             }
         }
     }
 }
 
-fn add_waiting_case(
-    random: &mut Random,
-    cases: &mut Vec<Case>,
-    payload: Payload,
-    due: u32,
-    number: u32,
-) {
+/// A payload under this STCYCL with each number of words due.
+fn add_each_due(random: &mut Random, cases: &mut Vec<Case>, payload: Payload, cycle: u32) {
     let mut unit = random_unit(random);
-    make_cycle_legal(random, &mut unit.registers);
-    unit.waiting = Some(Waiting {
-        payload,
-        interrupt: random.percent(50),
-        due,
-    });
-    let mut maker = Maker::with(&unit, 16, number);
+    set_cycle(&mut unit.registers, cycle);
+    for due in 1..=payload.all_units(&unit.registers) {
+        unit.waiting = Some(Waiting {
+            payload,
+            interrupt: random.percent(50),
+            due,
+        });
+        let number = random.below(4) as u32;
+        add_waiting_case(random, cases, &unit, number);
+    }
+}
+
+fn add_waiting_case(random: &mut Random, cases: &mut Vec<Case>, unit: &Unit, number: u32) {
+    let mut maker = Maker::with(unit, 16, number);
     maker.run_out(random, 60);
     maker.word(code_word(0x07, 0, 0x4321));
     cases.push(maker.finish_in_groups(random));
@@ -675,7 +695,8 @@ fn add_waiting_case(
 /// Every CMD with bit 31 clear and set, with its payload.
 fn add_command_cases(random: &mut Random, cases: &mut Vec<Case>) {
     for interrupt in 0..2 {
-        for cycle in [stcycl(1, 1), stcycl(7, 5), stcycl(1, 0), stcycl(3, 4)] {
+        for (cl, wl) in [(1, 1), (7, 5), (1, 0), (0, 0), (3, 4), (0, 4)] {
+            let cycle = stcycl(cl, wl);
             let mut maker = Maker::with(&random_unit(random), 32, 0);
             for command in 0..128 {
                 maker.word(cycle);
@@ -693,18 +714,19 @@ fn add_command_cases(random: &mut Random, cases: &mut Vec<Case>) {
     }
 }
 
-/// Every format with every M, USN and MODE, under many CL and WL.
+/// Every format with every M, USN and MODE, under CL and WL of each kind.
 fn add_unpack_cases(random: &mut Random, cases: &mut Vec<Case>) {
     for format in all_formats() {
         for mode in 0..3 {
             for flags in 0..4 {
                 let mut maker = Maker::with(&random_unit(random), 0, 0);
-                for _ in 0..2 {
-                    let cycle = legal_cycle(random);
-                    maker.words(&[cycle, code_word(0x05, 0, mode), code_word(0x20, 0, 0)]);
-                    let mask = random_mask(random);
-                    maker.word(mask);
+                for cycle in [
+                    skipping_cycle(random),
+                    filling_cycle(random),
+                    cycle_without_payload(random),
+                ] {
                     let num = random.pick(&[1, 2, 3, 4, 5, 7, 9, 13]);
+                    give_modes(random, &mut maker, cycle, mode);
                     maker.word(unpack_word(random, format, flags, num));
                     maker.run_out(random, 100);
                 }
@@ -712,6 +734,55 @@ fn add_unpack_cases(random: &mut Random, cases: &mut Vec<Case>) {
             }
         }
     }
+}
+
+/// STCYCL, STMOD and STMASK with a mask by chance.
+fn give_modes(random: &mut Random, maker: &mut Maker, cycle: u32, mode: u32) {
+    maker.words(&[cycle, code_word(0x05, 0, mode), code_word(0x20, 0, 0)]);
+    let mask = random_mask(random);
+    maker.word(mask);
+}
+
+/// CL and WL of every relation, each with NUM that ends at several places of a cycle.
+fn add_cycle_cases(random: &mut Random, cases: &mut Vec<Case>) {
+    for (cl, wl) in [
+        (0, 1),
+        (0, 3),
+        (0, 255),
+        (1, 1),
+        (1, 2),
+        (1, 5),
+        (1, 255),
+        (2, 3),
+        (3, 4),
+        (3, 8),
+        (4, 4),
+        (7, 5),
+        (254, 255),
+        (255, 255),
+        (255, 254),
+        (255, 1),
+    ] {
+        for num in [1, cl, cl + 1, wl, wl + 1, 2 * wl - 1, 2 * wl, 0] {
+            if num < MOST_NUM {
+                add_cycle_case(random, cases, stcycl(cl, wl), num);
+            }
+        }
+    }
+}
+
+/// An UNPACK under this STCYCL, run to its end; MARK shows that it ended.
+fn add_cycle_case(random: &mut Random, cases: &mut Vec<Case>, cycle: u32, num: u32) {
+    let format = random.pick(&all_formats());
+    let mode = random.below(3) as u32;
+    let flags = random.below(4) as u32;
+    let interrupt = (random.percent(50) as u32) << 31;
+    let mut maker = Maker::with(&random_unit(random), 0, random.below(4) as u32);
+    give_modes(random, &mut maker, cycle, mode);
+    maker.word(interrupt | unpack_word(random, format, flags, num));
+    maker.run_out(random, 1_024);
+    maker.word(code_word(0x07, 0, 0x2345));
+    cases.push(maker.finish_in_groups(random));
 }
 
 /// An UNPACK code: M is bit 0 of the flags, USN bit 1.
@@ -734,17 +805,16 @@ fn add_long_cases(random: &mut Random, cases: &mut Vec<Case>) {
     maker.word(code_word(0x07, 0, 0x2345));
     cases.push(maker.finish_in_groups(random));
     for format in all_formats() {
-        let mut maker = Maker::with(&random_unit(random), 0, 0);
-        let cycle = legal_cycle(random);
-        let mode = random.pick(&[1, 2, 2]);
-        maker.words(&[cycle, code_word(0x05, 0, mode), code_word(0x20, 0, 0)]);
-        let mask = random_mask(random);
-        maker.word(mask);
-        let flags = random.below(4) as u32;
-        maker.word(unpack_word(random, format, flags, 0));
-        maker.run_out(random, 1_024);
-        maker.word(code_word(0x07, 0, 0x2345));
-        cases.push(maker.finish_in_groups(random));
+        for cycle in [skipping_cycle(random), filling_cycle(random)] {
+            let mut maker = Maker::with(&random_unit(random), 0, 0);
+            let mode = random.pick(&[1, 2, 2]);
+            give_modes(random, &mut maker, cycle, mode);
+            let flags = random.below(4) as u32;
+            maker.word(unpack_word(random, format, flags, 0));
+            maker.run_out(random, 1_024);
+            maker.word(code_word(0x07, 0, 0x2345));
+            cases.push(maker.finish_in_groups(random));
+        }
     }
 }
 
@@ -985,7 +1055,7 @@ fn random_direct(random: &mut Random) -> u32 {
 
 /// An UNPACK, or mostly STCYCL where the held CL and WL allow none.
 fn random_unpack_code(random: &mut Random, registers: &Registers, taste: &Taste) -> u32 {
-    if !cycle_legal(registers) && random.percent(80) {
+    if !registers.cycle().is_legal() && random.percent(80) {
         return legal_cycle(random);
     }
     let formats = all_formats();
@@ -1030,8 +1100,8 @@ fn random_unpack(random: &mut Random, format: Format, count: u32) -> Unpack {
     }
 }
 
-/// STCYCL with CL and WL that UNPACK accepts.
-pub fn legal_cycle(random: &mut Random) -> u32 {
+/// STCYCL with WL up to CL.
+pub fn skipping_cycle(random: &mut Random) -> u32 {
     let small = random.within(1..=9) as u32;
     let any = random.within(1..=255) as u32;
     let (cl, wl) = match random.below(12) {
@@ -1048,6 +1118,46 @@ pub fn legal_cycle(random: &mut Random) -> u32 {
     stcycl(cl, wl)
 }
 
+/// STCYCL with WL above CL, which is not 0.
+pub fn filling_cycle(random: &mut Random) -> u32 {
+    let small = random.within(1..=5) as u32;
+    let any = random.within(1..=254) as u32;
+    let (cl, wl) = match random.below(10) {
+        0..=1 => (1, 2),
+        2 => (2, 3),
+        3..=5 => (small, small + random.within(1..=6) as u32),
+        6 => (any, random.within(any as u64 + 1..=255) as u32),
+        7 => (1, random.pick(&[4, 5, 255])),
+        8 => (254, 255),
+        _ => (small, 255),
+    };
+    stcycl(cl, wl)
+}
+
+/// STCYCL with CL 0, under which UNPACK is accepted without payload.
+fn cycle_without_payload(random: &mut Random) -> u32 {
+    let any = random.within(1..=255) as u32;
+    stcycl(0, random.pick(&[1, 2, 3, 4, 5, 255, any]))
+}
+
+/// STCYCL under which UNPACK waits for payload.
+fn cycle_with_payload(random: &mut Random) -> u32 {
+    if random.percent(35) {
+        filling_cycle(random)
+    } else {
+        skipping_cycle(random)
+    }
+}
+
+/// STCYCL with CL and WL that UNPACK accepts.
+pub fn legal_cycle(random: &mut Random) -> u32 {
+    if random.percent(5) {
+        cycle_without_payload(random)
+    } else {
+        cycle_with_payload(random)
+    }
+}
+
 /// STCYCL with any CL and WL, mostly legal.
 fn random_cycle(random: &mut Random) -> u32 {
     let any = random.word() & 0xFF;
@@ -1059,8 +1169,8 @@ fn random_cycle(random: &mut Random) -> u32 {
     }
 }
 
-fn make_cycle_legal(random: &mut Random, registers: &mut Registers) {
-    let cycle = legal_cycle(random);
+/// Sets CL and WL as a STCYCL does.
+fn set_cycle(registers: &mut Registers, cycle: u32) {
     registers.cl = cycle & 0xFF;
     registers.wl = cycle >> 8 & 0xFF;
 }
@@ -1136,10 +1246,11 @@ pub fn random_unit(random: &mut Random) -> Unit {
         ..Registers::default()
     };
     if random.percent(85) {
-        make_cycle_legal(random, &mut registers);
+        set_cycle(&mut registers, legal_cycle(random));
     } else {
         registers.cl = random.word() & 0xFF;
-        registers.wl = random.word() & 0xFF;
+        let any = random.word() & 0xFF;
+        registers.wl = random.pick(&[0, any, any]);
     }
     Unit {
         registers,
@@ -1163,13 +1274,13 @@ pub fn random_waiting_unit(random: &mut Random) -> Unit {
         4 => Payload::Direct,
         5 => Payload::Directhl,
         _ => {
-            make_cycle_legal(random, &mut unit.registers);
+            set_cycle(&mut unit.registers, cycle_with_payload(random));
             let formats = all_formats();
             let format = random.pick(&formats);
             Payload::Unpack(random_unpack(random, format, count))
         }
     };
-    let all = all_units(&payload) as u64;
+    let all = payload.all_units(&unit.registers) as u64;
     let due = match random.below(4) {
         0 => all,
         1 => random.within(1..=all.min(4)),

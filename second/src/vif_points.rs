@@ -1,7 +1,8 @@
 //! Points for VIF1 worked by hand, with literal values: each word and what it writes.
 
-use crate::state_block::RESET_UNIT;
-use crate::vif_cases::{Case, Standing};
+use crate::refusals;
+use crate::state_block::{unit_word, UnitBlock, RESET_UNIT, UNPACK};
+use crate::vif_cases::{Case, Standing, INTERRUPT, REFUSED};
 use crate::vif_generate::{code_word, plain_case, stcycl};
 
 /// A field that a write leaves as it was.
@@ -17,23 +18,28 @@ struct Step {
     writes: Vec<Write>,
 }
 
-/// Words given to a unit after reset, from word 0 of a quadword on.
+/// Words given to a unit, from word 0 of a quadword on. A refused word is the last one.
 pub struct Point {
     name: &'static str,
+    unit: UnitBlock,
     steps: Vec<Step>,
     /// ROW afterwards.
     row: [u32; 4],
 }
 
 impl Point {
-    /// A point with words that are taken and write nothing.
-    fn new(name: &'static str, words: &[u32]) -> Point {
-        let point = Point {
+    fn from(name: &'static str, unit: UnitBlock) -> Point {
+        Point {
             name,
+            unit,
             steps: Vec::new(),
             row: [0; 4],
-        };
-        point.then(words)
+        }
+    }
+
+    /// A unit after reset is given words that are taken and write nothing.
+    fn new(name: &'static str, words: &[u32]) -> Point {
+        Point::from(name, RESET_UNIT).then(words)
     }
 
     fn then(mut self, words: &[u32]) -> Point {
@@ -57,11 +63,20 @@ impl Point {
         self
     }
 
-    /// How many words there are, and how many come before the first that writes.
+    fn refused(self, word: u32, refusal: u32) -> Point {
+        self.step(word, REFUSED + refusal, &[])
+    }
+
+    /// The refusal of the last word; none where it is taken.
+    pub fn refusal(&self) -> Option<u32> {
+        self.steps.last()?.answer.checked_sub(REFUSED)
+    }
+
     pub fn words(&self) -> usize {
         self.steps.len()
     }
 
+    /// How many words come before the first that writes.
     pub fn quiet_words(&self) -> usize {
         let writes = |step: &Step| !step.writes.is_empty();
         self.steps.iter().position(writes).unwrap_or(self.words())
@@ -69,7 +84,7 @@ impl Point {
 
     /// The case of the point, each word in a group of its own; NOPs fill up the last quadword.
     pub fn case(&self) -> Case {
-        let mut case = plain_case(RESET_UNIT, 0, 0);
+        let mut case = plain_case(self.unit, 0, 0);
         case.words = self.steps.iter().map(|step| step.word).collect();
         case.words.resize(case.words.len().next_multiple_of(4), 0);
         case.groups = vec![1; self.steps.len()];
@@ -90,10 +105,13 @@ impl Point {
             }
             standing.restore();
         }
-        match standing.both {
-            Some((unit, _)) if unit.registers.row == self.row && unit.waiting.is_none() => Ok(()),
-            _ => Err(format!("point {}: the unit afterwards", self.name)),
+        let unit = standing.both.map(|(unit, _)| unit);
+        let row_right = unit.is_some_and(|unit| unit.registers.row == self.row);
+        let ended = unit.is_some_and(|unit| unit.waiting.is_none());
+        if row_right && (ended || self.refusal() == Some(refusals::RANGE)) {
+            return Ok(());
         }
+        Err(format!("point {}: the unit afterwards", self.name))
     }
 }
 
@@ -112,12 +130,15 @@ impl Step {
 pub fn named(name: &str) -> Option<Vec<Point>> {
     match name {
         "mask" => Some(mask_points()),
+        "filling" => Some(filling_points()),
         _ => None,
     }
 }
 
 pub fn all() -> Vec<Point> {
-    mask_points()
+    let mut points = mask_points();
+    points.extend(filling_points());
+    points
 }
 
 /// Tests our own unit on all points; hands back how many there are.
@@ -208,6 +229,151 @@ fn kept_then_replaced() -> Point {
         .row([0xFE, 0x1FE, 0x2FE, 0x404])
 }
 
+/// Filling write.
+fn filling_points() -> Vec<Point> {
+    vec![
+        round_the_end(),
+        trailing_with_interrupt(),
+        without_payload(),
+        fill_under_mode_2(),
+        three_elements(),
+        five_bits(),
+        most_without_payload(),
+        most_after_a_vector(),
+        waits_inside_a_cycle(),
+        Point::from("more due than vectors", waiting(2, 3, 4)).refused(1, refusals::RANGE),
+        Point::from("waiting beside CL 0", waiting(0, 3, 1)).refused(1, refusals::RANGE),
+        Point::from("waiting beside WL 0", waiting(2, 0, 1)).refused(1, refusals::RANGE),
+        Point::new("WL 0", &[stcycl(5, 0)]).refused(code_word(0x60, 4, 0), refusals::CYCLE),
+        Point::new("CL 0, WL 0", &[]).refused(code_word(0x60, 4, 0), refusals::CYCLE),
+    ]
+}
+
+/// S-32, NUM 0: 256 fills in the code's own step.
+fn most_without_payload() -> Point {
+    let writes: Vec<Write> = (900..1_156).map(|at| (at % 1_024, [Some(0); 4])).collect();
+    Point::new("CL 0, NUM 0", &[stcycl(0, 255)]).step(code_word(0x60, 0, 900), 0, &writes)
+}
+
+/// S-32, NUM 0: a vector and 254 fills, then the second vector.
+fn most_after_a_vector() -> Point {
+    let writes: Vec<Write> = (0..255).map(|at| (at, [Some(5); 4])).collect();
+    Point::new("CL 1, WL 255", &[stcycl(1, 255), code_word(0x60, 0, 0)])
+        .step(5, 0, &writes)
+        .step(6, 0, &[(255, [Some(6); 4])])
+}
+
+/// A unit in which an S-32 of four writes at quadword 20 waits.
+fn waiting(cl: u32, wl: u32, due: u32) -> UnitBlock {
+    let mut unit = RESET_UNIT;
+    for (at, word) in [
+        (unit_word::CL, cl),
+        (unit_word::WL, wl),
+        (unit_word::WAITING, UNPACK),
+        (unit_word::DUE, due),
+        (unit_word::ADDRESS, 20),
+        (unit_word::COUNT, 4),
+    ] {
+        unit[at] = word;
+    }
+    unit
+}
+
+/// The first of three vectors has been taken.
+fn waits_inside_a_cycle() -> Point {
+    Point::from("waiting beside CL 2, WL 3", waiting(2, 3, 2))
+        .step(2, 0, &[(21, [Some(2); 4]), (22, [Some(2); 4])])
+        .step(3, 0, &[(23, [Some(3); 4])])
+}
+
+/// S-32, NUM 4: vectors 1 and 2, a fill that goes round the end, vector 3.
+fn round_the_end() -> Point {
+    Point::new("CL 2, WL 3", &[stcycl(2, 3), code_word(0x60, 4, 1_022)])
+        .step(1, 0, &[(1_022, [Some(1); 4])])
+        .step(2, 0, &[(1_023, [Some(2); 4]), (0, [Some(2); 4])])
+        .step(3, 0, &[(1, [Some(3); 4])])
+}
+
+/// V4-8 in MODE 1, NUM 4: one vector and three fills, which are without MODE.
+fn trailing_with_interrupt() -> Point {
+    let fields = [0xFFFF_FF80, 0x7F, u32::MAX, 4].map(Some);
+    Point::new("fills after the last vector", &[stcycl(1, 4), stmod(1)])
+        .then(&strow([1, 2, 3, 4]))
+        .then(&[1 << 31 | code_word(0x6E, 4, 10)])
+        .step(
+            0x04FF_7F80,
+            INTERRUPT,
+            &[
+                (10, [0xFFFF_FF81, 0x81, 2, 8].map(Some)),
+                (11, fields),
+                (12, fields),
+                (13, fields),
+            ],
+        )
+        .row([1, 2, 3, 4])
+}
+
+/// V3-8 in MODE 2, NUM 4: four fills in the code's own step. Row 0 of the mask has code 0, row 1
+/// the codes 1, 2, 3 and 0, row 2 code 1. Then a NOP.
+fn without_payload() -> Point {
+    Point::new("CL 0", &[stcycl(0, 3), stmod(2)])
+        .then(&stmask(0x0055_3900))
+        .then(&strow([10, 20, 30, 40]))
+        .then(&stcol([7, 8, 9, 11]))
+        .step(
+            1 << 31 | code_word(0x7A, 4, 1_022),
+            INTERRUPT,
+            &[
+                (1_022, [Some(0); 4]),
+                (1_023, [Some(10), Some(8), KEPT, Some(0)]),
+                (0, [10, 20, 30, 40].map(Some)),
+                (1, [Some(0); 4]),
+            ],
+        )
+        .then(&[0])
+        .row([10, 20, 30, 40])
+}
+
+/// S-16 in MODE 2, NUM 4: vectors 3 and 5, each with a fill after it. Row 0 of the mask has code
+/// 1 for Z, else 0; row 1, which the fills read, has the codes 1, 0, 2 and 3.
+fn fill_under_mode_2() -> Point {
+    Point::new("fill in MODE 2", &[stcycl(1, 2), stmod(2)])
+        .then(&stmask(0xE110))
+        .then(&strow([10, 20, 30, 40]))
+        .then(&stcol([7, 8, 9, 11]))
+        .then(&[code_word(0x71, 4, 8)])
+        .step(
+            0x0005_0003,
+            0,
+            &[
+                (8, [13, 23, 30, 43].map(Some)),
+                (9, [Some(13), Some(3), Some(8), KEPT]),
+                (10, [18, 28, 30, 48].map(Some)),
+                (11, [Some(18), Some(5), Some(8), KEPT]),
+            ],
+        )
+        .row([18, 28, 30, 48])
+}
+
+/// V3-16, NUM 3: a vector in one word and a half, its fill, and another vector.
+fn three_elements() -> Point {
+    let first = [1, 2, 3, 0].map(Some);
+    Point::new("V3-16", &[stcycl(1, 2), code_word(0x69, 3, 100)])
+        .then(&[0x0002_0001])
+        .step(0x0004_0003, 0, &[(100, first), (101, first)])
+        .step(0x0006_0005, 0, &[(102, [4, 5, 6, 0].map(Some))])
+}
+
+/// V4-5, NUM 2: the halfword above the vector is dropped.
+fn five_bits() -> Point {
+    let fields = [0xF8, 0, 0x08, 0x80].map(Some);
+    Point::new("V4-5", &[stcycl(1, 5), code_word(0x6F, 2, 500)]).step(
+        0x1234_841F,
+        0,
+        &[(500, fields), (501, fields)],
+    )
+}
+
 #[cfg(test)]
 mod tests {
     use super::*;
@@ -220,17 +386,27 @@ mod tests {
     }
 
     #[test]
+    fn filling_write() {
+        for point in filling_points() {
+            assert_eq!(point.check(), Ok(()));
+        }
+    }
+
+    #[test]
     fn wrong_values_are_found() {
         let changes: [fn(&mut Point); 3] = [
             |point| point.row[1] += 1,
             |point| point.steps.iter_mut().for_each(|step| step.answer += 1),
             |point| {
-                let fields = &mut point.steps.last_mut().unwrap().writes[0].1;
-                fields[0] = fields[0].map(|field| field + 1);
+                let quiet = point.quiet_words();
+                match point.steps.get_mut(quiet) {
+                    Some(step) => step.writes[0].1[0] = Some(0x0BAD_0BAD),
+                    None => point.row = [1; 4],
+                }
             },
         ];
         for change in changes {
-            for mut point in mask_points() {
+            for mut point in all() {
                 change(&mut point);
                 assert!(point.check().is_err());
             }
