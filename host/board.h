@@ -18,6 +18,9 @@ struct memories {
 
 struct memories memories_of(enum vif unit);
 
+/* What is compared: the memories and the log. */
+enum part { PART_DATA, PART_CODE, PART_LOG, PARTS };
+
 struct board {
     struct tejborun_state state;
     size_t data_words, code_bytes, log_numbers;

@@ -1,11 +1,12 @@
-/* The command compare. The library finds the first difference of each kind and counts; here it is shown. */
+/* The command compare. The library finds the first difference of each part and counts; here it is shown. */
 #include <inttypes.h>
 #include <stdio.h>
-#include <string.h>
+#include <stdlib.h>
 
 #include "board.h"
 #include "command.h"
 #include "numbers.h"
+#include "verdict.h"
 #include "words.h"
 
 static void show_quadword(const struct board *a, const struct board *b, size_t number)
@@ -45,54 +46,42 @@ static void show_entry(const struct board *a, const struct board *b, size_t numb
     print_entry("board ", b, number);
 }
 
-/* One kind of unit that is compared, and how a difference is shown. */
+/* How the units of a part are called, and how a difference is shown. */
 struct unit {
     const char *memory, *one, *many, *differs, *differ;
     void (*show)(const struct board *, const struct board *, size_t);
 };
 
-static const struct unit units[3] = {
-    {"data memory", "quadword", "quadwords", "quadword differs", "quadwords differ", show_quadword},
-    {"code memory", "instruction", "instructions", "instruction differs", "instructions differ", show_instruction},
-    {"log", "entry", "entries", "entry differs", "entries differ", show_entry},
+static const struct unit units[PARTS] = {
+    [PART_DATA] = {"data memory", "quadword", "quadwords", "quadword differs", "quadwords differ", show_quadword},
+    [PART_CODE] = {"code memory", "instruction", "instructions", "instruction differs", "instructions differ", show_instruction},
+    [PART_LOG] = {"log", "entry", "entries", "entry differs", "entries differ", show_entry},
 };
 
-/* Makes a unit of a kind the same in b, so that the library finds the next difference. */
-static void make_same(const struct board *a, struct board *b, size_t kind, size_t number)
+/* Shows every difference of a part. A status. */
+static int show_all(const struct board *a, const struct board *b, enum part part, const struct found *found)
 {
-    if (kind == 0)
-        memcpy(b->data + 4 * number, a->data + 4 * number, 16);
-    else if (kind == 1)
-        memcpy(b->code + 8 * number, a->code + 8 * number, 8);
-    else
-        memcpy(board_entry(b, number), board_entry(a, number), TEJBORUN_ENTRY_NUMBERS * sizeof *b->log);
+    size_t *numbers = differing_units(a, b, part, found);
+    if (numbers == NULL)
+        return STATUS_BAD;
+    for (size_t i = 0; i < found->count; i++)
+        units[part].show(a, b, numbers[i]);
+    free(numbers);
+    return STATUS_DONE;
 }
 
-/* Shows every difference of a kind; spends a copy of board b. */
-static void show_all(const struct board *a, const struct board *b, size_t kind)
+static int show_part(const struct board *a, const struct board *b, enum part part, const struct found *found, bool all)
 {
-    struct board spent = copy_board(b);
-    uint64_t numbers[6] = {0};
-    while (compare_boards(a, &spent, numbers) == TEJBORUN_DIFFERENT && numbers[2 * kind + 1] > 0) {
-        units[kind].show(a, &spent, numbers[2 * kind]);
-        make_same(a, &spent, kind, numbers[2 * kind]);
+    const struct unit *unit = &units[part];
+    if (found->count == 0) {
+        printf("%s: the same, %" PRIu64 " %s compared\n", unit->memory, found->compared, plural(found->compared, unit->one, unit->many));
+        return STATUS_DONE;
     }
-    free_board(&spent);
-}
-
-static void show_kind(const struct board *a, const struct board *b, size_t kind, const uint64_t *numbers, bool all)
-{
-    const struct unit *unit = &units[kind];
-    uint64_t first = numbers[2 * kind], count = numbers[2 * kind + 1];
-    if (count == 0) {
-        printf("%s: the same, %" PRIu64 " %s compared\n", unit->memory, first, plural(first, unit->one, unit->many));
-        return;
-    }
-    printf("%s: %" PRIu64 " %s, the first is %" PRIu64 "\n", unit->memory, count, plural(count, unit->differs, unit->differ), first);
+    printf("%s: %" PRIu64 " %s, the first is %" PRIu64 "\n", unit->memory, found->count, plural(found->count, unit->differs, unit->differ), found->first);
     if (all)
-        show_all(a, b, kind);
-    else
-        unit->show(a, b, first);
+        return show_all(a, b, part, found);
+    unit->show(a, b, found->first);
+    return STATUS_DONE;
 }
 
 /* Shows the first entry that only one of the two has. */
@@ -114,22 +103,34 @@ static void show_answer(const char *name, const struct result *result)
            plural(result->steps, "step", "steps"));
 }
 
-static int compare_results(const struct words_given *given, const struct result *result, const struct result *board)
+/* Shows what differs, and the verdict. A status. */
+static int show_comparison(const struct words_given *given, const struct result *result, const struct result *board, const struct comparison *comparison)
 {
-    uint64_t numbers[6] = {0};
-    uint32_t answer = compare_boards(&result->board, &board->board, numbers);
-    if (answer != TEJBORUN_SAME && answer != TEJBORUN_DIFFERENT) {
-        uint32_t refusal = answer >= TEJBORUN_REFUSED ? answer - TEJBORUN_REFUSED : answer;
-        complain("compare", "%s and %s: refused %" PRIu32 ": %s", given->word[0], given->word[1], refusal, meaning_of(refusal));
-        return STATUS_REFUSED;
-    }
+    int status = STATUS_DONE;
     show_answer(given->word[0], result);
     show_answer(given->word[1], board);
-    for (size_t kind = 0; kind < 3; kind++)
-        show_kind(&result->board, &board->board, kind, numbers, given->all);
+    for (size_t part = 0; part < PARTS; part++)
+        status = worse(status, show_part(&result->board, &board->board, (enum part)part, &comparison->found[part], given->option[OPTION_ALL] != NULL));
     show_lengths(&result->board, &board->board);
-    puts(answer == TEJBORUN_SAME ? "equal" : "different");
-    return answer == TEJBORUN_SAME ? STATUS_DONE : STATUS_REFUSED;
+    if (result->answer == TEJBORUN_DONE)
+        puts(comparison->verdict == VERDICT_EQUAL ? "equal" : "different");
+    else
+        puts(comparison->verdict == VERDICT_EQUAL ? "equal to an unfinished result" : "different from an unfinished result");
+    return status;
+}
+
+static int compare_one(const struct words_given *given, const struct result *result, const struct result *board)
+{
+    struct comparison comparison = compare_results(result, board, given->option[OPTION_UNFINISHED] != NULL);
+    int status = status_of_verdict(comparison.verdict);
+    if (comparison.verdict == VERDICT_REFUSED)
+        complain("compare", "%s and %s: refused %" PRIu32 ": %s", given->word[0], given->word[1], comparison.refusal, meaning_of(comparison.refusal));
+    else if (comparison.verdict == VERDICT_UNFINISHED)
+        complain("compare", "no verdict: %s is unfinished, its answer is %" PRIu32 ": %s; --unfinished compares it all the same", given->word[0],
+                 result->answer, meaning_of(result->answer));
+    else
+        status = worse(status, show_comparison(given, result, board, &comparison));
+    return status;
 }
 
 int command_compare(const struct words_given *given)
@@ -140,7 +141,7 @@ int command_compare(const struct words_given *given)
         return status;
     status = read_result(given->word[1], &board);
     if (status == STATUS_DONE) {
-        status = compare_results(given, &result, &board);
+        status = compare_one(given, &result, &board);
         free_board(&board.board);
     }
     free_board(&result.board);

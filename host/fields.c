@@ -99,6 +99,12 @@ static size_t find_field(const struct shape *shape, const char *item, size_t len
     return shape->fields;
 }
 
+bool is_given(const struct shape *shape, const struct given *given, const char *name)
+{
+    size_t i = find_field(shape, name, strlen(name));
+    return i < shape->fields && given->field[i];
+}
+
 static int read_field(const struct text *text, const struct line *line, const char *item, const struct shape *shape, uint32_t *words, struct given *given)
 {
     size_t length = strcspn(item, "=");

@@ -42,6 +42,9 @@ struct given {
     bool field[MOST_FIELDS];
 };
 
+/* Whether the field of a name was given. */
+bool is_given(const struct shape *shape, const struct given *given, const char *name);
+
 uint64_t field_value(const uint32_t *words, const struct field *field);
 
 /* The shape of a name in a list that ends with a nameless one; null where there is none. */

@@ -11,7 +11,7 @@ bool has_mark(const struct bytes *file, const struct shape *head)
 
 const char *kind_by_mark(const struct bytes *file)
 {
-    if (has_mark(file, &capture_heads[0]))
+    if (has_mark(file, &capture_heads[0]) || has_mark(file, &capture_heads[1]))
         return "capture";
     if (has_mark(file, &result_heads[0]))
         return "result";

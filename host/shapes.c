@@ -130,17 +130,23 @@ const struct shape calls[] = {
 
 #define CAPTURE(name, member, flags) MEMBER(struct capture_head, name, member, flags, NULL)
 
-/* The lengths of what follows, given and calls, are counted. */
-static const struct field capture_head[] = {
-    CAPTURE("main-bytes", main_bytes, FIELD_SHOWN),
-    CAPTURE("data-words", data_words, FIELD_SHOWN),
-    CAPTURE("code-bytes", code_bytes, FIELD_SHOWN),
-    CAPTURE("log-numbers", log_numbers, FIELD_SHOWN),
-    CAPTURE("fill", fill, FIELD_SHOWN | FIELD_HEX),
-    CAPTURE("whole", whole, FIELD_SHOWN),
+/* The lengths of what follows are counted. */
+#define CAPTURE_FIELDS                                                                                                                            \
+    CAPTURE("main-bytes", main_bytes, FIELD_SHOWN), CAPTURE("data-words", data_words, FIELD_SHOWN), CAPTURE("code-bytes", code_bytes, FIELD_SHOWN), \
+        CAPTURE("log-numbers", log_numbers, FIELD_SHOWN)
+
+static const struct field capture_head[] = {CAPTURE_FIELDS};
+static const struct field test_case_head[] = {
+    CAPTURE_FIELDS,
+    CAPTURE("fill", test.fill, FIELD_SHOWN | FIELD_HEX),
+    CAPTURE("whole", test.whole, FIELD_SHOWN),
 };
 
-const struct shape capture_heads[] = {{"capture", CAPTURE_HEAD_WORDS, UINT32_MAX, UINT32_C(0x50414354), LIST(capture_head)}, END};
+const struct shape capture_heads[] = {
+    {"capture", CAPTURE_HEAD_WORDS, UINT32_MAX, UINT32_C(0x32414354), LIST(capture_head)},
+    {"capture", CAPTURE_HEAD_WORDS, UINT32_MAX, UINT32_C(0x50414354), LIST(test_case_head)},
+    END,
+};
 
 #define RESULT(name, member) MEMBER(struct result_head, name, member, FIELD_SHOWN, NULL)
 

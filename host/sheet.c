@@ -2,7 +2,6 @@
 #include "sheet.h"
 
 #include <inttypes.h>
-#include <stdio.h>
 #include <stdlib.h>
 
 #include "board.h"
@@ -50,10 +49,10 @@ static int build_chain(const struct words_given *given, const struct bytes *shee
     if (length % 16 != 0)
         status = sheet_refused(name, (uint32_t)length, 0);
     else
-        status = write_file(given->output, chain, length);
+        status = write_file(given->option[OPTION_OUTPUT], chain, length);
     free(chain);
     if (status == STATUS_DONE)
-        printf("%s: a chain of %zu bytes, %zu %s, %" PRIu64 " %s\n", given->output, length, length / 16, plural(length / 16, "quadword", "quadwords"),
+        say("%s: a chain of %zu bytes, %zu %s, %" PRIu64 " %s\n", given->option[OPTION_OUTPUT], length, length / 16, plural(length / 16, "quadword", "quadwords"),
                steps, plural(steps, "step", "steps"));
     return status;
 }
@@ -79,7 +78,7 @@ int command_steps(const struct words_given *given)
     status = count_steps(given->word[0], &sheet, &steps);
     free(sheet.at);
     if (status == STATUS_DONE)
-        printf("%" PRIu64 " %s\n", steps, plural(steps, "step", "steps"));
+        say("%" PRIu64 " %s\n", steps, plural(steps, "step", "steps"));
     return status;
 }
 
@@ -109,9 +108,9 @@ int command_meaning(const struct words_given *given)
     struct result result = {.board = new_board(memories_of(VIF1), TEJBORUN_LOG_NUMBERS)};
     status = feed_sheet(given->word[0], &sheet, &result);
     if (status == STATUS_DONE)
-        status = write_result(given->output, &result);
+        status = write_result(given->option[OPTION_OUTPUT], &result);
     if (status == STATUS_DONE)
-        printf("%s: the sheet's meaning, %" PRIu64 " %s, %" PRIu64 " log %s\n", given->output, result.steps, plural(result.steps, "step", "steps"),
+        say("%s: the sheet's meaning, %" PRIu64 " %s, %" PRIu64 " log %s\n", given->option[OPTION_OUTPUT], result.steps, plural(result.steps, "step", "steps"),
                board_used(&result.board), plural(board_used(&result.board), "entry", "entries"));
     free_board(&result.board);
     free(sheet.at);

@@ -2,6 +2,7 @@
 # Tests of the command: sh host/test.sh COMMAND SECOND PROGRAMS [EVERY]
 # COMMAND is the command, SECOND the second program, PROGRAMS the folder of the proved programs (replay is used). Of the generated captures every EVERYth
 # one is tried, the 10th where it is not given, and of the sheets five times as many. Prints what it did and stops at the first thing that is wrong.
+# TESTS=NAMES in the environment makes those tests alone; what they need of others they make themselves.
 # shellcheck disable=SC2046
 set -u
 command=$1
@@ -41,8 +42,14 @@ says() {
 
 absent() {
     for file in "$@"; do
-        if test -e "$file" || test -e "$file.partial"; then fail "$file was left behind"; fi
+        if test -e "$file"; then fail "$file was left behind"; fi
     done
+    nothing_partial
+}
+
+# No file that was being written is left here.
+nothing_partial() {
+    if find . -name '*partial*' ! -name another.partial | grep . >&2; then fail 'a file was left behind'; fi
 }
 
 same() {
@@ -298,11 +305,11 @@ generated_sheets() {
     echo "generated sheets: $tried of $number built as the second program builds them, to text and back, played as they are meant"
 }
 
-# replayed: reads the results of the case for its calls; sets where the last state block, the last run and its memories are, and whether a call was
-# refused and whether none did anything.
+# replayed: reads the results of the case for its calls; sets where the last state block, the last run and its memories are, the exit status that the calls
+# have (3 where the last run stopped before the end or there is none, else 1 where a call was refused), and whether none did anything.
 replayed() {
     data=$1 code=$2 log=$3 calls=$4
-    at=0 block=none run=none memories=none any_refused=0 idle=1
+    at=0 block=none run=none memories=none any_refused=0 last=90 idle=1
     for kind in $(words case "$calls_at" $((4 * calls)) | awk '{ print $1 }'); do
         answer=$(($(words results $at 1)))
         case $answer in
@@ -314,11 +321,15 @@ replayed() {
             block=$((at + 4))
             at=$((at + 4 + block_bytes))
         else
-            run=$at block=$((at + 12)) memories=$((at + 12 + block_bytes))
+            run=$at last=$answer block=$((at + 12)) memories=$((at + 12 + block_bytes))
             at=$((memories + 4 * data + (code + 3) / 4 * 4 + 8 * log))
         fi
     done
     test "$at" = $(($(wc -c < results))) || fail 'results of another length'
+    case $last in
+    90 | 91) status=3 ;;
+    *) status=$any_refused ;;
+    esac
 }
 
 # wanted_result FILE OFFSET: what the run of the case has to leave, from the results, with the state block of a file.
@@ -345,12 +356,12 @@ one_capture() {
     replayed "$3" "$4" "$5" "$9"
     rm -f result
     if test "$3" != "$data_words" || test "$4" != "$code_bytes" || test $(($5 % entry_numbers)) != 0 || test "$5" -gt "$log_numbers"; then
-        expect $((2 - any_refused)) run case -o result
+        expect 2 run case -o result
         says err 'not written'
         absent result
         return
     fi
-    expect $any_refused run case -o result
+    expect "$status" run case -o result
     if test $block = none; then wanted_result case 40 > wanted; else wanted_result results "$block" > wanted; fi
     if test $memories = none; then head -c "$result_head" result > part; else cp result part; fi
     # A refusal changes no buffer: then the words that mean nothing may stand as they were given, where replay writes zero.
@@ -387,9 +398,9 @@ examples() {
     expect 0 run difference.capture -o difference.result
     says out 'answer 0, done; 1042 steps'
     says out '256 quadwords changed, first 0, last 255'
-    expect 0 run difference.capture -o some.result --allowance 100
+    expect 3 run difference.capture -o some.result --allowance 100
     says out 'answer 90, the step allowance is used; 100 steps'
-    expect 0 run difference.capture -o none.result --allowance 0x0
+    expect 3 run difference.capture -o none.result --allowance 0x0
     says out 'answer 90, the step allowance is used; 0 steps'
     says out 'data memory: nothing changed'
     expect 0 run difference.capture -o enough.result --allowance 0x412
@@ -397,7 +408,7 @@ examples() {
     same difference.result enough.result
     sed 's/^  NOP/  NOP irq=1/' "$here/../examples/difference.capture.txt" > mark.txt
     expect 0 assemble capture mark.txt -o mark.capture
-    expect 0 run mark.capture -o mark.result
+    expect 3 run mark.capture -o mark.result
     says out 'answer 91, stopped at an interrupt mark; 4 steps'
     sed 's/mode=2/mode=3/' "$here/../examples/difference.capture.txt" > refused.txt
     expect 0 assemble capture refused.txt -o refused.capture
@@ -419,7 +430,8 @@ edited() {
 
 comparisons() {
     expect 0 play all-kinds.sheet -o a
-    expect 0 compare a a
+    cp a b
+    expect 0 compare a b
     says out 'equal'
     "$command" dump a > a.txt
     edited a.txt 's/^quadword 1023 0x00000001/quadword 1023 0x00000000/'
@@ -503,6 +515,11 @@ damaged_files() {
     limit 32 2
     limit 36 65536
     limit "$calls_at" 3
+    sed 's/^capture/capture fill=0/' "$here/../examples/difference.capture.txt" > test-case.txt
+    expect 0 assemble capture test-case.txt -o test-case
+    patched test-case 32 2
+    expect 2 run broken -o broken.out
+    says err 'damaged capture: 2 for whole memories; the most is 1'
     cat difference.capture difference.capture > broken
     expect 2 run broken -o broken.out
     says err 'give a capture of one case'
@@ -643,17 +660,299 @@ bad_texts() {
     echo "texts: each kind of mistake with its line, no output left"
 }
 
-layout
-state_words
-usage
-bench_points
-meanings
-refused_sheets
-examples
-comparisons
-damaged_files
-other_layouts
-bad_texts
-generated_sheets
-generated_captures
+# result_of NAME TEXT, capture_of NAME TEXT: the file of a text.
+result_of() {
+    printf '%b' "$2" > "$1.txt"
+    expect 0 assemble result "$1.txt" -o "$1"
+}
+
+capture_of() {
+    printf '%b' "$2" > "$1.txt"
+    expect 0 assemble capture "$1.txt" -o "$1"
+}
+
+# The entries used are the entries given, where no state line says how many.
+entries_used() {
+    result_of five 'result\nentry 0 MSCAL 5\n'
+    result_of nine 'result\nentry 0 MSCAL 9\n'
+    expect 1 compare five nine
+    says out 'log: 1 entry differs, the first is 0'
+    result_of both 'result\nentry 1 MSCAL 5\nentry 0 MSCAL 5\n'
+    expect 0 dump both
+    says out ' used=2'
+    expect 1 compare five both
+    says out 'only the board has 1 to 1'
+    bad_text result '' 'has entry 2 and no entry 1' 'result\nentry 0 MSCAL 5\nentry 2 MSCAL 5\n'
+    result_of none 'result\nstate used=0\nentry 0 MSCAL 5\nentry 2 MSCAL 5\n'
+    expect 0 dump none
+    says out ' used=0'
+    round result none
+    result_of empty 'result\n'
+    expect 0 compare empty none
+    echo "entries used: those given, without a gap, or as many as a state line says"
+}
+
+# A verdict is given on a finished expectation alone, unless it is asked for.
+unfinished() {
+    result_of done 'result\n'
+    for answer in 5 22 90 91; do
+        result_of stopped "result answer=$answer\n"
+        expect 3 compare stopped done
+        says err "no verdict: stopped is unfinished, its answer is $answer: "
+        if grep -q equal out; then fail 'a verdict'; fi
+        expect 0 compare stopped done --unfinished
+        says out 'equal to an unfinished result'
+        expect 0 compare done stopped
+    done
+    result_of other 'result answer=22\nquadword 3 1 2 3 4\n'
+    expect 1 compare other done --unfinished
+    says out 'different from an unfinished result'
+    printf 'capture\nrun allowance=%s\nend\n' 0 > a.txt
+    expect 0 assemble capture a.txt -o a.capture
+    expect 3 run a.capture -o a
+    capture_of b.capture 'capture\nstart channel=1\nrun allowance=0\nrun\nend\n'
+    expect 0 run b.capture -o b
+    says out 'answer 90, '
+    says out 'answer 0, done; 1 step'
+    capture_of c.capture 'capture\nstart channel=3\nrun allowance=0\nend\n'
+    expect 3 run c.capture -o c
+    capture_of d.capture 'capture\nstart channel=3\nrun\nend\n'
+    expect 1 run d.capture -o d
+    capture_of e.capture 'capture\nstart channel=1\nend\n'
+    expect 3 run e.capture -o e
+    for name in '' build steps meaning run play compare dump assemble; do
+        # shellcheck disable=SC2086
+        expect 0 $name --help
+        says out '0 done or equal, 1 a refusal or a difference, 2 bad usage or file, 3 stopped before the end (90, 91) or'
+    done
+    echo "unfinished: no verdict unless it is asked for; exit status 3, and of several the worst in the order 2, 3, 1, 0"
+}
+
+# What a capture begins with: zeros, lines, raw files, a result; and a fill, as in test cases.
+beginnings() {
+    capture_of zero.capture 'capture\nstart channel=1\nrun\nend\n'
+    expect 0 run zero.capture -o zero.result
+    expect 0 dump zero.result
+    if grep -e '^quadword' -e '^instruction' -e '^entry' out; then fail 'a memory that is not zero at first'; fi
+    capture_of filled.capture 'capture fill=0 log-numbers=8\nstart channel=1\nrun\nend\n'
+    test "$(head -c 4 filled.capture)" = TCAP || fail 'the mark of a test case'
+    "$replay" < filled.capture > results || fail 'a test case for replay'
+    test "$(head -c 4 zero.capture)" = TCA2 || fail 'the mark of a capture'
+    expect 0 run filled.capture -o filled.result
+    expect 0 dump filled.result
+    says out "quadword 1 0x"
+    round capture filled.capture
+    capture_of given.capture 'capture log-numbers=64\nquadword 3 1 -2 3 4\ninstruction 7 0x123\nentry 0 MSCAL 5\nentry 1 PRIM 0\nstart channel=1\nrun\nend\n'
+    round capture given.capture
+    expect 0 run given.capture -o given.result
+    says out 'log: nothing added, 2 used'
+    expect 0 dump given.result
+    says out 'quadword 3 0x00000001 0xFFFFFFFE 0x00000003 0x00000004'
+    says out 'instruction 7 0x0000000000000123'
+    says out 'entry 0 MSCAL 0x0000000000000005'
+    capture_of zeros.capture 'capture\nstate used=1\nquadword 9 0 0 0 0\ninstruction 9 0\nentry 3 PRIM 0\n'
+    round capture zeros.capture
+    bad_text capture '' "has 'fill=' and gives a memory" 'capture fill=0\nquadword 1 1 2 3 4\n'
+    bad_text capture '' "has 'whole=' without 'fill='" 'capture whole=1\n'
+    bad_text capture '' 'damaged capture: 8 words given of data memory; the most is 4' 'capture data-words=4\nquadword 1 1 2 3 4\n'
+    capture_of run.capture 'capture\nrun\n'
+    words run.capture "$calls_at" 4 | grep -q '^ *2 4294967295 4294967295 *0$' || fail 'a run without allowance'
+    words run.capture 40 1 | grep -q '^ *1$' || fail 'no state line: reset'
+    raw_beginnings
+    continued
+    echo "beginnings: zeros, lines, raw files, a result; a fill as before; a run that goes on where one stopped"
+}
+
+raw_beginnings() {
+    head -c $((4 * data_words)) "$command" > raw.data
+    head -c "$code_bytes" "$second" > raw.code
+    { word 256; word 0; word 7; word 0; } > raw.log
+    { word 0x70000000; word 0; word 0; word 0; } > raw.main
+    printf 'capture\nstart channel=1\nrun\n' > raw.txt
+    expect 0 assemble capture raw.txt -o raw.capture --main raw.main --data raw.data --code raw.code --log raw.log
+    round capture raw.capture
+    expect 0 run raw.capture -o raw.result
+    slice raw.result "$result_head" $((4 * data_words)) > got
+    same got raw.data
+    slice raw.result $((result_head + 4 * data_words)) "$code_bytes" > got
+    same got raw.code
+    expect 0 dump raw.result
+    says out ' used=1'
+    says out 'entry 0 MSCAL 0x0000000000000007'
+    printf x >> raw.data
+    expect 2 assemble capture raw.txt -o bad.out --data raw.data
+    says err "raw.data: no dump of data memory: $((4 * data_words + 1)) bytes; it has $((4 * data_words))"
+    printf x >> raw.log
+    expect 2 assemble capture raw.txt -o bad.out --log raw.log
+    says err 'raw.log: no dump of a log'
+    printf 'capture data-words=100000\n' > long.txt
+    head -c 400000 /dev/zero > raw.data
+    expect 2 assemble capture long.txt -o bad.out --data raw.data
+    expect 2 assemble sheet raw.txt -o bad.out --data raw.data
+    expect 2 assemble capture given.capture.txt -o bad.out --code raw.code
+    says err 'has lines for this memory already'
+    absent bad.out
+}
+
+# A capture, what it leaves and what half of it leaves.
+halves() {
+    expect 0 assemble capture "$here/../examples/difference.capture.txt" -o whole.capture
+    expect 0 run whole.capture -o whole.result
+    expect 3 run whole.capture -o half.result --allowance 500
+}
+
+continued() {
+    halves
+    expect 0 run whole.capture --from half.result --no-start -o rest.result
+    says out 'answer 0, done; 542 steps'
+    expect 0 compare whole.result rest.result
+    expect 2 run given.capture --from half.result -o bad.out
+    says err 'has a state or memories of its own'
+    expect 2 run filled.capture --from half.result -o bad.out
+    expect 2 run whole.capture --from missing -o bad.out
+    absent bad.out
+}
+
+# One file given twice, an output that is an input.
+one_file() {
+    halves
+    result_of x 'result\n'
+    cp x y
+    ln -s x link
+    ln x hard
+    for other in x ./x link hard; do
+        expect 2 compare x "$other"
+        says err 'the same file'
+    done
+    expect 2 compare - - < x
+    expect 0 compare x y
+    printf 'start addr=5\n' > sheet.txt
+    expect 0 assemble sheet sheet.txt -o a
+    cp a before
+    ln -s a to-a
+    for other in a ./a to-a; do
+        expect 2 build a -o "$other"
+        says err 'is an input and the output'
+        same a before
+    done
+    expect 2 run whole.capture --from half.result -o half.result
+    expect 2 assemble sheet sheet.txt -o sheet.txt
+    expect 0 build a -o sheet
+    echo "one file: compared with itself, or an input and the output, under any name"
+}
+
+# Links are followed, modes kept, others' files kept, nothing left behind.
+outputs() {
+    printf 'start addr=5\n' > sheet.txt
+    expect 0 assemble sheet sheet.txt -o a
+    expect 0 build a -o wanted
+    echo old > target
+    ln -s target through
+    mkdir -p sub
+    ln -s ../new-target sub/through
+    expect 0 build a -o through
+    expect 0 build a -o sub/through
+    test -h through && test -h sub/through || fail 'a symbolic link was replaced'
+    same target wanted
+    same new-target wanted
+    ln -s round-1 round-2
+    ln -s round-2 round-1
+    expect 2 build a -o round-1
+    echo old > moded
+    chmod 640 moded
+    expect 0 build a -o moded
+    same moded wanted
+    test "$(stat -c %a moded)" = 640 || fail 'the mode was not kept'
+    (umask 027 && "$command" build a -o fresh > /dev/null)
+    test "$(stat -c %a fresh)" = 640 || fail 'the umask was not heeded'
+    echo mine > another.partial
+    cp another.partial kept.partial
+    expect 0 build a -o another
+    same another.partial kept.partial
+    rm kept.partial
+    capture_of refused.capture 'capture\nstart channel=3\nrun\nend\n'
+    expect 2 run refused.capture -o missing-folder/x
+    cp wanted limited
+    (ulimit -f 1 && "$command" play a -o limited > /dev/null 2> err)
+    test $? = 2 || fail 'SIGXFSZ'
+    same limited wanted
+    nothing_partial
+    interrupted
+    echo "outputs: links followed, modes kept, others' files kept; nothing left behind by signals, limits or folders that are not there"
+}
+
+# A signal at the worst moment, just before the rename: a library that is loaded first sends it.
+interrupted() {
+    cat > signal.c <<'END'
+#define _GNU_SOURCE
+#include <dlfcn.h>
+#include <signal.h>
+#include <stdlib.h>
+int rename(const char *from, const char *to)
+{
+    int (*real)(const char *, const char *) = (int (*)(const char *, const char *))dlsym(RTLD_NEXT, "rename");
+    raise(atoi(getenv("SIGNAL_AT_RENAME")));
+    return real(from, to);
+}
+END
+    cc -w -shared -fPIC -o signal.so signal.c -ldl || fail 'signal.c'
+    for number in 1 2 3 15; do
+        mkdir -p clean
+        SIGNAL_AT_RENAME=$number ASAN_OPTIONS=verify_asan_link_order=0:detect_leaks=0 LD_PRELOAD=$work/signal.so "$command" build a -o clean/x > /dev/null 2> err
+        test $? = $((128 + number)) || fail "signal $number: $(cat err)"
+        test "$(ls -A clean)" = x || fail "left behind by signal $number: $(ls -A clean)"
+        same clean/x wanted
+        rm -r clean
+    done
+    nothing_partial
+}
+
+# A file - is standard input or output, and nothing else is written there.
+dashes() {
+    halves
+    printf 'start addr=5\n' > sheet.txt
+    expect 0 assemble sheet sheet.txt -o a
+    expect 0 build a -o wanted
+    "$command" build - -o - < a > got 2> err || fail 'build - -o -'
+    same got wanted
+    says err '48 bytes'
+    "$command" assemble sheet - -o - < sheet.txt > got || fail 'assemble - -o -'
+    same got a
+    expect 0 play a -o a.result
+    "$command" play a -o - > got 2> err || fail 'play -o -'
+    same got a.result
+    says err 'answer 0, done'
+    "$command" meaning a -o - > meant 2> err || fail 'meaning -o -'
+    "$command" compare a.result - < meant > out || fail 'compare with standard input'
+    says out 'equal'
+    "$command" dump - < a.result > out || fail 'dump -'
+    "$command" run - -o - < whole.capture > got 2> err || fail 'run -'
+    same got whole.result
+    "$command" assemble sheet sheet.txt -o - > /dev/full 2> err
+    test $? = 2 || fail 'standard output full'
+    echo "dashes: standard input and output, and nothing else written there"
+}
+
+# What is given twice; and every one of 65,536 differences shown in a moment.
+repeated() {
+    bad_text result 3 'quadword 10 is given twice' 'result\nquadword 10 1 2 3 4\nquadword 10 1 2 3 4\n'
+    bad_text result 3 'instruction 2047 is given twice' 'result\ninstruction 2047 1\ninstruction 0x7FF 1\n'
+    bad_text result 3 'entry 0 is given twice' 'result\nentry 0 1 1\nentry 0 1 2\n'
+    bad_text capture 3 'quadword 10 is given twice' 'capture\nquadword 10 1 2 3 4\nquadword 10 1 2 3 4\n'
+    echo result > long.txt
+    cp long.txt other.txt
+    seq 0 $((entries - 1)) | sed 's/.*/entry & 1 1/' >> long.txt
+    seq 0 $((entries - 1)) | sed 's/.*/entry & 1 2/' >> other.txt
+    expect 0 assemble result long.txt -o long
+    expect 0 assemble result other.txt -o other
+    timeout 10 "$command" compare long other --all > out 2> err
+    test $? = 1 || fail 'compare --all takes long'
+    test "$(grep -c 'log entry' out)" = $entries || fail 'differences left out'
+    echo "repeated: places given twice; $entries differences shown"
+}
+
+for name in ${TESTS:-layout state_words usage bench_points meanings refused_sheets examples comparisons damaged_files other_layouts bad_texts entries_used \
+    unfinished beginnings one_file outputs dashes repeated generated_sheets generated_captures}; do
+    "$name"
+done
 echo "host/test.sh: all as it has to be"
