@@ -17,6 +17,8 @@ enum option {
     OPTION_LOG,
     OPTION_ALL,
     OPTION_UNFINISHED,
+    OPTION_QUIET,
+    OPTION_JSON,
     OPTIONS /* how many */
 };
 

@@ -1,149 +1,99 @@
-/* The command compare. The library finds the first difference of each part and counts; here it is shown. */
+/* The command compare: a board, or a rack of boards, beside a result. */
+#include "compare.h"
+
 #include <inttypes.h>
 #include <stdio.h>
-#include <stdlib.h>
+#include <string.h>
 
-#include "board.h"
 #include "command.h"
-#include "numbers.h"
-#include "verdict.h"
 #include "words.h"
 
-static void show_quadword(const struct board *a, const struct board *b, size_t number)
-{
-    static const char fields[] = "XYZW";
-    printf("  quadword %zu (0x%zX)\n       result                   board                    board - result\n", number, number);
-    for (size_t i = 0; i < 4; i++) {
-        uint32_t x = a->data[4 * number + i], y = b->data[4 * number + i];
-        int64_t counts = signed_word(y - x);
-        printf("    %c  0x%08" PRIX32 " %11" PRId64 "   0x%08" PRIX32 " %11" PRId64, fields[i], x, signed_word(x), y, signed_word(y));
-        if (counts == 0)
-            printf("   same\n");
-        else
-            printf("   %+" PRId64 " %s\n", counts, plural(counts == 1 || counts == -1 ? 1 : 2, "count", "counts"));
-    }
-}
-
-static void show_instruction(const struct board *a, const struct board *b, size_t number)
-{
-    printf("  instruction %zu (0x%zX): result 0x%016" PRIX64 ", board 0x%016" PRIX64 "\n", number, number, get_number(a->code + 8 * number),
-           get_number(b->code + 8 * number));
-}
-
-static void print_entry(const char *who, const struct board *board, size_t number)
-{
-    const uint64_t *entry = board_entry(board, number);
-    uint64_t log_register = entry[TEJBORUN_ENTRY_REGISTER], value = entry[TEJBORUN_ENTRY_VALUE];
-    const char *name = register_name(log_register);
-    printf("    %s register 0x%02" PRIX64 " %s, value 0x%016" PRIX64 " (%" PRIu64 ")\n", who, log_register, name != NULL ? name : "(no name)", value,
-           value);
-}
-
-static void show_entry(const struct board *a, const struct board *b, size_t number)
-{
-    printf("  log entry %zu\n", number);
-    print_entry("result", a, number);
-    print_entry("board ", b, number);
-}
-
-/* How the units of a part are called, and how a difference is shown. */
-struct unit {
-    const char *memory, *one, *many, *differs, *differ;
-    void (*show)(const struct board *, const struct board *, size_t);
+const struct part_words part_words[PARTS] = {
+    [PART_DATA] = {"data memory", "quadword", "quadwords"},
+    [PART_CODE] = {"code memory", "instruction", "instructions"},
+    [PART_LOG] = {"log", "entry", "entries"},
 };
 
-static const struct unit units[PARTS] = {
-    [PART_DATA] = {"data memory", "quadword", "quadwords", "quadword differs", "quadwords differ", show_quadword},
-    [PART_CODE] = {"code memory", "instruction", "instructions", "instruction differs", "instructions differ", show_instruction},
-    [PART_LOG] = {"log", "entry", "entries", "entry differs", "entries differ", show_entry},
+const char *verdict_words(const struct rack *rack, const struct compared *compared)
+{
+    static const char *const finished[VERDICTS] = {"equal", "different", "refused", "no verdict"};
+    static const char *const unfinished[VERDICTS] = {"equal to an unfinished result", "different from an unfinished result", "refused", "no verdict"};
+    if (compared->board == NULL)
+        return "not read";
+    return rack->result->answer == TEJBORUN_DONE ? finished[compared->comparison.verdict] : unfinished[compared->comparison.verdict];
+}
+
+/* Says why there is no verdict on a board. */
+static void complain_of_verdict(const struct rack *rack, const struct compared *compared)
+{
+    const struct comparison *comparison = &compared->comparison;
+    if (comparison->verdict == VERDICT_REFUSED)
+        complain("compare", "%s and %s: refused %" PRIu32 ": %s", rack->name, compared->name, comparison->refusal, meaning_of(comparison->refusal));
+    if (comparison->verdict == VERDICT_UNFINISHED)
+        complain("compare", "%s: no verdict: %s is unfinished, its answer is %" PRIu32 ": %s; --unfinished compares it all the same", compared->name,
+                 rack->name, rack->result->answer, meaning_of(rack->result->answer));
+}
+
+/* How boards are shown. */
+struct view {
+    int (*show)(const struct rack *, const struct compared *);
+    int (*end)(const struct rack *);
 };
 
-/* Shows every difference of a part. A status. */
-static int show_all(const struct board *a, const struct board *b, enum part part, const struct found *found)
+static struct view view_of(const struct words_given *given)
 {
-    size_t *numbers = differing_units(a, b, part, found);
-    if (numbers == NULL)
-        return STATUS_BAD;
-    for (size_t i = 0; i < found->count; i++)
-        units[part].show(a, b, numbers[i]);
-    free(numbers);
-    return STATUS_DONE;
+    if (given->option[OPTION_QUIET] != NULL)
+        return (struct view){NULL, NULL};
+    if (given->option[OPTION_JSON] != NULL)
+        return (struct view){show_json, end_json};
+    return given->count == 2 ? (struct view){show_board, NULL} : (struct view){show_row, show_summary};
 }
 
-static int show_part(const struct board *a, const struct board *b, enum part part, const struct found *found, bool all)
+/* Reads a board, asks for the verdict and shows it. */
+static void compare_board(const struct words_given *given, const struct view *view, const char *name, struct rack *rack)
 {
-    const struct unit *unit = &units[part];
-    if (found->count == 0) {
-        printf("%s: the same, %" PRIu64 " %s compared\n", unit->memory, found->compared, plural(found->compared, unit->one, unit->many));
-        return STATUS_DONE;
+    struct result board;
+    struct compared compared = {.name = name, .status = read_result(name, &board)};
+    if (compared.status == STATUS_DONE) {
+        compared.board = &board;
+        compared.comparison = compare_results(rack->result, &board, given->option[OPTION_UNFINISHED] != NULL);
+        compared.status = status_of_verdict(compared.comparison.verdict);
+        complain_of_verdict(rack, &compared);
     }
-    printf("%s: %" PRIu64 " %s, the first is %" PRIu64 "\n", unit->memory, found->count, plural(found->count, unit->differs, unit->differ), found->first);
-    if (all)
-        return show_all(a, b, part, found);
-    unit->show(a, b, found->first);
-    return STATUS_DONE;
+    rack->status = worse(rack->status, compared.status);
+    if (view->show != NULL)
+        rack->status = worse(rack->status, view->show(rack, &compared));
+    rack->ends[compared.board != NULL ? compared.comparison.verdict : VERDICTS]++;
+    rack->boards++;
+    if (compared.board != NULL)
+        free_board(&board.board);
 }
 
-/* Shows the first entry that only one of the two has. */
-static void show_lengths(const struct board *a, const struct board *b)
+/* The longest name of a board, as far as a column goes. */
+static int longest_name(const struct words_given *given)
 {
-    uint64_t of_a = board_used(a), of_b = board_used(b);
-    if (of_a == of_b)
-        return;
-    const struct board *longer = of_a > of_b ? a : b;
-    uint64_t less = of_a > of_b ? of_b : of_a, more = of_a > of_b ? of_a : of_b;
-    printf("log: the result has %" PRIu64 " %s, the board %" PRIu64 "; only the %s has %" PRIu64 " to %" PRIu64 ", the first of them\n", of_a,
-           plural(of_a, "entry", "entries"), of_b, longer == a ? "result" : "board", less, more - 1);
-    print_entry(longer == a ? "result" : "board ", longer, less);
-}
-
-static void show_answer(const char *name, const struct result *result)
-{
-    printf("%s: answer %" PRIu32 ", %s; %" PRIu64 " %s\n", name, result->answer, meaning_of(result->answer), result->steps,
-           plural(result->steps, "step", "steps"));
-}
-
-/* Shows what differs, and the verdict. A status. */
-static int show_comparison(const struct words_given *given, const struct result *result, const struct result *board, const struct comparison *comparison)
-{
-    int status = STATUS_DONE;
-    show_answer(given->word[0], result);
-    show_answer(given->word[1], board);
-    for (size_t part = 0; part < PARTS; part++)
-        status = worse(status, show_part(&result->board, &board->board, (enum part)part, &comparison->found[part], given->option[OPTION_ALL] != NULL));
-    show_lengths(&result->board, &board->board);
-    if (result->answer == TEJBORUN_DONE)
-        puts(comparison->verdict == VERDICT_EQUAL ? "equal" : "different");
-    else
-        puts(comparison->verdict == VERDICT_EQUAL ? "equal to an unfinished result" : "different from an unfinished result");
-    return status;
-}
-
-static int compare_one(const struct words_given *given, const struct result *result, const struct result *board)
-{
-    struct comparison comparison = compare_results(result, board, given->option[OPTION_UNFINISHED] != NULL);
-    int status = status_of_verdict(comparison.verdict);
-    if (comparison.verdict == VERDICT_REFUSED)
-        complain("compare", "%s and %s: refused %" PRIu32 ": %s", given->word[0], given->word[1], comparison.refusal, meaning_of(comparison.refusal));
-    else if (comparison.verdict == VERDICT_UNFINISHED)
-        complain("compare", "no verdict: %s is unfinished, its answer is %" PRIu32 ": %s; --unfinished compares it all the same", given->word[0],
-                 result->answer, meaning_of(result->answer));
-    else
-        status = worse(status, show_comparison(given, result, board, &comparison));
-    return status;
+    size_t longest = 8;
+    for (size_t i = 1; i < given->count; i++)
+        if (strlen(given->word[i]) > longest)
+            longest = strlen(given->word[i]);
+    return longest < 60 ? (int)longest : 60;
 }
 
 int command_compare(const struct words_given *given)
 {
-    struct result result, board;
+    struct result result;
+    struct view view = view_of(given);
+    struct rack rack = {.name = given->word[0], .result = &result, .all = given->option[OPTION_ALL] != NULL};
+    rack.width = longest_name(given);
+    if (rack.all && view.show == show_row)
+        return complain("compare", "--all shows one board, or several with --json");
     int status = read_result(given->word[0], &result);
     if (status != STATUS_DONE)
         return status;
-    status = read_result(given->word[1], &board);
-    if (status == STATUS_DONE) {
-        status = compare_one(given, &result, &board);
-        free_board(&board.board);
-    }
+    for (size_t i = 1; i < given->count; i++)
+        compare_board(given, &view, given->word[i], &rack);
+    if (view.end != NULL)
+        rack.status = worse(rack.status, view.end(&rack));
     free_board(&result.board);
-    return status;
+    return rack.status;
 }

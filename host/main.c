@@ -28,10 +28,14 @@ static const struct command commands[] = {
      "A refused run is written too, with what its steps left.\n"},
     {"play", 1, 1, 0, TAKES(OPTION_OUTPUT), true, command_play, "play SHEET -o RESULT",
      "Builds the chain of a test sheet at address 0 and runs it from reset on channel 1, over zero memories and an empty log.\n"},
-    {"compare", 2, 2, 0, TAKES(OPTION_ALL) | TAKES(OPTION_UNFINISHED), false, command_compare, "compare RESULT BOARD [--all] [--unfinished]",
-     "Compares data memory, code memory and log of two result files; shows the first difference of each and how many there are.\n"
+    {"compare", 2, SIZE_MAX, 0, TAKES(OPTION_ALL) | TAKES(OPTION_UNFINISHED) | TAKES(OPTION_QUIET) | TAKES(OPTION_JSON), false, command_compare,
+     "compare RESULT BOARD.. [--all] [--unfinished] [--quiet] [--json]",
+     "Compares data memory, code memory and log of boards with those of a result. Of one board it shows the first difference of\n"
+     "each and how many there are; several boards have a row each and a summary.\n"
      "  --all         shows every difference, not only the first of each\n"
      "  --unfinished  compares also where RESULT is of a run that did not end with done (0)\n"
+     "  --quiet       prints no verdict: the exit status has it\n"
+     "  --json        prints JSON\n"
      "Answer and step count are shown and not compared; registers are neither.\n"},
     {"dump", 1, 2, 2, 0, false, command_dump, "dump [KIND] FILE",
      "Prints a file as text (docs/TEXT.md). KIND is sheet, chain, state, capture or result; it may be left out where the file\n"

@@ -22,6 +22,8 @@ static const struct option_shape shapes[OPTIONS] = {
     [OPTION_LOG] = {"--log", "FILE", true},
     [OPTION_ALL] = {"--all", NULL, false},
     [OPTION_UNFINISHED] = {"--unfinished", NULL, false},
+    [OPTION_QUIET] = {"--quiet", NULL, false},
+    [OPTION_JSON] = {"--json", NULL, false},
 };
 
 static bool takes(const struct command *command, size_t option)

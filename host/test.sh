@@ -1,6 +1,6 @@
 #!/bin/sh
 # Tests of the command: sh host/test.sh COMMAND SECOND PROGRAMS [EVERY]
-# COMMAND is the command, SECOND the second program, PROGRAMS the folder of the proved programs (replay is used). Of the generated captures every EVERYth
+# COMMAND is the command, SECOND the second program, PROGRAMS the folder of the proved programs (replay is used); test-forms lies beside the command. Of the generated captures every EVERYth
 # one is tried, the 10th where it is not given, and of the sheets five times as many. Prints what it did and stops at the first thing that is wrong.
 # TESTS=NAMES in the environment makes those tests alone; what they need of others they make themselves.
 # shellcheck disable=SC2046
@@ -15,7 +15,8 @@ case $command in /*) ;; *) command=$PWD/$command ;; esac
 case $second in /*) ;; *) second=$PWD/$second ;; esac
 case $replay in /*) ;; *) replay=$PWD/$replay ;; esac
 here=$(cd "$(dirname "$0")" && pwd)
-for program in "$command" "$second" "$replay"; do
+forms=$(dirname "$command")/test-forms
+for program in "$command" "$second" "$replay" "$forms"; do
     test -x "$program" || { echo "$program is not there" >&2; exit 1; }
 done
 cd "$work" || exit 1
@@ -437,30 +438,34 @@ comparisons() {
     edited a.txt 's/^quadword 1023 0x00000001/quadword 1023 0x00000000/'
     expect 1 compare a board
     says out 'data memory: 1 quadword differs, the first is 1023'
-    says out 'X  0x00000001           1   0x00000000           0   -1 count'
-    says out 'Y  0xFFFFFFFE          -2   0xFFFFFFFE          -2   same'
+    says out 'X  0x00000001           1  1.40129846e-45   0x00000000           0  0                -1 count'
+    says out 'Y  0xFFFFFFFE          -2  nan'
+    says out '       a                                        board                                    board - result'
     says out 'different'
     edited a.txt 's/ 0x80000000$/ 0x7FFFFFFE/'
     expect 1 compare a board
-    says out 'W  0x80000000 -2147483648   0x7FFFFFFE  2147483646   -2 counts'
+    says out 'W  0x80000000 -2147483648  -0               0x7FFFFFFE  2147483646  nan              -2 counts'
     edited a.txt 's/^instruction 1 0x8000033C400002FF/instruction 2000 0xFF/'
     expect 1 compare a board
     says out 'code memory: 2 instructions differ, the first is 1'
-    says out 'instruction 1 (0x1): result 0x8000033C400002FF, board 0x0000000000000000'
+    says out 'instruction 1 (0x1)'
+    says out 'a      0x8000033C400002FF'
+    says out 'board  0x0000000000000000'
     expect 1 compare a board --all
-    says out 'instruction 2000 (0x7D0): result 0x0000000000000000, board 0x00000000000000FF'
+    says out 'instruction 2000 (0x7D0)'
+    says out 'board  0x00000000000000FF'
     edited a.txt 's/^entry 3 TEST_1 .*/entry 3 0xFE 0x10/'
     expect 1 compare a board
     says out 'log: 1 entry differs, the first is 3'
-    says out 'result register 0x47 TEST_1, value 0x000000000005000D'
+    says out 'a      register 0x47 TEST_1, value 0x000000000005000D'
     says out 'board  register 0xFE (no name), value 0x0000000000000010 (16)'
     edited a.txt 's/used=7/used=5/'
     expect 1 compare a board
     says out 'log: the same, 5 entries compared'
-    says out 'the result has 7 entries, the board 5; only the result has 5 to 6'
-    says out 'result register 0x100 MSCAL, value 0x00000000000007FF'
+    says out 'a has 7 entries, board 5; only a has 5 to 6'
+    says out 'a      register 0x100 MSCAL, value 0x00000000000007FF'
     expect 1 compare board a
-    says out 'only the board has 5 to 6'
+    says out 'only a has 5 to 6'
     edited a.txt "s/used=7/used=$((entries + 1))/"
     expect 1 compare a board
     says err 'refused 4: '
@@ -681,7 +686,7 @@ entries_used() {
     expect 0 dump both
     says out ' used=2'
     expect 1 compare five both
-    says out 'only the board has 1 to 1'
+    says out 'only both has 1 to 1'
     bad_text result '' 'has entry 2 and no entry 1' 'result\nentry 0 MSCAL 5\nentry 2 MSCAL 5\n'
     result_of none 'result\nstate used=0\nentry 0 MSCAL 5\nentry 2 MSCAL 5\n'
     expect 0 dump none
@@ -698,7 +703,7 @@ unfinished() {
     for answer in 5 22 90 91; do
         result_of stopped "result answer=$answer\n"
         expect 3 compare stopped done
-        says err "no verdict: stopped is unfinished, its answer is $answer: "
+        says err "done: no verdict: stopped is unfinished, its answer is $answer: "
         if grep -q equal out; then fail 'a verdict'; fi
         expect 0 compare stopped done --unfinished
         says out 'equal to an unfinished result'
@@ -933,6 +938,74 @@ dashes() {
     echo "dashes: standard input and output, and nothing else written there"
 }
 
+# well_formed FORM FILE: the file is json or a page.
+well_formed() {
+    "$forms" "$1" < "$2" 2> err || fail "$2: $(cat err)"
+}
+
+# A rack: an equal board, a different one, one with a shorter log, one that is refused, one that is no result, one that is not there.
+boards() {
+    result_of expected 'result steps=6\nquadword 0 1 2 3 4\nquadword 9 1 2 3 4\ninstruction 5 7\nentry 0 MSCAL 5\nentry 1 PRIM 6\n'
+    cp expected good
+    result_of low 'result\nquadword 0 1 2 3 4\nquadword 9 0 2 3 4\ninstruction 5 8\nentry 0 MSCAL 5\nentry 1 PRIM 7\n'
+    result_of short 'result\nquadword 0 1 2 3 4\nquadword 9 1 2 3 4\ninstruction 5 7\nentry 0 MSCAL 5\n'
+    result_of refused "result\nstate used=$((entries + 1))\n"
+    odd=$(printf 'na"m\\e\t<&>\377')
+    cp good "$odd"
+}
+
+rack() {
+    boards
+    expect 1 compare expected good low short
+    says out 'board     verdict       first difference    how many'
+    says out 'good      equal'
+    says out 'low       different     quadword 9          1 quadword, 1 instruction, 1 entry'
+    says out "short     different     log's length 1, not 2"
+    says out '3 boards beside expected: 1 equal, 2 different'
+    cp good again
+    expect 0 compare expected good again
+    says out '2 boards beside expected: 2 equal'
+    expect 2 compare expected good refused low.txt missing
+    says out 'refused   refused'
+    says out 'low.txt   not read'
+    says out '4 boards beside expected: 1 equal, 1 refused, 2 not read'
+    expect 1 compare expected good refused
+    result_of stopped 'result answer=90\n'
+    expect 3 compare stopped good low
+    says out '2 boards beside stopped: 2 no verdict'
+    expect 2 compare expected good good
+    expect 2 compare expected good low --all
+    expect 0 compare expected good again --quiet
+    test ! -s out || fail '--quiet says something'
+    expect 1 compare expected good low --quiet
+    test ! -s out || fail '--quiet says something'
+    expect 2 compare expected good missing --quiet
+    rack_json
+    echo "rack: a row a board, the summary, the worst status; quiet; JSON, well formed with any file name"
+}
+
+rack_json() {
+    for words in 'good' 'good low short' 'low --all' 'good low short --all'; do
+        # shellcheck disable=SC2086
+        "$command" compare expected $words --json > out 2> err
+        well_formed json out
+    done
+    says out '"data": {"compared": 1024, "different": 1, "differences": ['
+    says out '{"number": 9, "result": ["0x00000001", "0x00000002", "0x00000003", "0x00000004"], "board": ["0x00000000", "0x00000002", "0x00000003", "0x00000004"]}'
+    says out '{"number": 1, "result": {"register": 0, "value": "0x0000000000000006"}, "board": {"register": 0, "value": "0x0000000000000007"}}'
+    says out '"result_entries": 2, "board_entries": 1'
+    says out '"summary": {"boards": 3, "equal": 1, "different": 2, "refused": 0, "no_verdict": 0, "not_read": 0}'
+    says out '"status": 1'
+    expect 2 compare expected "$odd" refused missing --json
+    well_formed json out
+    says out '"na\"m\\e\u0009<&>\uFFFD"'
+    says out '"verdict": "refused", "status": 1, "refusal": 4'
+    says out '"verdict": "not read", "status": 2'
+    "$command" compare stopped good --unfinished --json > out 2> err
+    well_formed json out
+    says out '"verdict": "different from an unfinished result"'
+}
+
 # What is given twice; and every one of 65,536 differences shown in a moment.
 repeated() {
     bad_text result 3 'quadword 10 is given twice' 'result\nquadword 10 1 2 3 4\nquadword 10 1 2 3 4\n'
@@ -952,7 +1025,7 @@ repeated() {
 }
 
 for name in ${TESTS:-layout state_words usage bench_points meanings refused_sheets examples comparisons damaged_files other_layouts bad_texts entries_used \
-    unfinished beginnings one_file outputs dashes repeated generated_sheets generated_captures}; do
+    unfinished beginnings one_file outputs dashes repeated rack generated_sheets generated_captures}; do
     "$name"
 done
 echo "host/test.sh: all as it has to be"

@@ -9,6 +9,7 @@ enum verdict {
     VERDICT_DIFFERENT,
     VERDICT_REFUSED,    /* the library does not compare these two */
     VERDICT_UNFINISHED, /* none: the result is of a run that did not end with done */
+    VERDICTS            /* how many */
 };
 
 /* What was found in a part: how many units differ, and the first of them. */
