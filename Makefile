@@ -8,7 +8,7 @@ ARCHIVE = target/staticlib/libtejborun.a
 CC = cc
 CFLAGS = -std=c11 -Wall -Wextra -Werror -O2
 SANITIZE = -g -fsanitize=address,undefined -fno-sanitize-recover=all
-HOST = host/main.c host/options.c host/files.c host/output.c host/numbers.c host/words.c host/text.c host/fields.c host/shapes.c host/state_shape.c host/kinds.c host/board.c \
+HOST = host/main.c host/options.c host/files.c host/output.c host/numbers.c host/words.c host/message.c host/text.c host/fields.c host/shapes.c host/state_shape.c host/kinds.c host/board.c \
 	host/result.c host/capture.c host/sheet.c host/run.c host/changes.c host/raw.c host/verdict.c host/compare.c host/compare_show.c host/compare_rack.c \
 	host/compare_json.c host/json.c host/roles.c host/dump.c host/dump_sheet.c host/dump_words.c \
 	host/dump_chain.c host/dump_result.c host/assemble.c host/assemble_sheet.c host/assemble_memory.c host/assemble_board.c \
@@ -61,7 +61,7 @@ command:
 # The tests of the command and of the C interface; the programs of the proved crates and the second program have been built.
 host-test: host
 	$(CC) $(CFLAGS) $(SANITIZE) -o build/tejborun-sanitized $(HOST) $(ARCHIVE)
-	$(CC) $(CFLAGS) $(SANITIZE) -o build/host-test host/test.c $(ARCHIVE)
+	$(CC) $(CFLAGS) $(SANITIZE) -o build/host-test host/test.c host/message.c $(ARCHIVE)
 	$(CC) $(CFLAGS) -o build/test-forms host/test_forms.c host/json.c
 	build/host-test
 	sh host/test.sh build/tejborun $(SECOND) target/bin

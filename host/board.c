@@ -50,7 +50,7 @@ uint32_t *board_block(struct board *board)
 
 uint64_t board_used(const struct board *board)
 {
-    return join_words(board->state.chain.used);
+    return tejborun_used(&board->state);
 }
 
 void set_board_used(struct board *board, uint64_t used)

@@ -28,10 +28,10 @@ static void complain_of_verdict(const struct rack *rack, const struct compared *
 {
     const struct comparison *comparison = &compared->comparison;
     if (comparison->verdict == VERDICT_REFUSED)
-        complain("compare", "%s and %s: refused %" PRIu32 ": %s", rack->name, compared->name, comparison->refusal, meaning_of(comparison->refusal));
+        complain("compare", "%s and %s: refused %" PRIu32 ": %s", rack->name, compared->name, comparison->refusal, tejborun_message(comparison->refusal));
     if (comparison->verdict == VERDICT_UNFINISHED)
         complain("compare", "%s: no verdict: %s is unfinished, its answer is %" PRIu32 ": %s; --unfinished compares it all the same", compared->name,
-                 rack->name, rack->result->answer, meaning_of(rack->result->answer));
+                 rack->name, rack->result->answer, tejborun_message(rack->result->answer));
 }
 
 /* How boards are shown. */

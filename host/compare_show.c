@@ -139,7 +139,7 @@ static void show_lengths(const struct pair *pair)
 
 static void show_answer(const char *name, const struct result *result)
 {
-    printf("%s: answer %" PRIu32 ", %s; %" PRIu64 " %s\n", name, result->answer, meaning_of(result->answer), result->steps,
+    printf("%s: answer %" PRIu32 ", %s; %" PRIu64 " %s\n", name, result->answer, tejborun_message(result->answer), result->steps,
            plural(result->steps, "step", "steps"));
 }
 

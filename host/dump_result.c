@@ -12,7 +12,7 @@ static void print_head(const struct result *result)
 {
     const struct result_head head = result_head_of(result);
     print_block(stdout, &result_heads[0], (const uint32_t *)&head);
-    printf("  # %s\n", meaning_of(result->answer));
+    printf("  # %s\n", tejborun_message(result->answer));
 }
 
 void print_data(const struct board *board, size_t end, bool last)

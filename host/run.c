@@ -22,7 +22,7 @@ static int status_of(uint32_t answer)
 
 static void print_run(uint32_t answer, uint64_t steps)
 {
-    say("answer %" PRIu32 ", %s%s; %" PRIu64 " %s\n", answer, status_of(answer) == STATUS_REFUSED ? "refused: " : "", meaning_of(answer), steps,
+    say("answer %" PRIu32 ", %s%s; %" PRIu64 " %s\n", answer, status_of(answer) == STATUS_REFUSED ? "refused: " : "", tejborun_message(answer), steps,
         plural(steps, "step", "steps"));
 }
 
@@ -30,7 +30,7 @@ static uint32_t make_start(size_t number, const uint32_t *words, struct board *b
 {
     uint32_t answer = tejborun_start(board_block(board), TEJBORUN_BLOCK_WORDS, words[1], words[2], words[3]);
     say("call %zu, start on channel %" PRIu32 " at 0x%" PRIX32 ", TTE %" PRIu32 ": answer %" PRIu32 ", %s%s\n", number, words[1], words[2], words[3],
-        answer, answer == TEJBORUN_DONE ? "started" : "refused: ", answer == TEJBORUN_DONE ? "" : meaning_of(answer));
+        answer, answer == TEJBORUN_DONE ? "started" : "refused: ", answer == TEJBORUN_DONE ? "" : tejborun_message(answer));
     return answer;
 }
 

@@ -24,7 +24,7 @@ bool is_sheet_refusal(uint32_t answer)
 
 int sheet_refused(const char *name, uint32_t refusal, uint64_t offset)
 {
-    complain(name, "refused %" PRIu32 " at offset %" PRIu64 ": %s", refusal, offset, meaning_of(refusal));
+    complain(name, "refused %" PRIu32 " at offset %" PRIu64 ": %s", refusal, offset, tejborun_message(refusal));
     return STATUS_REFUSED;
 }
 

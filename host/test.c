@@ -768,7 +768,8 @@ static void test_compare(bool end)
     free_pair(&pair);
     new_pair(&pair, &six, &six, end);
     pair.used[0] = 4;
-    CHECK(call_compare(&pair) == TEJBORUN_DIFFERENT && numbers(&pair.result)[4] == 3 && numbers(&pair.result)[5] == 0);
+    result = numbers(&pair.result);
+    CHECK(call_compare(&pair) == TEJBORUN_DIFFERENT && result[1] == 0 && result[3] == 0 && result[4] == 3 && result[5] == 0);
     free_pair(&pair);
 }
 
@@ -795,6 +796,34 @@ static void test_wrong_compare(bool end)
     free_pair(&pair);
 }
 
+/* Every answer has a message of its own, and every other number the same one. */
+static void test_messages(void)
+{
+    static const uint32_t answers[] = {
+        TEJBORUN_DONE,       TEJBORUN_BAD_MAIN,    TEJBORUN_BAD_DATA,   TEJBORUN_BAD_CODE,   TEJBORUN_BAD_LOG,        TEJBORUN_BAD_VALUE,
+        TEJBORUN_BAD_TADR,   TEJBORUN_BAD_ADDR,    TEJBORUN_BAD_SPR,    TEJBORUN_BAD_CALL,   TEJBORUN_BAD_PAYLOAD,    TEJBORUN_BAD_CMD,
+        TEJBORUN_BAD_FORMAT, TEJBORUN_BAD_CYCLE,   TEJBORUN_BAD_MODE,   TEJBORUN_BAD_DIRECT, TEJBORUN_BAD_DESCRIPTOR, TEJBORUN_LOG_FULL,
+        TEJBORUN_BAD_MARK,   TEJBORUN_BAD_KIND,    TEJBORUN_BAD_COUNT,  TEJBORUN_BAD_ADDRESS, TEJBORUN_CUT_RECORD,    TEJBORUN_BAD_PAD,
+        TEJBORUN_LONG_SHEET, TEJBORUN_LONG_CHAIN,  TEJBORUN_SHORT,      TEJBORUN_ALLOWANCE,  TEJBORUN_INTERRUPT,
+    };
+    enum { ANSWERS = sizeof answers / sizeof answers[0] };
+    const char *none = tejborun_message(UINT32_MAX);
+    size_t meant = 0;
+    for (uint32_t number = 0; number < 70000; number++)
+        meant += strcmp(tejborun_message(number), none) != 0;
+    CHECK(meant == ANSWERS);
+    for (size_t i = 0; i < ANSWERS; i++)
+        for (size_t j = 0; j < i; j++)
+            CHECK(strcmp(tejborun_message(answers[i]), tejborun_message(answers[j])) != 0 && strcmp(tejborun_message(answers[i]), none) != 0);
+}
+
+static void test_used(void)
+{
+    struct tejborun_state held = {.chain.used = {UINT32_C(0x89ABCDEF), UINT32_C(0x01234567)}};
+    CHECK(tejborun_used(&held) == UINT64_C(0x0123456789ABCDEF));
+    CHECK(tejborun_reset((uint32_t *)&held, TEJBORUN_BLOCK_WORDS) == TEJBORUN_DONE && tejborun_used(&held) == 0);
+}
+
 int main(void)
 {
     for (int end = 0; end < 2; end++) {
@@ -815,6 +844,8 @@ int main(void)
     }
     test_unit_words();
     test_path_words();
+    test_messages();
+    test_used();
     puts("C interface: every function with good, short and wrong buffers, guard pages behind and before them: as the header says");
     puts("state block: every word under its name");
     return 0;

@@ -4,9 +4,6 @@
 
 #include <stdint.h>
 
-/* The meaning of an answer or refusal; it holds until the next call. */
-const char *meaning_of(uint32_t answer);
-
 /* The name of a register of the log; null where it has none. */
 const char *register_name(uint64_t number);
 
