@@ -38,6 +38,13 @@ static bool raw_option(const struct words_given *given)
     return false;
 }
 
+/* The bytes of a byte order mark, which some editors write first. */
+static size_t order_mark(const struct bytes *file)
+{
+    static const uint8_t mark[3] = {0xEF, 0xBB, 0xBF};
+    return file->count >= sizeof mark && memcmp(file->at, mark, sizeof mark) == 0 ? sizeof mark : 0;
+}
+
 int command_assemble(const struct words_given *given)
 {
     const struct kind *kind = find_kind(given->word[0]);
@@ -50,7 +57,7 @@ int command_assemble(const struct words_given *given)
     int status = read_file(name, TEXT_READ_BYTES, &file);
     if (status != STATUS_DONE)
         return status;
-    struct text text = {.name = name, .given = given, .next = (char *)file.at};
+    struct text text = {.name = name, .given = given, .next = (char *)file.at + order_mark(&file)};
     struct output output = {0};
     if (memchr(file.at, 0, file.count) != NULL)
         status = complain(name, "no text: it has a zero byte");

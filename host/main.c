@@ -96,6 +96,16 @@ static int call(const struct command *command, int count, char **words)
     return status;
 }
 
+static int unknown_command(const char *name)
+{
+    char known[256] = "";
+    for (size_t i = 0; i < COMMANDS; i++) {
+        strcat(known, i > 0 ? ", " : "");
+        strcat(known, commands[i].name);
+    }
+    return complain(name, "no such command; known are %s; see tejborun --help", known);
+}
+
 static int perform(int count, char **words)
 {
     if (count == 0) {
@@ -108,7 +118,7 @@ static int perform(int count, char **words)
     }
     const struct command *command = find_command(words[0]);
     if (command == NULL)
-        return complain(words[0], "no such command; see tejborun --help");
+        return unknown_command(words[0]);
     return wants_help(count - 1, words + 1) ? print_command_help(command) : call(command, count - 1, words + 1);
 }
 

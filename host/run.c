@@ -3,10 +3,12 @@
 #include <stdlib.h>
 #include <string.h>
 
+#include "blame.h"
 #include "board.h"
 #include "capture.h"
 #include "changes.h"
 #include "command.h"
+#include "kinds.h"
 #include "numbers.h"
 #include "sheet.h"
 #include "tejborun.h"
@@ -31,6 +33,8 @@ static uint32_t make_start(size_t number, const uint32_t *words, struct board *b
     uint32_t answer = tejborun_start(board_block(board), TEJBORUN_BLOCK_WORDS, words[1], words[2], words[3]);
     say("call %zu, start on channel %" PRIu32 " at 0x%" PRIX32 ", TTE %" PRIu32 ": answer %" PRIu32 ", %s%s\n", number, words[1], words[2], words[3],
         answer, answer == TEJBORUN_DONE ? "started" : "refused: ", answer == TEJBORUN_DONE ? "" : tejborun_message(answer));
+    if (answer == TEJBORUN_BAD_VALUE)
+        blame_start(&board->state, words);
     return answer;
 }
 
@@ -49,6 +53,8 @@ static void make_run(size_t number, uint64_t allowance, const struct lent *lent,
     result->steps = steps;
     say("call %zu, run with allowance %" PRIu64 ": ", number, allowance);
     print_run(result->answer, steps);
+    if (result->answer == TEJBORUN_BAD_VALUE)
+        blame_state(&board->state);
 }
 
 /* Makes the calls. The status: of a refusal, and of the last run where it stopped before the end; a capture without a run stops there too. */
@@ -141,6 +147,8 @@ static int play_sheet(const struct words_given *given, const struct bytes *sheet
                                             board->code_bytes, board->log, board->log_numbers, board_block(board), TEJBORUN_BLOCK_WORDS, UINT64_MAX,
                                             numbers, 2);
     free(main);
+    if (is_sheet_refusal(result->answer) && is_text(sheet))
+        complain(given->word[0], "it is text; assemble it first: tejborun assemble sheet %s -o SHEET", given->word[0]);
     if (is_sheet_refusal(result->answer))
         return sheet_refused(given->word[0], result->answer, numbers[1]);
     result->steps = numbers[0];

@@ -6,6 +6,7 @@
 
 #include "board.h"
 #include "command.h"
+#include "kinds.h"
 #include "tejborun.h"
 #include "words.h"
 
@@ -34,6 +35,8 @@ static int count_steps(const char *name, const struct bytes *sheet, uint64_t *st
     uint64_t numbers[2] = {0};
     uint32_t answer = tejborun_steps(sheet->at, sheet->count, numbers, 2);
     *steps = numbers[0];
+    if (answer != TEJBORUN_DONE && is_text(sheet))
+        complain(name, "it is text; assemble it first: tejborun assemble sheet %s -o SHEET", name);
     return answer == TEJBORUN_DONE ? STATUS_DONE : sheet_refused(name, answer, numbers[1]);
 }
 

@@ -150,11 +150,12 @@ usage() {
         says err "usage: tejborun $name"
         expect 2 "$name" --nonsense
         says err 'unknown option --nonsense'
+        case $name in run) says err '; known are -o, --output, --allowance, --from, --no-start' ;; esac
         expect 2 "$name" a b c d
     done
     expect 2
     expect 2 nonsense
-    says err 'no such command'
+    says err 'no such command; known are build, steps, meaning, run, play, compare, dump, assemble'
     expect 2 build a.sheet
     says err 'say with -o where to write'
     expect 2 build a.sheet -o
@@ -471,7 +472,7 @@ comparisons() {
     says err 'refused 4: '
     expect 2 compare a missing
     expect 2 compare a a.txt
-    says err 'a.txt: no result'
+    says err 'a.txt: no result, but text; assemble it first: tejborun assemble result a.txt -o FILE'
     echo "comparisons: equal; a field, an instruction, a log entry, the number of entries; refused; every difference"
 }
 
@@ -622,10 +623,10 @@ bad_texts() {
     bad_text sheet 2 "'4294967296' is no word" 'data addr=1\nvector 1 2 3 4294967296\n'
     bad_text sheet 2 "'-2147483649' is no word" 'data addr=1\nvector 1 2 3 -2147483649\n'
     bad_text sheet 1 'addr=65536: the field has 16 bits' 'data addr=65536\n'
-    bad_text sheet 1 "'data' has no field 'adr'" 'data adr=5\n'
+    bad_text sheet 1 "'data' has no field 'adr'; it has addr" 'data adr=5\n'
     bad_text sheet 1 "'addr' is given twice" 'data addr=5 addr=5\n'
     bad_text sheet 1 "'5' after 'data': expected field=value" 'data 5\n'
-    bad_text sheet 2 "'NAME' is no register" 'gs\nwrite NAME 1\n'
+    bad_text sheet 2 "'NAME' is no register: give a number or one of PRIM, RGBAQ, " 'gs\nwrite NAME 1\n'
     bad_text sheet 2 'register MSCAL has no place in a byte' 'gs\nwrite MSCAL 1\n'
     bad_text sheet 2 "'0x10000000000000000' is no number of 64 bits" 'code addr=0\ninstruction 0x10000000000000000\n'
     bad_text sheet 1 "'256' is no number of 8 bits" 'byte 1 256\n'
@@ -636,9 +637,12 @@ bad_texts() {
     bad_text chain 2 "'NOP' at 0x1: it begins at a multiple of 4" 'byte 1\nNOP\n'
     bad_text chain 1 'qwc=65536: the field has 16 bits' 'cnt qwc=65536\n'
     bad_text chain 1 'format=V5-32: the field has 4 bits' 'UNPACK format=V5-32\n'
+    says err 'or one of S-32, S-16, S-8, V2-32, V2-16, V2-8, V3-32, V3-16, V3-8, V4-32, V4-16, V4-8, V4-5'
     bad_text chain 2 'at 0x4: the lines before reach 0x10 already' 'end\nat 4\n'
     bad_text chain 1 'at 0xFFFFFFFFFFFFFFFF: main memory ends' 'at 0xFFFFFFFFFFFFFFFF\n'
-    bad_text chain 1 "'vector' is no tag, code, giftag, word, byte or at" 'vector 1 2 3 4\n'
+    bad_text chain 1 "'vector' is no tag (refe, cnt, next, ref, refs, call, ret, end), code (NOP, STCYCL, " 'vector 1 2 3 4\n'
+    bad_text capture 2 "'vector' is no tag (refe, " 'capture\nvector 1 2 3 4\n'
+    says err ', giftag, word, byte or at, and no capture, state, quadword, instruction, entry, start or run'
     bad_text chain '' 'makes 4 bytes; a chain is whole quadwords' 'NOP\n'
     bad_text chain '' 'makes 0 bytes' '\n# nothing\n'
     bad_text chain '' 'makes 1048592 bytes' 'at 0x100010\n'
@@ -1006,6 +1010,38 @@ rack_json() {
     says out '"verdict": "different from an unfinished result"'
 }
 
+# refused_value WORDS TEXT: a capture of the text is refused with 5, which names the fields.
+refused_value() {
+    capture_of five.capture "capture\n$2\nend\n"
+    "$command" run five.capture -o five > out 2> err
+    says out "  out of its range: $1"
+}
+
+messages() {
+    refused_value 'start channel=3' 'start channel=3\nrun'
+    refused_value 'start channel=2, or start tte=1' 'start channel=2 tte=1'
+    refused_value 'start tadr=0x8' 'start channel=1 tadr=8'
+    refused_value 'state mode=3' 'state mode=3\nrun'
+    refused_value 'state mode=3' 'state mode=3\nstart channel=1'
+    refused_value 'state waiting=UNPACK' 'state waiting=UNPACK due=1\nrun'
+    refused_value "more than one field of 'state'" 'state mode=3 dbf=2\nrun'
+    expect 2 run "$here/../examples/difference.capture.txt" -o x
+    says err 'no capture, but text; assemble it first: tejborun assemble capture '
+    for name in build meaning play; do
+        expect 1 "$name" "$here/../examples/all-kinds.sheet.txt" -o x
+        says err 'it is text; assemble it first: tejborun assemble sheet '
+    done
+    expect 2 dump "$here/../examples/all-kinds.sheet.txt"
+    says err 'it is text already'
+    printf '\357\273\277start addr=5\n' > marked.txt
+    printf 'start addr=5\n' > plain.txt
+    expect 0 assemble sheet marked.txt -o marked
+    expect 0 assemble sheet plain.txt -o plain
+    same marked plain
+    absent x
+    echo "messages: the fields of refusal 5, text in place of a file, a byte order mark"
+}
+
 # What is given twice; and every one of 65,536 differences shown in a moment.
 repeated() {
     bad_text result 3 'quadword 10 is given twice' 'result\nquadword 10 1 2 3 4\nquadword 10 1 2 3 4\n'
@@ -1025,7 +1061,7 @@ repeated() {
 }
 
 for name in ${TESTS:-layout state_words usage bench_points meanings refused_sheets examples comparisons damaged_files other_layouts bad_texts entries_used \
-    unfinished beginnings one_file outputs dashes repeated rack generated_sheets generated_captures}; do
+    unfinished beginnings one_file outputs dashes repeated rack messages generated_sheets generated_captures}; do
     "$name"
 done
 echo "host/test.sh: all as it has to be"

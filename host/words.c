@@ -1,7 +1,6 @@
 /* The meanings of numbers in words. */
 #include "words.h"
 
-#include <stddef.h>
 #include <string.h>
 
 struct named {
@@ -37,6 +36,11 @@ int register_named(const char *name)
         if (strcmp(registers[i].name, name) == 0)
             return registers[i].number;
     return -1;
+}
+
+const char *listed_register(size_t place)
+{
+    return place < sizeof registers / sizeof registers[0] ? registers[place].name : NULL;
 }
 
 const char *descriptor_name(unsigned descriptor)
