@@ -19,14 +19,14 @@ static const struct command commands[] = {
     {"steps", 1, 1, 0, 0, false, command_steps, "steps SHEET", "Says how many steps the chain of a test sheet takes.\n"},
     {"meaning", 1, 1, 0, TAKES(OPTION_OUTPUT), true, command_meaning, "meaning SHEET -o RESULT",
      "Writes what the sheet says a board holds afterwards: its records fed to zero memories and an empty log.\n"},
-    {"run", 1, 1, 0, TAKES(OPTION_OUTPUT) | TAKES(OPTION_ALLOWANCE) | TAKES(OPTION_FROM) | TAKES(OPTION_NO_START), true, command_run,
-     "run CAPTURE -o RESULT [--allowance N] [--from RESULT] [--no-start]",
+    {"run", 1, 1, 0, TAKES(OPTION_OUTPUT) | TAKES(OPTION_ALLOWANCE) | TAKES(OPTION_FROM) | TAKES(OPTION_NO_START), false, command_run,
+     "run CAPTURE [-o RESULT] [--allowance N] [--from RESULT] [--no-start]",
      "Makes the calls of a capture and writes what the last one leaves, with the last run's answer and step count.\n"
      "  --allowance N  the step allowance of each run, in place of the capture's\n"
      "  --from RESULT  begins with the state, memories and log of a result, in place of the capture's zeros\n"
      "  --no-start     leaves the capture's starts out: with --from a run goes on where it stopped\n"
-     "A refused run is written too, with what its steps left.\n"},
-    {"play", 1, 1, 0, TAKES(OPTION_OUTPUT), true, command_play, "play SHEET -o RESULT",
+     "A refused run is written too, with what its steps left, and so is one that Ctrl-C stops, as if its allowance were used.\n"},
+    {"play", 1, 1, 0, TAKES(OPTION_OUTPUT), false, command_play, "play SHEET [-o RESULT]",
      "Builds the chain of a test sheet at address 0 and runs it from reset on channel 1, over zero memories and an empty log.\n"},
     {"compare", 2, SIZE_MAX, 0, TAKES(OPTION_ALL) | TAKES(OPTION_UNFINISHED) | TAKES(OPTION_QUIET) | TAKES(OPTION_JSON), false, command_compare,
      "compare RESULT BOARD.. [--all] [--unfinished] [--quiet] [--json]",

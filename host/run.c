@@ -10,6 +10,7 @@
 #include "command.h"
 #include "kinds.h"
 #include "numbers.h"
+#include "progress.h"
 #include "sheet.h"
 #include "tejborun.h"
 #include "words.h"
@@ -44,24 +45,45 @@ struct lent {
     size_t main_bytes;
 };
 
-static void make_run(size_t number, uint64_t allowance, const struct lent *lent, struct result *result)
+/* A long run is made in slices of so many steps, each on what the one before left; to the library that is one run (chain Theorems.run-from). */
+enum { SLICE = 1 << 20 };
+
+/* Runs for at most so many steps, or until it is interrupted. */
+static void run_slices(uint64_t allowance, const struct lent *lent, struct result *result)
 {
     struct board *board = &result->board;
-    uint64_t steps = 0;
-    result->answer = tejborun_run(lent->main, lent->main_bytes, board->data, board->data_words, board->code, board->code_bytes, board->log,
-                                  board->log_numbers, board_block(board), TEJBORUN_BLOCK_WORDS, allowance, &steps, 1);
-    result->steps = steps;
-    say("call %zu, run with allowance %" PRIu64 ": ", number, allowance);
-    print_run(result->answer, steps);
+    result->steps = 0;
+    do {
+        uint64_t rest = allowance - result->steps, steps = 0;
+        result->answer = tejborun_run(lent->main, lent->main_bytes, board->data, board->data_words, board->code, board->code_bytes, board->log,
+                                      board->log_numbers, board_block(board), TEJBORUN_BLOCK_WORDS, rest < SLICE ? rest : SLICE, &steps, 1);
+        result->steps += steps;
+        show_progress(result->steps);
+    } while (result->answer == TEJBORUN_ALLOWANCE && result->steps < allowance && !is_interrupted());
+    end_progress();
+}
+
+static void make_run(size_t number, uint64_t allowance, const struct lent *lent, struct result *result)
+{
+    run_slices(allowance, lent, result);
+    if (allowance == UINT64_MAX)
+        say("call %zu, run without limit: ", number);
+    else
+        say("call %zu, run with allowance %" PRIu64 ": ", number, allowance);
+    if (is_interrupted() && result->answer == TEJBORUN_ALLOWANCE)
+        say("interrupted after %" PRIu64 " %s\n", result->steps, plural(result->steps, "step", "steps"));
+    else
+        print_run(result->answer, result->steps);
     if (result->answer == TEJBORUN_BAD_VALUE)
-        blame_state(&board->state);
+        blame_state(&result->board.state);
 }
 
 /* Makes the calls. The status: of a refusal, and of the last run where it stopped before the end; a capture without a run stops there too. */
 static int make_calls(const struct words_given *given, const struct capture *capture, const struct lent *lent, struct result *result)
 {
     int status = STATUS_DONE, last = STATUS_STOPPED;
-    for (size_t i = 0; i < capture->head.calls; i++) {
+    watch_interrupts();
+    for (size_t i = 0; i < capture->head.calls && !is_interrupted(); i++) {
         const uint32_t *words = capture->call[i].words;
         uint64_t allowance = given->option[OPTION_ALLOWANCE] != NULL ? given->allowance : join_words(words + 1);
         if (words[0] == 1 && given->option[OPTION_NO_START] != NULL)
@@ -74,7 +96,8 @@ static int make_calls(const struct words_given *given, const struct capture *cap
         last = status_of(result->answer);
         status = worse(status, last == STATUS_STOPPED ? STATUS_DONE : last);
     }
-    return worse(status, last);
+    unwatch_interrupts();
+    return worse(status, is_interrupted() ? STATUS_STOPPED : last);
 }
 
 /* Writes what the calls left, where a result is wanted. */

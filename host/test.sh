@@ -1042,6 +1042,41 @@ messages() {
     echo "messages: the fields of refusal 5, text in place of a file, a byte order mark"
 }
 
+# Runs of several slices; an endless chain, stopped by Ctrl-C, that goes on afterwards.
+long_runs() {
+    printf 'start channel=1\nrun allowance=2500000\nnext addr=0\n' > endless.txt
+    { echo 'capture fill=7 whole=1 main-bytes=16 log-numbers=8'; cat endless.txt; } > case.txt
+    expect 0 assemble capture case.txt -o case
+    "$replay" < case > results || fail 'replay'
+    replayed "$data_words" "$code_bytes" 8 2
+    expect 3 run case -o result
+    wanted_result results "$block" > wanted
+    same result wanted 'a run of 2,500,000 steps'
+    says out 'answer 90, the step allowance is used; 2500000 steps'
+    { printf 'capture\n'; sed 's/ allowance.*//' endless.txt; } > endless.capture.txt
+    expect 0 assemble capture endless.capture.txt -o endless.capture
+    timeout --preserve-status -k 20 -s INT 1 "$command" run endless.capture -o stopped.result > out 2> err
+    test $? = 3 || fail "Ctrl-C: $(cat err)"
+    says out 'run without limit: interrupted after '
+    test ! -s err || fail 'progress where there is no terminal'
+    expect 0 dump stopped.result
+    says out 'result answer=90'
+    expect 3 run endless.capture --from stopped.result --no-start -o further.result --allowance 100
+    says out 'answer 90, the step allowance is used; 100 steps'
+    expect 3 compare stopped.result further.result
+    expect 3 run endless.capture --allowance 5
+    expect 0 play start.sheet
+    progress_shown
+    echo "long runs: several slices are one run; Ctrl-C stops an endless chain, which goes on from what it left; progress on a terminal alone"
+}
+
+# On a terminal steps and rate are shown; script, where it is there, gives one.
+progress_shown() {
+    command -v script > /dev/null || return 0
+    timeout -k 20 -s INT 3 script -qec "$command run endless.capture -o shown.result" typescript > /dev/null 2>&1 < /dev/null
+    grep -q ' steps, [0-9.]* million a second; Ctrl-C stops' typescript || fail 'no progress on a terminal'
+}
+
 # What is given twice; and every one of 65,536 differences shown in a moment.
 repeated() {
     bad_text result 3 'quadword 10 is given twice' 'result\nquadword 10 1 2 3 4\nquadword 10 1 2 3 4\n'
@@ -1061,7 +1096,7 @@ repeated() {
 }
 
 for name in ${TESTS:-layout state_words usage bench_points meanings refused_sheets examples comparisons damaged_files other_layouts bad_texts entries_used \
-    unfinished beginnings one_file outputs dashes repeated rack messages generated_sheets generated_captures}; do
+    unfinished beginnings one_file outputs dashes repeated rack messages long_runs generated_sheets generated_captures}; do
     "$name"
 done
 echo "host/test.sh: all as it has to be"
