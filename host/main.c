@@ -9,6 +9,8 @@
 
 #include "command.h"
 #include "files.h"
+#include "identity.h"
+#include "tejborun.h"
 
 #define STATUSES                                                                                                            \
     "Exit status: 0 done or equal, 1 a refusal or a difference, 2 bad usage or file, 3 stopped before the end (90, 91) or\n" \
@@ -54,7 +56,8 @@ static void print_help(FILE *out)
     fputs("tejborun: what a DMA transfer leaves in the memories behind VIF1 and the GIF\n\nusage:\n", out);
     for (size_t i = 0; i < COMMANDS; i++)
         fprintf(out, "  tejborun %s\n", commands[i].usage);
-    fputs("  tejborun COMMAND --help\n\n"
+    fputs("  tejborun help [COMMAND]\n  tejborun --version\n\n"
+          "Options may be written as -oFILE, --output FILE or --output=FILE. "
           "A file - is standard input, or standard output after -o. Numbers are decimal or 0x hexadecimal.\n" STATUSES,
           out);
 }
@@ -67,11 +70,16 @@ static const struct command *find_command(const char *name)
     return NULL;
 }
 
+static bool is_help(const char *word)
+{
+    return strcmp(word, "--help") == 0 || strcmp(word, "-h") == 0;
+}
+
 /* Whether help is asked for among the words. */
 static bool wants_help(int count, char **words)
 {
     for (int i = 0; i < count && strcmp(words[i], "--") != 0; i++)
-        if (strcmp(words[i], "--help") == 0)
+        if (is_help(words[i]))
             return true;
     return false;
 }
@@ -106,16 +114,34 @@ static int unknown_command(const char *name)
     return complain(name, "no such command; known are %s; see tejborun --help", known);
 }
 
+static int print_version(void)
+{
+    printf("tejborun %s\nproof: %s\nlibrary: SHA-256 %s\n", TEJBORUN_VERSION, proof_identity(), library_sum());
+    return STATUS_DONE;
+}
+
+/* Help on all, or on one command. */
+static int help(int count, char **words)
+{
+    if (count > 1)
+        return complain("help", "too many words\nusage: tejborun help [COMMAND]");
+    const struct command *command = count > 0 ? find_command(words[0]) : NULL;
+    if (count > 0)
+        return command != NULL ? print_command_help(command) : unknown_command(words[0]);
+    print_help(stdout);
+    return STATUS_DONE;
+}
+
 static int perform(int count, char **words)
 {
     if (count == 0) {
         print_help(stderr);
         return STATUS_BAD;
     }
-    if (strcmp(words[0], "--help") == 0) {
-        print_help(stdout);
-        return STATUS_DONE;
-    }
+    if (is_help(words[0]) || strcmp(words[0], "help") == 0)
+        return help(count - 1, words + 1);
+    if (strcmp(words[0], "--version") == 0)
+        return print_version();
     const struct command *command = find_command(words[0]);
     if (command == NULL)
         return unknown_command(words[0]);

@@ -1077,6 +1077,68 @@ progress_shown() {
     grep -q ' steps, [0-9.]* million a second; Ctrl-C stops' typescript || fail 'no progress on a terminal'
 }
 
+# The forms of options, help and version.
+conventions() {
+    printf 'start addr=5\n' > sheet.txt
+    expect 0 assemble sheet sheet.txt -o a
+    expect 0 build a -o wanted
+    expect 0 build a -ochain-1
+    expect 0 build -o chain-2 a
+    expect 0 build a --output chain-3
+    expect 0 build a --output=chain-4
+    expect 0 build -ochain-5 -- a
+    for i in 1 2 3 4 5; do same chain-$i wanted; done
+    halves
+    expect 3 run whole.capture --allowance=500 -ohalf-2
+    same half.result half-2
+    expect 2 run whole.capture --no-start=1
+    says err '--no-start takes no value'
+    expect 2 build a -o x --output y
+    says err '--output is given twice'
+    expect 2 build a --output
+    for words in -h --help help; do
+        expect 0 $words
+        says out 'tejborun build SHEET -o CHAIN'
+    done
+    for words in 'run -h' 'run --help' 'help run'; do
+        # shellcheck disable=SC2086
+        expect 0 $words
+        says out 'usage: tejborun run CAPTURE'
+    done
+    expect 2 help nonsense
+    expect 0 --version
+    version=$(sed -n 's/^#define TEJBORUN_VERSION "\(.*\)"/\1/p' "$here/tejborun.h")
+    says out "tejborun $version"
+    says out 'library: SHA-256 '
+    says "$here/../CHANGELOG.md" "## "
+    installed
+    echo "conventions: each form of an option, help, version; installed: command, library, headers, manual, completion"
+}
+
+# What make install puts where, and a program that is built with it.
+installed() {
+    make -s -C "$here/.." install DESTDIR="$work/root" PREFIX=/opt/bench > out 2> err || fail "make install: $(cat err)"
+    root=$work/root/opt/bench
+    "$root/bin/tejborun" --version > out || fail 'the command installed'
+    says out "tejborun $version"
+    says "$root/share/man/man1/tejborun.1" "tejborun $version"
+    says "$root/lib/pkgconfig/tejborun.pc" 'prefix=/opt/bench'
+    cat > user.c <<'END'
+#include <stdio.h>
+#include <tejborun.h>
+int main(void)
+{
+    struct tejborun_state state;
+    return tejborun_reset((uint32_t *)&state, TEJBORUN_BLOCK_WORDS) != TEJBORUN_DONE || tejborun_used(&state) != 0 || puts(tejborun_message(90)) < 0;
+}
+END
+    cc -o user user.c -I"$root/include/tejborun" -L"$root/lib" -ltejborun && ./user > out || fail 'a program with the library installed'
+    says out 'the step allowance is used'
+    if command -v bash > /dev/null; then bash -n "$root/share/bash-completion/completions/tejborun" || fail 'the completion'; fi
+    make -s -C "$here/.." uninstall DESTDIR="$work/root" PREFIX=/opt/bench || fail 'make uninstall'
+    if find root -type f | grep . >&2; then fail 'left behind by make uninstall'; fi
+}
+
 # What is given twice; and every one of 65,536 differences shown in a moment.
 repeated() {
     bad_text result 3 'quadword 10 is given twice' 'result\nquadword 10 1 2 3 4\nquadword 10 1 2 3 4\n'
@@ -1096,7 +1158,7 @@ repeated() {
 }
 
 for name in ${TESTS:-layout state_words usage bench_points meanings refused_sheets examples comparisons damaged_files other_layouts bad_texts entries_used \
-    unfinished beginnings one_file outputs dashes repeated rack messages long_runs generated_sheets generated_captures}; do
+    unfinished beginnings one_file outputs dashes repeated rack messages long_runs conventions generated_sheets generated_captures}; do
     "$name"
 done
 echo "host/test.sh: all as it has to be"
