@@ -7,6 +7,7 @@
 #include <stdint.h>
 
 #include "files.h"
+#include "sum.h"
 #include "tejborun.h"
 
 /* A VIF unit, and the lengths of its memories. */
@@ -33,6 +34,7 @@ struct result {
     uint32_t answer;
     uint64_t steps;
     struct board board;
+    char sum[SUM_TEXT]; /* of the file that it was read from */
 };
 
 /* The head of a result file; memories and log follow. */

@@ -36,7 +36,7 @@ static void complain_of_verdict(const struct rack *rack, const struct compared *
 
 /* How boards are shown. */
 struct view {
-    int (*show)(const struct rack *, const struct compared *);
+    show_compared *show;
     int (*end)(const struct rack *);
 };
 
@@ -50,7 +50,7 @@ static struct view view_of(const struct words_given *given)
 }
 
 /* Reads a board, asks for the verdict and shows it. */
-static void compare_board(const struct words_given *given, const struct view *view, const char *name, struct rack *rack)
+static void compare_board(const struct words_given *given, show_compared *show, const char *name, struct rack *rack)
 {
     struct result board;
     struct compared compared = {.name = name, .status = read_result(name, &board)};
@@ -61,12 +61,18 @@ static void compare_board(const struct words_given *given, const struct view *vi
         complain_of_verdict(rack, &compared);
     }
     rack->status = worse(rack->status, compared.status);
-    if (view->show != NULL)
-        rack->status = worse(rack->status, view->show(rack, &compared));
+    if (show != NULL)
+        rack->status = worse(rack->status, show(rack->context, rack, &compared));
     rack->ends[compared.board != NULL ? compared.comparison.verdict : VERDICTS]++;
     rack->boards++;
     if (compared.board != NULL)
         free_board(&board.board);
+}
+
+void compare_rack(const struct words_given *given, show_compared *show, struct rack *rack)
+{
+    for (size_t i = 1; i < given->count; i++)
+        compare_board(given, show, given->word[i], rack);
 }
 
 /* The longest name of a board, as far as a column goes. */
@@ -90,8 +96,7 @@ int command_compare(const struct words_given *given)
     int status = read_result(given->word[0], &result);
     if (status != STATUS_DONE)
         return status;
-    for (size_t i = 1; i < given->count; i++)
-        compare_board(given, &view, given->word[i], &rack);
+    compare_rack(given, view.show, &rack);
     if (view.end != NULL)
         rack.status = worse(rack.status, view.end(&rack));
     free_board(&result.board);

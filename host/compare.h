@@ -19,8 +19,17 @@ struct rack {
     bool all;  /* every difference is shown */
     int width; /* of the boards' names, in characters */
     size_t boards, ends[VERDICTS + 1];
-    int status; /* the worst so far */
+    int status;    /* the worst so far */
+    void *context; /* of the function that shows */
 };
+
+/* Shows a board. A status. */
+typedef int show_compared(void *context, const struct rack *rack, const struct compared *compared);
+
+struct words_given;
+
+/* Compares every board of the words, from the second on, with the rack's result; shows each where a function is given. */
+void compare_rack(const struct words_given *given, show_compared *show, struct rack *rack);
 
 /* How a part and its units are called. */
 struct part_words {
@@ -32,10 +41,8 @@ extern const struct part_words part_words[PARTS];
 const char *verdict_words(const struct rack *rack, const struct compared *compared);
 
 /* Each prints a board, and after the last one what is to be said of all. Statuses. */
-int show_board(const struct rack *rack, const struct compared *compared);
-int show_row(const struct rack *rack, const struct compared *compared);
+show_compared show_board, show_row, show_json;
 int show_summary(const struct rack *rack);
-int show_json(const struct rack *rack, const struct compared *compared);
 int end_json(const struct rack *rack);
 
 #endif

@@ -74,8 +74,9 @@ static void begin_json(const struct rack *rack)
     printf(", \"answer\": %" PRIu32 ", \"steps\": %" PRIu64 "},\n  \"boards\": [\n", rack->result->answer, rack->result->steps);
 }
 
-int show_json(const struct rack *rack, const struct compared *compared)
+int show_json(void *context, const struct rack *rack, const struct compared *compared)
 {
+    (void)context;
     int status = STATUS_DONE;
     const struct comparison *comparison = &compared->comparison;
     if (rack->boards == 0)

@@ -35,8 +35,9 @@ static void print_counts(const struct comparison *comparison)
     }
 }
 
-int show_row(const struct rack *rack, const struct compared *compared)
+int show_row(void *context, const struct rack *rack, const struct compared *compared)
 {
+    (void)context;
     char first[80];
     if (rack->boards == 0)
         printf("%-*s  %-*s  %-*s  %s\n", rack->width, "board", VERDICT, "verdict", FIRST, "first difference", "how many");

@@ -143,8 +143,9 @@ static void show_answer(const char *name, const struct result *result)
            plural(result->steps, "step", "steps"));
 }
 
-int show_board(const struct rack *rack, const struct compared *compared)
+int show_board(void *context, const struct rack *rack, const struct compared *compared)
 {
+    (void)context;
     const struct comparison *comparison = &compared->comparison;
     if (compared->board == NULL || (comparison->verdict != VERDICT_EQUAL && comparison->verdict != VERDICT_DIFFERENT))
         return STATUS_DONE;

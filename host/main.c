@@ -39,6 +39,12 @@ static const struct command commands[] = {
      "  --quiet       prints no verdict: the exit status has it\n"
      "  --json        prints JSON\n"
      "Answer and step count are shown and not compared; registers are neither.\n"},
+    {"report", 2, SIZE_MAX, 0, TAKES(OPTION_OUTPUT) | TAKES(OPTION_FROM) | TAKES(OPTION_UNFINISHED), true, command_report,
+     "report RESULT BOARD.. -o PAGE [--from RESULT] [--unfinished]",
+     "Writes the comparison of boards with a result as one HTML page, to be looked at, printed on A4 and kept: verdicts, files with\n"
+     "their SHA-256, the first differences, maps of the memories and a plot of board minus result.\n"
+     "  --from RESULT  the memories that the transfer began with, zeros otherwise; the maps show what it left as it was\n"
+     "  --unfinished   compares also where RESULT is of a run that did not end with done (0)\n"},
     {"dump", 1, 2, 2, 0, false, command_dump, "dump [KIND] FILE",
      "Prints a file as text (docs/TEXT.md). KIND is sheet, chain, state, capture or result; it may be left out where the file\n"
      "begins with a mark (sheet, capture, result).\n"},
@@ -57,7 +63,7 @@ static void print_help(FILE *out)
     for (size_t i = 0; i < COMMANDS; i++)
         fprintf(out, "  tejborun %s\n", commands[i].usage);
     fputs("  tejborun help [COMMAND]\n  tejborun --version\n\n"
-          "Options may be written as -oFILE, --output FILE or --output=FILE. "
+          "Options may be written as -oFILE, --output FILE or --output=FILE.\n"
           "A file - is standard input, or standard output after -o. Numbers are decimal or 0x hexadecimal.\n" STATUSES,
           out);
 }

@@ -121,6 +121,8 @@ int read_result(const char *name, struct result *result)
     if (status != STATUS_DONE)
         return status;
     status = parse_result(name, &file, result);
+    if (status == STATUS_DONE)
+        sum_of(&file, result->sum);
     free(file.at);
     return status;
 }

@@ -10,6 +10,7 @@
 #include <sys/mman.h>
 #include <unistd.h>
 
+#include "sum.h"
 #include "tejborun.h"
 
 #define CHECK(holds) check(holds, #holds, __LINE__)
@@ -817,6 +818,29 @@ static void test_messages(void)
             CHECK(strcmp(tejborun_message(answers[i]), tejborun_message(answers[j])) != 0 && strcmp(tejborun_message(answers[i]), none) != 0);
 }
 
+/* SHA-256: the examples of FIPS 180-2, and libmd's own. */
+static void test_sums(void)
+{
+    static const char *const known[][2] = {
+        {"", "e3b0c44298fc1c149afbf4c8996fb92427ae41e4649b934ca495991b7852b855"},
+        {"abc", "ba7816bf8f01cfea414140de5dae2223b00361a396177a9cb410ff61f20015ad"},
+        {"12345", "5994471abb01112afcc18159f6cc74b4f511b99806da59b3caf5a9c173cacfc5"},
+        {"abcdbcdecdefdefgefghfghighijhijkijkljklmklmnlmnomnopnopq", "248d6a61d20638b8e5c026930c3e6039a33ce45964ff2167f6ecedd419db06c1"},
+    };
+    char sum[SUM_TEXT];
+    for (size_t i = 0; i < sizeof known / sizeof known[0]; i++) {
+        struct bytes bytes = {(uint8_t *)known[i][0], strlen(known[i][0])};
+        sum_of(&bytes, sum);
+        CHECK(strcmp(sum, known[i][1]) == 0);
+    }
+    struct bytes million = {malloc(1000000), 1000000};
+    CHECK(million.at != NULL);
+    memset(million.at, 'a', million.count);
+    sum_of(&million, sum);
+    CHECK(strcmp(sum, "cdc76e5c9914fb9281a1c7e284d73e67f1809a48a497200e046d39ccc7112cd0") == 0);
+    free(million.at);
+}
+
 static void test_used(void)
 {
     struct tejborun_state held = {.chain.used = {UINT32_C(0x89ABCDEF), UINT32_C(0x01234567)}};
@@ -846,6 +870,7 @@ int main(void)
     test_path_words();
     test_messages();
     test_used();
+    test_sums();
     puts("C interface: every function with good, short and wrong buffers, guard pages behind and before them: as the header says");
     puts("state block: every word under its name");
     return 0;

@@ -143,7 +143,7 @@ state_words() {
 usage() {
     expect 0 --help
     says out 'tejborun build SHEET -o CHAIN'
-    for name in build steps meaning run play compare dump assemble; do
+    for name in build steps meaning run play compare report dump assemble; do
         expect 0 "$name" --help
         says out "usage: tejborun $name"
         expect 2 "$name"
@@ -155,7 +155,7 @@ usage() {
     done
     expect 2
     expect 2 nonsense
-    says err 'no such command; known are build, steps, meaning, run, play, compare, dump, assemble'
+    says err 'no such command; known are build, steps, meaning, run, play, compare, report, dump, assemble'
     expect 2 build a.sheet
     says err 'say with -o where to write'
     expect 2 build a.sheet -o
@@ -729,7 +729,7 @@ unfinished() {
     expect 1 run d.capture -o d
     capture_of e.capture 'capture\nstart channel=1\nend\n'
     expect 3 run e.capture -o e
-    for name in '' build steps meaning run play compare dump assemble; do
+    for name in '' build steps meaning run play compare report dump assemble; do
         # shellcheck disable=SC2086
         expect 0 $name --help
         says out '0 done or equal, 1 a refusal or a difference, 2 bad usage or file, 3 stopped before the end (90, 91) or'
@@ -1139,6 +1139,38 @@ END
     if find root -type f | grep . >&2; then fail 'left behind by make uninstall'; fi
 }
 
+# The page: well formed with any file name, its numbers those of compare --json, its sums those of sha256sum.
+report() {
+    boards
+    expect 2 report expected good low short refused "$odd" missing -o page.html
+    well_formed page page.html
+    says page.html 'na&quot;m\e'
+    says page.html '&lt;&amp;&gt;'
+    says page.html '<td class="verdict good">equal</td>'
+    says page.html '<td class="verdict bad">not read</td>'
+    for file in expected good low short; do says page.html "<td class=\"sum\">$(sha256sum < "$file" | cut -d ' ' -f 1)</td>"; done
+    says page.html "tejborun $(sed -n 's/^#define TEJBORUN_VERSION "\(.*\)"/\1/p' "$here/tejborun.h")"
+    says page.html 'answer 0, done; 6 steps'
+    "$command" compare expected good low short refused "$odd" missing --json > out 2> err
+    sed -n 's/.*"different": \([0-9]*\), .*differences.*/\1/p' out > wanted
+    grep '^<tr><td>' page.html | grep -o '<td class="number">[0-9][0-9]*</td>' | tr -dc '0-9\n' > got
+    test "$(wc -l < wanted)" = 12 || fail 'numbers of compare --json'
+    same got wanted 'the numbers of the page'
+    test "$(grep -c '<rect class="different"' page.html)" = 2 || fail 'what differs in the maps'
+    expect 1 report expected low -o page.html --from short
+    well_formed page page.html
+    "$command" report expected good -o - > page.html 2> err || fail 'report -o -'
+    well_formed page page.html
+    result_of stopped 'result answer=90\n'
+    expect 3 report stopped good -o page.html
+    says page.html 'no verdict'
+    well_formed page page.html
+    expect 2 report missing good -o none.html
+    expect 2 report expected good -o good
+    absent none.html
+    echo "report: a page of each kind of verdict, well formed, with the numbers of compare --json and the sums of sha256sum"
+}
+
 # What is given twice; and every one of 65,536 differences shown in a moment.
 repeated() {
     bad_text result 3 'quadword 10 is given twice' 'result\nquadword 10 1 2 3 4\nquadword 10 1 2 3 4\n'
@@ -1158,7 +1190,7 @@ repeated() {
 }
 
 for name in ${TESTS:-layout state_words usage bench_points meanings refused_sheets examples comparisons damaged_files other_layouts bad_texts entries_used \
-    unfinished beginnings one_file outputs dashes repeated rack messages long_runs conventions generated_sheets generated_captures}; do
+    unfinished beginnings one_file outputs dashes repeated rack messages long_runs conventions report generated_sheets generated_captures}; do
     "$name"
 done
 echo "host/test.sh: all as it has to be"
