@@ -21,7 +21,16 @@ static int head_line(const struct text *text, const struct line *line, struct pa
     if (parts->has_head)
         return complain_at(text, line->number, "'result' is given twice");
     parts->has_head = true;
-    return read_fields(text, line, &result_heads[0], (uint32_t *)&parts->head, &parts->head_given);
+    int status = read_fields(text, line, &result_heads[1], (uint32_t *)&parts->head, &parts->head_given);
+    if (status != STATUS_DONE)
+        return status;
+    if (!is_given(&result_heads[1], &parts->head_given, "parts"))
+        parts->head.parts = PARTS_ALL;
+    else if (parts->head.parts == 0 || parts->head.parts >= PARTS_ALL)
+        return complain_at(text, line->number, "parts=%" PRIu32 ": name those of data, code and log that it has, and nothing where it has all", parts->head.parts);
+    if ((parts->head.parts & PART_BIT(PART_LOG)) == 0)
+        parts->head.log_numbers = 0;
+    return STATUS_DONE;
 }
 
 static int result_line(const struct text *text, const struct line *line, struct parts *parts)
@@ -32,6 +41,9 @@ static int result_line(const struct text *text, const struct line *line, struct 
     int status = board_line(text, line, &parts->memory, &is_one);
     if (!is_one)
         return complain_at(text, line->number, "'%s' is no line of a result: result, state, quadword, instruction or entry", line->item[0]);
+    for (size_t part = 0; part < PARTS && status == STATUS_DONE; part++)
+        if (parts->memory.units[part].end > 0 && (parts->head.parts & PART_BIT(part)) == 0)
+            return complain_at(text, line->number, "'%s': the result has %s alone", line->item[0], parts_words(parts->head.parts));
     size_t entries = parts->memory.units[PART_LOG].end;
     if (status == STATUS_DONE && TEJBORUN_ENTRY_NUMBERS * entries > parts->head.log_numbers)
         return complain_at(text, line->number, "entry %zu: the log has %" PRIu32 " numbers, %u for each", entries - 1, parts->head.log_numbers,
@@ -61,7 +73,7 @@ static int join_parts(const struct text *text, struct parts *parts, struct outpu
     if (!parts->has_head)
         return complain(text->name, "has no line 'result'");
     int status = finish_board_text(text, &parts->memory);
-    struct result result = {.answer = parts->head.answer, .steps = join_words(parts->head.steps), .board = parts->memory.board};
+    struct result result = {.parts = parts->head.parts, .answer = parts->head.answer, .steps = join_words(parts->head.steps), .board = parts->memory.board};
     result.board.log_numbers = parts->head.log_numbers;
     if (status == STATUS_DONE)
         status = board_fits(text->name, &result.board);

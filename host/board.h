@@ -22,6 +22,13 @@ struct memories memories_of(enum vif unit);
 /* What is compared: the memories and the log. */
 enum part { PART_DATA, PART_CODE, PART_LOG, PARTS };
 
+/* Sets of parts. */
+#define PART_BIT(part) (1u << (part))
+#define PARTS_ALL (PART_BIT(PARTS) - 1u)
+
+/* A set of parts in words: "data memory and log". */
+const char *parts_words(unsigned parts);
+
 struct board {
     struct tejborun_state state;
     size_t data_words, code_bytes, log_numbers;
@@ -31,6 +38,7 @@ struct board {
 };
 
 struct result {
+    unsigned parts; /* those that it has; the others are zero */
     uint32_t answer;
     uint64_t steps;
     struct board board;
@@ -42,6 +50,7 @@ struct result_head {
     uint32_t mark, answer, steps[2];
     struct tejborun_state state;
     uint32_t log_numbers;
+    uint32_t parts; /* only in a result that lacks some */
 };
 
 enum { RESULT_HEAD_WORDS = TEJBORUN_WORDS_OF(struct result_head) };

@@ -29,7 +29,10 @@ static void complain_of_verdict(const struct rack *rack, const struct compared *
     const struct comparison *comparison = &compared->comparison;
     if (comparison->verdict == VERDICT_REFUSED)
         complain("compare", "%s and %s: refused %" PRIu32 ": %s", rack->name, compared->name, comparison->refusal, tejborun_message(comparison->refusal));
-    if (comparison->verdict == VERDICT_UNFINISHED)
+    if (comparison->verdict == VERDICT_NONE && comparison->reason == REASON_PARTS)
+        complain("compare", "%s: no verdict: %s has %s, %s %s; only whole results are compared", compared->name, rack->name,
+                 parts_words(rack->result->parts), compared->name, parts_words(compared->board->parts));
+    if (comparison->verdict == VERDICT_NONE && comparison->reason == REASON_UNFINISHED)
         complain("compare", "%s: no verdict: %s is unfinished, its answer is %" PRIu32 ": %s; --unfinished compares it all the same", compared->name,
                  rack->name, rack->result->answer, tejborun_message(rack->result->answer));
 }

@@ -84,6 +84,8 @@ int show_json(void *context, const struct rack *rack, const struct compared *com
     printf("%s    {\"file\": ", rack->boards > 0 ? ",\n" : "");
     print_json_text(stdout, compared->name);
     printf(", \"verdict\": \"%s\", \"status\": %d", verdict_words(rack, compared), compared->status);
+    if (compared->board != NULL)
+        printf(", \"has\": \"%s\"", parts_words(compared->board->parts));
     if (compared->board != NULL && comparison->verdict == VERDICT_REFUSED)
         printf(", \"refusal\": %" PRIu32, comparison->refusal);
     if (compared->board != NULL && (comparison->verdict == VERDICT_EQUAL || comparison->verdict == VERDICT_DIFFERENT)) {

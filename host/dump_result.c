@@ -11,7 +11,7 @@
 static void print_head(const struct result *result)
 {
     const struct result_head head = result_head_of(result);
-    print_block(stdout, &result_heads[0], (const uint32_t *)&head);
+    print_block(stdout, shape_of(result_heads, head.mark), (const uint32_t *)&head);
     printf("  # %s\n", tejborun_message(result->answer));
 }
 

@@ -23,7 +23,7 @@ const char *kind_by_mark(const struct bytes *file)
 {
     if (has_mark(file, &capture_heads[0]) || has_mark(file, &capture_heads[1]))
         return "capture";
-    if (has_mark(file, &result_heads[0]))
+    if (has_mark(file, &result_heads[0]) || has_mark(file, &result_heads[1]))
         return "result";
     if (file->count >= 2 && file->at[0] == 0x9E && file->at[1] == 0x51)
         return "sheet";

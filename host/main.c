@@ -45,6 +45,13 @@ static const struct command commands[] = {
      "their SHA-256, the first differences, maps of the memories and a plot of board minus result.\n"
      "  --from RESULT  the memories that the transfer began with, zeros otherwise; the maps show what it left as it was\n"
      "  --unfinished   compares also where RESULT is of a run that did not end with done (0)\n"},
+    {"import", 0, 0, 0, TAKES(OPTION_OUTPUT) | TAKES(OPTION_DATA) | TAKES(OPTION_CODE) | TAKES(OPTION_LOG), true, command_import,
+     "import -o RESULT [--data FILE] [--code FILE] [--log FILE]",
+     "Makes a result of a board's own dumps, any of the three: the bytes of data memory, code memory and log, little-endian. The\n"
+     "result says which parts it has.\n"},
+    {"export", 1, 1, 0, TAKES(OPTION_MAIN) | TAKES(OPTION_DATA) | TAKES(OPTION_CODE) | TAKES(OPTION_LOG), false, command_export,
+     "export FILE [--main FILE] [--data FILE] [--code FILE] [--log FILE]",
+     "Writes the memories and the log of a result as such dumps; of a capture those that it begins with, and its main memory.\n"},
     {"dump", 1, 2, 2, 0, false, command_dump, "dump [KIND] FILE",
      "Prints a file as text (docs/TEXT.md). KIND is sheet, chain, state, capture or result; it may be left out where the file\n"
      "begins with a mark (sheet, capture, result).\n"},

@@ -167,6 +167,7 @@ static void print_section(const struct report *report, const struct rack *rack, 
     if (compared->board != NULL) {
         print_file(page, "board", compared->name, compared->board);
         print_answer(page, compared->board);
+        print_row(page, "it has", parts_words(compared->board->parts), "parts");
     }
     if (compared->board != NULL && compared->comparison.verdict == VERDICT_REFUSED)
         print_row(page, "refused", tejborun_message(compared->comparison.refusal), "answer");
@@ -241,13 +242,15 @@ static int report_from(const struct words_given *given, const struct board *befo
 
 int command_report(const struct words_given *given)
 {
-    struct result result, before = {.board = new_board(memories_of(VIF1), 0)};
+    struct result result, before = {.parts = PARTS_ALL, .board = new_board(memories_of(VIF1), 0)};
     const char *from = given->option[OPTION_FROM];
     int status = STATUS_DONE;
     if (from != NULL) {
         free_board(&before.board);
         status = read_result(from, &before);
     }
+    if (status == STATUS_DONE && before.parts != PARTS_ALL)
+        status = complain(from, "has %s alone: a transfer begins with all", parts_words(before.parts));
     if (status == STATUS_DONE)
         status = read_result(given->word[0], &result);
     if (status == STATUS_DONE) {

@@ -114,7 +114,7 @@ static int run_capture(const struct words_given *given, const struct capture *ca
 {
     uint8_t *main = capture_main(capture);
     struct lent lent = {main, capture->head.main_bytes};
-    struct result result = {.board = copy_board(board)};
+    struct result result = {.parts = PARTS_ALL, .board = copy_board(board)};
     int status = make_calls(given, capture, &lent, &result);
     print_changes(board, &result.board);
     status = worse(status, keep_result(given, &result));
@@ -143,7 +143,10 @@ static int run_from(const struct words_given *given, const struct capture *captu
     int status = read_result(from, &first);
     if (status != STATUS_DONE)
         return status;
-    status = run_capture(given, capture, &first.board);
+    if (first.parts == PARTS_ALL)
+        status = run_capture(given, capture, &first.board);
+    else
+        status = complain(from, "has %s alone: a run begins with all", parts_words(first.parts));
     free_board(&first.board);
     return status;
 }
@@ -186,7 +189,7 @@ int command_play(const struct words_given *given)
     int status = read_sheet(given->word[0], &sheet);
     if (status != STATUS_DONE)
         return status;
-    struct result result = {.board = new_board(memories_of(VIF1), TEJBORUN_LOG_NUMBERS)};
+    struct result result = {.parts = PARTS_ALL, .board = new_board(memories_of(VIF1), TEJBORUN_LOG_NUMBERS)};
     struct board before = copy_board(&result.board);
     status = play_sheet(given, &sheet, &before, &result);
     free_board(&before);

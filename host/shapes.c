@@ -151,6 +151,16 @@ const struct shape capture_heads[] = {
 #define RESULT(name, member) MEMBER(struct result_head, name, member, FIELD_SHOWN, NULL)
 
 /* The state block has lines of its own. */
-static const struct field result_head[] = {RESULT("answer", answer), RESULT("steps", steps), RESULT("log-numbers", log_numbers)};
+#define RESULT_FIELDS RESULT("answer", answer), RESULT("steps", steps), RESULT("log-numbers", log_numbers)
 
-const struct shape result_heads[] = {{"result", RESULT_HEAD_WORDS, UINT32_MAX, UINT32_C(0x53455254), LIST(result_head)}, END};
+static const char *const parts_names[PARTS_ALL] = {NULL, "data", "code", "data+code", "log", "data+log", "code+log"};
+static const struct names parts = {PARTS_ALL, parts_names};
+
+static const struct field result_head[] = {RESULT_FIELDS};
+static const struct field partial_result_head[] = {RESULT_FIELDS, MEMBER(struct result_head, "parts", parts, FIELD_SHOWN, &parts)};
+
+const struct shape result_heads[] = {
+    {"result", RESULT_HEAD_WORDS, UINT32_MAX, UINT32_C(0x53455254), LIST(result_head)},
+    {"result", RESULT_HEAD_WORDS, UINT32_MAX, UINT32_C(0x32455254), LIST(partial_result_head)},
+    END,
+};

@@ -108,7 +108,7 @@ int command_meaning(const struct words_given *given)
     int status = read_sheet(given->word[0], &sheet);
     if (status != STATUS_DONE)
         return status;
-    struct result result = {.board = new_board(memories_of(VIF1), TEJBORUN_LOG_NUMBERS)};
+    struct result result = {.parts = PARTS_ALL, .board = new_board(memories_of(VIF1), TEJBORUN_LOG_NUMBERS)};
     status = feed_sheet(given->word[0], &sheet, &result);
     if (status == STATUS_DONE)
         status = write_result(given->option[OPTION_OUTPUT], &result);

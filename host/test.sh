@@ -2,7 +2,7 @@
 # Tests of the command: sh host/test.sh COMMAND SECOND PROGRAMS [EVERY]
 # COMMAND is the command, SECOND the second program, PROGRAMS the folder of the proved programs (replay is used); test-forms lies beside the command. Of the generated captures every EVERYth
 # one is tried, the 10th where it is not given, and of the sheets five times as many. Prints what it did and stops at the first thing that is wrong.
-# TESTS=NAMES in the environment makes those tests alone; what they need of others they make themselves.
+# TESTS=NAMES in the environment makes those tests alone: layout first, and of the older ones those that leave the files needed.
 # shellcheck disable=SC2046
 set -u
 command=$1
@@ -155,7 +155,7 @@ usage() {
     done
     expect 2
     expect 2 nonsense
-    says err 'no such command; known are build, steps, meaning, run, play, compare, report, dump, assemble'
+    says err 'no such command; known are build, steps, meaning, run, play, compare, report, import, export, dump, assemble'
     expect 2 build a.sheet
     says err 'say with -o where to write'
     expect 2 build a.sheet -o
@@ -729,7 +729,7 @@ unfinished() {
     expect 1 run d.capture -o d
     capture_of e.capture 'capture\nstart channel=1\nend\n'
     expect 3 run e.capture -o e
-    for name in '' build steps meaning run play compare report dump assemble; do
+    for name in '' build steps meaning run play compare report import export dump assemble; do
         # shellcheck disable=SC2086
         expect 0 $name --help
         says out '0 done or equal, 1 a refusal or a difference, 2 bad usage or file, 3 stopped before the end (90, 91) or'
@@ -1003,7 +1003,7 @@ rack_json() {
     expect 2 compare expected "$odd" refused missing --json
     well_formed json out
     says out '"na\"m\\e\u0009<&>\uFFFD"'
-    says out '"verdict": "refused", "status": 1, "refusal": 4'
+    says out '"verdict": "refused", "status": 1, "has": "data memory, code memory and log", "refusal": 4'
     says out '"verdict": "not read", "status": 2'
     "$command" compare stopped good --unfinished --json > out 2> err
     well_formed json out
@@ -1025,10 +1025,10 @@ messages() {
     refused_value 'state mode=3' 'state mode=3\nstart channel=1'
     refused_value 'state waiting=UNPACK' 'state waiting=UNPACK due=1\nrun'
     refused_value "more than one field of 'state'" 'state mode=3 dbf=2\nrun'
-    expect 2 run "$here/../examples/difference.capture.txt" -o x
+    expect 2 run "$here/../examples/difference.capture.txt" -o unwritten
     says err 'no capture, but text; assemble it first: tejborun assemble capture '
     for name in build meaning play; do
-        expect 1 "$name" "$here/../examples/all-kinds.sheet.txt" -o x
+        expect 1 "$name" "$here/../examples/all-kinds.sheet.txt" -o unwritten
         says err 'it is text; assemble it first: tejborun assemble sheet '
     done
     expect 2 dump "$here/../examples/all-kinds.sheet.txt"
@@ -1038,7 +1038,7 @@ messages() {
     expect 0 assemble sheet marked.txt -o marked
     expect 0 assemble sheet plain.txt -o plain
     same marked plain
-    absent x
+    absent unwritten
     echo "messages: the fields of refusal 5, text in place of a file, a byte order mark"
 }
 
@@ -1171,6 +1171,91 @@ report() {
     echo "report: a page of each kind of verdict, well formed, with the numbers of compare --json and the sums of sha256sum"
 }
 
+# A board's own dumps: into a result and back, any of the three; a result that lacks a part has no verdict.
+dumps() {
+    halves
+    state_words > /dev/null
+    printf 'capture main-bytes=8192 log-numbers=64\nstart channel=1\nrun\n' > calls.txt
+    expect 0 assemble capture calls.txt -o again.capture
+    expect 0 assemble sheet "$here/../examples/all-kinds.sheet.txt" -o all.sheet
+    expect 0 play all.sheet -o all.result
+    expect 0 export all.result --data vu.bin --code micro.bin --log log.bin
+    slice all.result "$result_head" $((4 * data_words)) > wanted
+    same vu.bin wanted
+    slice all.result $((result_head + 4 * data_words)) "$code_bytes" > wanted
+    same micro.bin wanted
+    slice all.result $((result_head + memory_bytes)) $((8 * 7 * entry_numbers)) > wanted
+    same log.bin wanted
+    expect 0 import --data vu.bin --code micro.bin --log log.bin -o board.result
+    says out 'board.result: data memory, code memory and log'
+    expect 0 compare all.result board.result
+    says out 'equal'
+    for parts in data code log 'data code' 'data log' 'code log'; do one_import; done
+    expect 2 import -o lacking.result
+    says err 'give a dump'
+    head -c 100 vu.bin > cut.bin
+    expect 2 import --data cut.bin -o lacking.result
+    says err 'cut.bin: no dump of data memory: 100 bytes'
+    expect 2 import --log cut.bin -o lacking.result
+    expect 2 import --data vu.bin -o vu.bin
+    says err 'is an input and the output'
+    expect 2 export all.result
+    expect 2 export all.result --data x.bin --code x.bin
+    says err 'x.bin is given for two dumps'
+    expect 2 export all.result --data all.result
+    expect 2 export all.result --main x.bin
+    expect 0 export whole.capture --main main.bin --data zeros.bin
+    expect 0 assemble capture --main main.bin -o again.capture - < calls.txt
+    expect 0 run again.capture -o again.result
+    expect 0 compare whole.result again.result
+    head -c $((4 * data_words)) /dev/zero > wanted
+    same zeros.bin wanted
+    partial_files
+    absent lacking.result x.bin
+    echo "dumps: any of the three into a result and back, main memory out of a capture and into one; no verdict where a part is lacking"
+}
+
+# One import of some parts: its text, its dumps, no verdict.
+one_import() {
+    set --
+    for part in $parts; do
+        case $part in data) set -- "$@" --data vu.bin ;; code) set -- "$@" --code=micro.bin ;; log) set -- "$@" --log log.bin ;; esac
+    done
+    expect 0 import "$@" -o part.result
+    round result part.result
+    expect 0 dump part.result
+    says out "parts=$(echo "$parts" | tr ' ' '+')"
+    for side in 'all.result part.result' 'part.result all.result'; do
+        # shellcheck disable=SC2086
+        expect 3 compare $side
+        says err 'no verdict: '
+        if grep -q -e equal -e different out; then fail 'a verdict over parts'; fi
+    done
+    expect 3 compare all.result board.result part.result
+    says out '2 boards beside all.result: 1 equal, 1 no verdict'
+    for part in data code log; do
+        case " $parts " in
+        *" $part "*) expect 0 export part.result --$part back.bin ;;
+        *) expect 2 export part.result --$part lacking.bin ;;
+        esac
+    done
+    expect 2 run again.capture --from part.result -o lacking.result
+    absent lacking.bin lacking.result
+}
+
+partial_files() {
+    expect 0 import --data vu.bin -o part.result
+    damaged result part.result compare all.result broken
+    patched part.result "$result_head" 7
+    expect 2 dump broken
+    says err 'damaged result: its parts are 7'
+    patched part.result "$result_head" 0
+    expect 2 dump broken
+    bad_text result 1 'parts=7' 'result parts=7\n'
+    bad_text result 2 "'quadword': the result has log alone" 'result parts=log\nquadword 1 1 2 3 4\n'
+    another_layout result part.result $((16 + block_bytes)) compare all.result broken
+}
+
 # What is given twice; and every one of 65,536 differences shown in a moment.
 repeated() {
     bad_text result 3 'quadword 10 is given twice' 'result\nquadword 10 1 2 3 4\nquadword 10 1 2 3 4\n'
@@ -1190,7 +1275,7 @@ repeated() {
 }
 
 for name in ${TESTS:-layout state_words usage bench_points meanings refused_sheets examples comparisons damaged_files other_layouts bad_texts entries_used \
-    unfinished beginnings one_file outputs dashes repeated rack messages long_runs conventions report generated_sheets generated_captures}; do
+    unfinished beginnings one_file outputs dashes repeated rack messages long_runs conventions report dumps generated_sheets generated_captures}; do
     "$name"
 done
 echo "host/test.sh: all as it has to be"

@@ -10,7 +10,7 @@ int status_of_verdict(enum verdict verdict)
         [VERDICT_EQUAL] = STATUS_DONE,
         [VERDICT_DIFFERENT] = STATUS_REFUSED,
         [VERDICT_REFUSED] = STATUS_REFUSED,
-        [VERDICT_UNFINISHED] = STATUS_STOPPED,
+        [VERDICT_NONE] = STATUS_STOPPED,
     };
     return statuses[verdict];
 }
@@ -25,10 +25,16 @@ static struct found found_in(const struct board *a, const struct board *b, enum 
 
 struct comparison compare_results(const struct result *result, const struct result *board, bool unfinished)
 {
-    struct comparison comparison = {.verdict = VERDICT_UNFINISHED};
+    struct comparison comparison = {.verdict = VERDICT_NONE};
     uint64_t numbers[2 * PARTS] = {0};
-    if (result->answer != TEJBORUN_DONE && !unfinished)
+    if (result->answer != TEJBORUN_DONE && !unfinished) {
+        comparison.reason = REASON_UNFINISHED;
         return comparison;
+    }
+    if (result->parts != PARTS_ALL || board->parts != PARTS_ALL) {
+        comparison.reason = REASON_PARTS;
+        return comparison;
+    }
     uint32_t answer = compare_boards(&result->board, &board->board, numbers);
     if (answer != TEJBORUN_SAME && answer != TEJBORUN_DIFFERENT) {
         comparison.verdict = VERDICT_REFUSED;

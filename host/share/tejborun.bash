@@ -1,7 +1,7 @@
 # Completion of tejborun's words for bash.
 _tejborun() {
     local word=${COMP_WORDS[COMP_CWORD]} command=${COMP_WORDS[1]}
-    local commands='build steps meaning run play compare report dump assemble help'
+    local commands='build steps meaning run play compare report import export dump assemble help'
     local kinds='sheet chain state capture result'
     local options='--help'
     case $command in
@@ -9,6 +9,8 @@ _tejborun() {
     run) options='-o --output --allowance --from --no-start --help' ;;
     compare) options='--all --unfinished --quiet --json --help' ;;
     report) options='-o --output --from --unfinished --help' ;;
+    import) options='-o --output --data --code --log --help' ;;
+    export) options='--main --data --code --log --help' ;;
     assemble) options='-o --output --main --data --code --log --help' ;;
     esac
     if test "$COMP_CWORD" = 1; then
