@@ -1,6 +1,6 @@
 # Nothing but calls of rt, cargo, cc, clang and the programs that they build. What is built here goes to build/ and target/.
 .POSIX:
-.PHONY: all test check second bench host built command host-test demo install uninstall fuzz fuzz-build fuzz-run clean
+.PHONY: all test check second bench host built command host-test demo install uninstall fuzz fuzz-build fuzz-run fuzz-text clean
 
 SECOND = build/second/release/second
 ARCHIVE = target/staticlib/libtejborun.a
@@ -122,6 +122,14 @@ fuzz-run:
 		mkdir -p build/fuzz/corpus/$$e; \
 		build/fuzz/$$e $(FUZZ_OPTIONS) -max_total_time=$(FUZZ_SECONDS) -artifact_prefix=build/fuzz/$$e- build/fuzz/corpus/$$e fuzz/corpus/$$e || exit 1; \
 	done
+
+# The command's readers of text and files, by a fuzzer; the seeds are the examples and what the command makes of them.
+fuzz-text: command
+	mkdir -p build/fuzz/corpus/text
+	$(FUZZ_CC) $(FUZZ_CFLAGS) -Ibuild -Ihost/libmd -DSHA256_ONLY -o build/fuzz/text fuzz/text.c $(HOST:host/main.c=) $(ARCHIVE)
+	sh fuzz/text-seeds.sh build/tejborun examples build/fuzz/corpus/text
+	build/fuzz/text -close_fd_mask=3 -max_len=8192 -timeout=60 -verbosity=0 -print_final_stats=1 -max_total_time=$(FUZZ_SECONDS) \
+		-artifact_prefix=build/fuzz/text- build/fuzz/corpus/text
 
 clean:
 	rm -rf build target

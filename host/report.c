@@ -166,7 +166,6 @@ static void print_section(const struct report *report, const struct rack *rack, 
     fprintf(page, "</h2>\n<p class=\"%s\">%s</p>\n<table>\n", verdict_class(compared), verdict_words(rack, compared));
     if (compared->board != NULL) {
         print_file(page, "board", compared->name, compared->board);
-        print_answer(page, compared->board);
         print_row(page, "it has", parts_words(compared->board->parts), "parts");
     }
     if (compared->board != NULL && compared->comparison.verdict == VERDICT_REFUSED)
