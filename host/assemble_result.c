@@ -27,7 +27,8 @@ static int head_line(const struct text *text, const struct line *line, struct pa
     if (!is_given(&result_heads[1], &parts->head_given, "parts"))
         parts->head.parts = PARTS_ALL;
     else if (parts->head.parts == 0 || parts->head.parts >= PARTS_ALL)
-        return complain_at(text, line->number, "parts=%" PRIu32 ": name those of data, code and log that it has, and nothing where it has all", parts->head.parts);
+        return complain_at(text, line->number, "parts=%" PRIu32 ": name those of data, code and log that it has, and nothing where it has all",
+                           parts->head.parts);
     if ((parts->head.parts & PART_BIT(PART_LOG)) == 0)
         parts->head.log_numbers = 0;
     return STATUS_DONE;

@@ -41,13 +41,15 @@ int show_row(void *context, const struct rack *rack, const struct compared *comp
     char first[80];
     if (rack->boards == 0)
         printf("%-*s  %-*s  %-*s  %s\n", rack->width, "board", VERDICT, "verdict", FIRST, "first difference", "how many");
-    printf("%-*s  %-*s", rack->width, compared->name, VERDICT, verdict_words(rack, compared));
+    printf("%-*s  ", rack->width, compared->name);
     if (compared->comparison.verdict == VERDICT_DIFFERENT && compared->board != NULL) {
         first_difference(rack, compared, first, sizeof first);
-        printf("  %-*s  ", FIRST, first);
+        printf("%-*s  %-*s  ", VERDICT, verdict_words(rack, compared), FIRST, first);
         print_counts(&compared->comparison);
+        putchar('\n');
+    } else {
+        puts(verdict_words(rack, compared));
     }
-    putchar('\n');
     return STATUS_DONE;
 }
 

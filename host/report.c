@@ -20,7 +20,7 @@ static const char head[] =
     "@page { size: A4; margin: 14mm }\n"
     "body { font: 13px/1.45 sans-serif; color: #111; background: #fff; max-width: 190mm; margin: 1.5em auto; padding: 0 1em;\n"
     "  -webkit-print-color-adjust: exact; print-color-adjust: exact }\n"
-    "h1 { font-size: 22px; margin: 0 0 .4em } h2 { font-size: 17px; margin: 1.6em 0 .3em; overflow-wrap: anywhere } h3 { font-size: 13px; margin: 1em 0 .2em }\n"
+    "h1 { font-size: 22px; margin: 0 0 .4em } h2 { font-size: 17px; margin: 1.6em 0 .3em; overflow-wrap: anywhere }\n"
     "table { border-collapse: collapse; width: 100%; margin: .4em 0 } th, td { text-align: left; vertical-align: top; padding: 2px 8px 2px 0;\n"
     "  border-bottom: 1px solid #ccc; overflow-wrap: anywhere } th { font-weight: 600; white-space: nowrap; width: 1%; overflow-wrap: normal }\n"
     ".rows th, .rows td { width: auto } .rows .number { white-space: nowrap } .number, .hex { font-family: monospace; overflow-wrap: anywhere }\n"
@@ -132,15 +132,15 @@ static void print_differences(FILE *page, const struct rack *rack, const struct 
         }
         fprintf(page, "</td></tr>\n");
     }
-    fprintf(page, "</table>\n<p>Log entries: the result has <span class=\"number\">%" PRIu64 "</span>, the board <span class=\"number\">%" PRIu64 "</span>.</p>\n",
-            board_used(&rack->result->board), board_used(&compared->board->board));
+    fprintf(page, "</table>\n<p>Log entries: the result has <span class=\"number\">%" PRIu64 "</span>, ", board_used(&rack->result->board));
+    fprintf(page, "the board <span class=\"number\">%" PRIu64 "</span>.</p>\n", board_used(&compared->board->board));
 }
 
 static void print_pictures(FILE *page, const struct board *before, const struct rack *rack, const struct compared *compared)
 {
     const struct board *result = &rack->result->board, *board = &compared->board->board;
-    fprintf(page, "<p><span class=\"key same\"></span>the same<span class=\"key different\"></span>different<span class=\"key untouched\"></span>the same, and as "
-                  "before the transfer</p>\n<figure><figcaption>Data memory by quadword</figcaption>\n");
+    fprintf(page, "<p><span class=\"key same\"></span>the same<span class=\"key different\"></span>different<span class=\"key untouched\"></span>"
+                  "the same, and as before the transfer</p>\n<figure><figcaption>Data memory by quadword</figcaption>\n");
     draw_map(page, before, result, board, PART_DATA);
     fprintf(page, "</figure>\n<figure><figcaption>Code memory by instruction</figcaption>\n");
     draw_map(page, before, result, board, PART_CODE);
@@ -211,8 +211,8 @@ static int write_page(const char *name, const struct rack *rack, const char *row
     if (page == NULL)
         return complain(name, "no memory for the page");
     print_head(page, rack);
-    fprintf(page, "<table class=\"rows\">\n<tr><th>board</th><th>verdict</th><th>quadwords different</th><th>instructions different</th><th>log entries different</th>"
-                  "</tr>\n%s</table>\n%s</body>\n</html>\n", rows, sections);
+    fprintf(page, "<table class=\"rows\">\n<tr><th>board</th><th>verdict</th><th>quadwords different</th><th>instructions different</th>"
+                  "<th>log entries different</th></tr>\n%s</table>\n%s</body>\n</html>\n", rows, sections);
     fclose(page);
     int status = write_file(name, (const uint8_t *)text, length);
     free(text);

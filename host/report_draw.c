@@ -65,7 +65,8 @@ static void draw_strip(FILE *page, const struct board *result, const struct boar
 {
     double width = WIDTH / (double)board_quadwords(result), middle = (double)top + STRIP / 2.0;
     int64_t most = largest(result, board, field);
-    fprintf(page, "<text x=\"%d\" y=\"%zu\">+%" PRId64 "</text><text x=\"%d\" y=\"%zu\">-%" PRId64 "</text>", LEFT - 4, top + 8, most, LEFT - 4, top + STRIP, most);
+    fprintf(page, "<text x=\"%d\" y=\"%zu\">+%" PRId64 "</text>", LEFT - 4, top + 8, most);
+    fprintf(page, "<text x=\"%d\" y=\"%zu\">-%" PRId64 "</text>", LEFT - 4, top + STRIP, most);
     fprintf(page, "<text class=\"field\" x=\"%d\" y=\"%.0f\">%c</text>\n", LEFT - 4, middle + 4, "XYZW"[field]);
     fprintf(page, "<rect class=\"frame\" x=\"%d\" y=\"%zu\" width=\"%d\" height=\"%d\"/>\n", LEFT, top, WIDTH, STRIP);
     fprintf(page, "<path class=\"zero\" d=\"M%d %.1fh%d\"/>\n<path class=\"bars\" d=\"", LEFT, middle, WIDTH);

@@ -53,6 +53,7 @@ static void run_slices(uint64_t allowance, const struct lent *lent, struct resul
 {
     struct board *board = &result->board;
     result->steps = 0;
+    show_progress(0);
     do {
         uint64_t rest = allowance - result->steps, steps = 0;
         result->answer = tejborun_run(lent->main, lent->main_bytes, board->data, board->data_words, board->code, board->code_bytes, board->log,

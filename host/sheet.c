@@ -55,7 +55,8 @@ static int build_chain(const struct words_given *given, const struct bytes *shee
         status = write_file(given->option[OPTION_OUTPUT], chain, length);
     free(chain);
     if (status == STATUS_DONE)
-        say("%s: a chain of %zu bytes, %zu %s, %" PRIu64 " %s\n", given->option[OPTION_OUTPUT], length, length / 16, plural(length / 16, "quadword", "quadwords"),
+        say("%s: a chain of %zu bytes, %zu %s, %" PRIu64 " %s\n", given->option[OPTION_OUTPUT], length, length / 16,
+            plural(length / 16, "quadword", "quadwords"),
                steps, plural(steps, "step", "steps"));
     return status;
 }

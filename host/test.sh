@@ -703,18 +703,18 @@ entries_used() {
 
 # A verdict is given on a finished expectation alone, unless it is asked for.
 unfinished() {
-    result_of done 'result\n'
+    result_of ended 'result\n'
     for answer in 5 22 90 91; do
         result_of stopped "result answer=$answer\n"
-        expect 3 compare stopped done
-        says err "done: no verdict: stopped is unfinished, its answer is $answer: "
+        expect 3 compare stopped ended
+        says err "ended: no verdict: stopped is unfinished, its answer is $answer: "
         if grep -q equal out; then fail 'a verdict'; fi
-        expect 0 compare stopped done --unfinished
+        expect 0 compare stopped ended --unfinished
         says out 'equal to an unfinished result'
-        expect 0 compare done stopped
+        expect 0 compare ended stopped
     done
     result_of other 'result answer=22\nquadword 3 1 2 3 4\n'
-    expect 1 compare other done --unfinished
+    expect 1 compare other ended --unfinished
     says out 'different from an unfinished result'
     printf 'capture\nrun allowance=%s\nend\n' 0 > a.txt
     expect 0 assemble capture a.txt -o a.capture
@@ -890,13 +890,25 @@ outputs() {
     echo "outputs: links followed, modes kept, others' files kept; nothing left behind by signals, limits or folders that are not there"
 }
 
-# A signal at the worst moment, just before the rename: a library that is loaded first sends it.
+# A signal at the worst moment, just before the rename, and a disk that is full after ten bytes: by a library that is loaded first.
 interrupted() {
     cat > signal.c <<'END'
 #define _GNU_SOURCE
 #include <dlfcn.h>
 #include <signal.h>
+#include <errno.h>
 #include <stdlib.h>
+#include <sys/types.h>
+ssize_t write(int file, const void *bytes, size_t count)
+{
+    ssize_t (*real)(int, const void *, size_t) = (ssize_t (*)(int, const void *, size_t))dlsym(RTLD_NEXT, "write");
+    if (file <= 2 || getenv("DISK_FULL_AFTER") == NULL)
+        return real(file, bytes, count);
+    size_t room = strtoul(getenv("DISK_FULL_AFTER"), NULL, 10);
+    setenv("DISK_FULL_AFTER", "0", 1);
+    errno = ENOSPC;
+    return room == 0 ? -1 : real(file, bytes, count < room ? count : room);
+}
 int rename(const char *from, const char *to)
 {
     int (*real)(const char *, const char *) = (int (*)(const char *, const char *))dlsym(RTLD_NEXT, "rename");
@@ -913,6 +925,11 @@ END
         same clean/x wanted
         rm -r clean
     done
+    cp a full
+    DISK_FULL_AFTER=10 ASAN_OPTIONS=verify_asan_link_order=0:detect_leaks=0 LD_PRELOAD=$work/signal.so "$command" build a -o full > out 2> err
+    test $? = 2 || fail 'a full disk'
+    says err 'full: cannot be written: No space left on device'
+    same full a
     nothing_partial
 }
 
@@ -1065,7 +1082,9 @@ long_runs() {
     says out 'answer 90, the step allowance is used; 100 steps'
     expect 3 compare stopped.result further.result
     expect 3 run endless.capture --allowance 5
-    expect 0 play start.sheet
+    printf 'start addr=5\n' > sheet.txt
+    expect 0 assemble sheet sheet.txt -o a
+    expect 0 play a
     progress_shown
     echo "long runs: several slices are one run; Ctrl-C stops an endless chain, which goes on from what it left; progress on a terminal alone"
 }
@@ -1073,7 +1092,7 @@ long_runs() {
 # On a terminal steps and rate are shown; script, where it is there, gives one.
 progress_shown() {
     command -v script > /dev/null || return 0
-    timeout -k 20 -s INT 3 script -qec "$command run endless.capture -o shown.result" typescript > /dev/null 2>&1 < /dev/null
+    timeout -k 20 60 script -qec "$command run endless.capture -o shown.result --allowance 20000000" typescript > /dev/null 2>&1 < /dev/null
     grep -q ' steps, [0-9.]* million a second; Ctrl-C stops' typescript || fail 'no progress on a terminal'
 }
 
@@ -1151,6 +1170,7 @@ report() {
     for file in expected good low short; do says page.html "<td class=\"sum\">$(sha256sum < "$file" | cut -d ' ' -f 1)</td>"; done
     says page.html "tejborun $(sed -n 's/^#define TEJBORUN_VERSION "\(.*\)"/\1/p' "$here/tejborun.h")"
     says page.html 'answer 0, done; 6 steps'
+    says page.html 'the result has <span class="number">2</span>, the board <span class="number">1</span>.'
     "$command" compare expected good low short refused "$odd" missing --json > out 2> err
     sed -n 's/.*"different": \([0-9]*\), .*differences.*/\1/p' out > wanted
     grep '^<tr><td>' page.html | grep -o '<td class="number">[0-9][0-9]*</td>' | tr -dc '0-9\n' > got

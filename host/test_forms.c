@@ -1,5 +1,5 @@
-/* Tests of form: "json" or "page" after the program's name; reads standard input, exits with 0 where it is well formed. JSON by RFC 8259; a page as XML has it: one
- * element in all, tags that close in order, attributes in quotes, no stray < or &, no script and nothing from another place. Both in UTF-8. */
+/* Tests of form: "json" or "page" after the program's name; reads standard input, exits with 0 where it is well formed. JSON by RFC 8259; a page as XML has
+ * it: one element in all, tags that close in order, attributes in quotes, no stray < or &, no script and nothing from another place. Both in UTF-8. */
 #include <ctype.h>
 #include <stdbool.h>
 #include <stdio.h>
