@@ -1072,7 +1072,7 @@ long_runs() {
     says out 'answer 90, the step allowance is used; 2500000 steps'
     { printf 'capture\n'; sed 's/ allowance.*//' endless.txt; } > endless.capture.txt
     expect 0 assemble capture endless.capture.txt -o endless.capture
-    timeout --preserve-status -k 20 -s INT 1 "$command" run endless.capture -o stopped.result > out 2> err
+    timeout --foreground --preserve-status -k 20 -s INT 1 "$command" run endless.capture -o stopped.result > out 2> err
     test $? = 3 || fail "Ctrl-C: $(cat err)"
     says out 'run without limit: interrupted after '
     test ! -s err || fail 'progress where there is no terminal'
