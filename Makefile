@@ -1,16 +1,21 @@
 # Nothing but calls of rt, cargo, cc, clang and the programs that they build. What is built here goes to build/ and target/.
 .POSIX:
-.PHONY: test check second bench host command host-test demo fuzz fuzz-build fuzz-run clean
+.PHONY: all test check second bench host built command host-test demo install uninstall fuzz fuzz-build fuzz-run fuzz-text clean
 
 SECOND = build/second/release/second
 ARCHIVE = target/staticlib/libtejborun.a
 
 CC = cc
-CFLAGS = -std=c11 -Wall -Wextra -Werror -O2
+CFLAGS = -std=c11 -Wall -Wextra -Werror -O2 -Ibuild -Ihost/libmd -DSHA256_ONLY
 SANITIZE = -g -fsanitize=address,undefined -fno-sanitize-recover=all
-HOST = host/main.c host/files.c host/numbers.c host/words.c host/text.c host/fields.c host/shapes.c host/state_shape.c host/kinds.c host/board.c \
-	host/result.c host/capture.c host/sheet.c host/run.c host/changes.c host/compare.c host/roles.c host/dump.c host/dump_sheet.c host/dump_words.c \
-	host/dump_chain.c host/dump_result.c host/assemble.c host/assemble_sheet.c host/assemble_memory.c host/assemble_capture.c host/assemble_result.c
+HOST = host/main.c host/identity.c host/options.c host/files.c host/output.c host/numbers.c host/words.c host/message.c host/text.c host/fields.c host/shapes.c host/state_shape.c host/kinds.c host/board.c \
+	host/result.c host/capture.c host/sheet.c host/run.c host/blame.c host/progress.c host/changes.c host/raw.c host/dumps.c host/verdict.c host/compare.c host/compare_show.c host/compare_rack.c \
+	host/compare_json.c host/json.c host/report.c host/report_draw.c host/sum.c host/libmd/sha2.c host/roles.c host/dump.c host/dump_sheet.c host/dump_words.c \
+	host/dump_chain.c host/dump_result.c host/assemble.c host/assemble_sheet.c host/assemble_memory.c host/assemble_board.c \
+	host/assemble_capture.c host/assemble_result.c
+
+PREFIX = /usr/local
+DESTDIR =
 
 FUZZ_ENTRIES = build steps meaning start run build_and_run compare
 FUZZ_SECONDS = 1200
@@ -18,6 +23,8 @@ FUZZ_CC = clang
 FUZZ_CFLAGS = -std=c11 -Wall -Wextra -Werror -O1 -g -fsanitize=fuzzer,address,undefined -fno-sanitize-recover=all
 FUZZ_OPTIONS = -len_control=0 -max_len=4096 -timeout=60 -verbosity=0 -print_final_stats=1
 JUDGE = build/judge/release/libjudge.a
+
+all: host
 
 # The tests. The last line is rt ci's own, printed again only where everything passed.
 test:
@@ -52,17 +59,46 @@ host:
 	rt staticlib tejborun
 	$(MAKE) command
 
-command:
+# What the prover said of the library, and the library's sum, for the command to say.
+built:
 	mkdir -p build
+	{ echo "#define BUILT_PROOF \"$$(sed -n '/^logic=/p' target/log/tejborun.say 2> /dev/null | tail -n 1)\""; \
+	  echo "#define BUILT_LIBRARY_SUM \"$$(sha256sum $(ARCHIVE) | cut -d ' ' -f 1)\""; } > build/built.h
+
+command: built
 	$(CC) $(CFLAGS) -o build/tejborun $(HOST) $(ARCHIVE)
 
 # The tests of the command and of the C interface; the programs of the proved crates and the second program have been built.
 host-test: host
 	$(CC) $(CFLAGS) $(SANITIZE) -o build/tejborun-sanitized $(HOST) $(ARCHIVE)
-	$(CC) $(CFLAGS) $(SANITIZE) -o build/host-test host/test.c $(ARCHIVE)
+	$(CC) $(CFLAGS) $(SANITIZE) -o build/host-test host/test.c host/message.c host/sum.c host/libmd/sha2.c $(ARCHIVE)
+	$(CC) $(CFLAGS) -o build/test-forms host/test_forms.c host/json.c
 	build/host-test
 	sh host/test.sh build/tejborun $(SECOND) target/bin
 	sh host/test.sh build/tejborun-sanitized $(SECOND) target/bin 40
+
+# The command, its manual and completion, and the library with its headers; tejborun_message is put into it.
+install:
+	test -x build/tejborun || $(MAKE) host
+	cp $(ARCHIVE) build/libtejborun.a
+	$(CC) $(CFLAGS) -c -o build/message.o host/message.c
+	ar r build/libtejborun.a build/message.o
+	version=$$(sed -n 's/^#define TEJBORUN_VERSION "\(.*\)"/\1/p' host/tejborun.h); \
+	for f in tejborun.1 tejborun.pc.in; do \
+		sed -e "s|@PREFIX@|$(PREFIX)|" -e "s|@VERSION@|$$version|" host/share/$$f > build/$${f%.in} || exit 1; \
+	done
+	for d in bin lib/pkgconfig include/tejborun share/man/man1 share/bash-completion/completions; do mkdir -p "$(DESTDIR)$(PREFIX)/$$d" || exit 1; done
+	install -m 755 build/tejborun "$(DESTDIR)$(PREFIX)/bin/tejborun"
+	install -m 644 build/libtejborun.a "$(DESTDIR)$(PREFIX)/lib/libtejborun.a"
+	install -m 644 build/tejborun.pc "$(DESTDIR)$(PREFIX)/lib/pkgconfig/tejborun.pc"
+	install -m 644 host/tejborun.h host/state_shape.h "$(DESTDIR)$(PREFIX)/include/tejborun"
+	install -m 644 build/tejborun.1 "$(DESTDIR)$(PREFIX)/share/man/man1/tejborun.1"
+	install -m 644 host/share/tejborun.bash "$(DESTDIR)$(PREFIX)/share/bash-completion/completions/tejborun"
+
+uninstall:
+	rm -f "$(DESTDIR)$(PREFIX)/bin/tejborun" "$(DESTDIR)$(PREFIX)/lib/libtejborun.a" "$(DESTDIR)$(PREFIX)/lib/pkgconfig/tejborun.pc" \
+		"$(DESTDIR)$(PREFIX)/share/man/man1/tejborun.1" "$(DESTDIR)$(PREFIX)/share/bash-completion/completions/tejborun"
+	rm -rf "$(DESTDIR)$(PREFIX)/include/tejborun"
 
 # The bench's main jobs, as a person does them.
 demo: host
@@ -86,6 +122,14 @@ fuzz-run:
 		mkdir -p build/fuzz/corpus/$$e; \
 		build/fuzz/$$e $(FUZZ_OPTIONS) -max_total_time=$(FUZZ_SECONDS) -artifact_prefix=build/fuzz/$$e- build/fuzz/corpus/$$e fuzz/corpus/$$e || exit 1; \
 	done
+
+# The command's readers of text and files, by a fuzzer; the seeds are the examples and what the command makes of them.
+fuzz-text: command
+	mkdir -p build/fuzz/corpus/text
+	$(FUZZ_CC) $(FUZZ_CFLAGS) -Ibuild -Ihost/libmd -DSHA256_ONLY -o build/fuzz/text fuzz/text.c $(HOST:host/main.c=) $(ARCHIVE)
+	sh fuzz/text-seeds.sh build/tejborun examples build/fuzz/corpus/text
+	build/fuzz/text -close_fd_mask=3 -max_len=8192 -timeout=60 -verbosity=0 -print_final_stats=1 -max_total_time=$(FUZZ_SECONDS) \
+		-artifact_prefix=build/fuzz/text- build/fuzz/corpus/text
 
 clean:
 	rm -rf build target

@@ -53,4 +53,11 @@ echo "\$ $tejborun compare $out/difference.result $out/board.result --all | sed 
 sed -n '/quadword 255 /,/  W /p' "$out/all-differences.txt"
 echo
 grep -q '^    X .* -256 counts$' "$out/all-differences.txt"
+echo "5. A rack: a board's own dumps and the one that is low, compared at once and reported on a page."
+echo
+"$tejborun" export "$out/difference.result" --data "$out/vu.bin" --code "$out/micro.bin" --log "$out/log.bin"
+show "$tejborun" import --data "$out/vu.bin" --code "$out/micro.bin" --log "$out/log.bin" -o "$out/dumped.result"
+show_different "$tejborun" compare "$out/difference.result" "$out/dumped.result" "$out/board.result"
+show_different "$tejborun" report "$out/difference.result" "$out/dumped.result" "$out/board.result" -o "$out/report.html"
+
 echo "Shown: a sheet's chain leaves what the sheet means, and a board that loses one count a vector is caught at its first vector."

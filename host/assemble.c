@@ -29,24 +29,42 @@ static const struct kind *find_kind(const char *name)
     return NULL;
 }
 
+/* Whether a raw memory is given. */
+static bool raw_option(const struct words_given *given)
+{
+    for (size_t i = OPTION_MAIN; i <= OPTION_LOG; i++)
+        if (given->option[i] != NULL)
+            return true;
+    return false;
+}
+
+/* The bytes of a byte order mark, which some editors write first. */
+static size_t order_mark(const struct bytes *file)
+{
+    static const uint8_t mark[3] = {0xEF, 0xBB, 0xBF};
+    return file->count >= sizeof mark && memcmp(file->at, mark, sizeof mark) == 0 ? sizeof mark : 0;
+}
+
 int command_assemble(const struct words_given *given)
 {
     const struct kind *kind = find_kind(given->word[0]);
     if (kind == NULL)
         return complain(given->word[0], "no kind of file; give sheet, chain, state, capture or result");
+    if (kind->assemble != assemble_capture && raw_option(given))
+        return complain(given->word[0], "takes no raw memories: --main, --data, --code and --log belong to a capture");
     struct bytes file;
     const char *name = given->word[1];
     int status = read_file(name, TEXT_READ_BYTES, &file);
     if (status != STATUS_DONE)
         return status;
-    struct text text = {.name = name, .next = (char *)file.at};
+    struct text text = {.name = name, .given = given, .next = (char *)file.at + order_mark(&file)};
     struct output output = {0};
     if (memchr(file.at, 0, file.count) != NULL)
         status = complain(name, "no text: it has a zero byte");
     else
         status = kind->assemble(&text, &output);
     if (status == STATUS_DONE)
-        status = write_file(given->output, output.at, output.count);
+        status = write_file(given->option[OPTION_OUTPUT], output.at, output.count);
     free(output.at);
     free(file.at);
     return status;
@@ -54,8 +72,9 @@ int command_assemble(const struct words_given *given)
 
 int assemble_state(struct text *text, struct output *output)
 {
-    struct tejborun_state state = {0};
+    struct tejborun_state state;
     struct given given = {0};
+    tejborun_reset((uint32_t *)&state, TEJBORUN_BLOCK_WORDS);
     struct line line;
     bool end, any = false;
     for (;;) {

@@ -1,17 +1,21 @@
-/* Captures from text: a head, the state, calls, and the lines of main memory. */
+/* Captures from text: a head, the state, the memories at first, calls, and the lines of main memory. */
 #include <stdlib.h>
 #include <string.h>
 
 #include "assemble.h"
+#include "assemble_board.h"
 #include "capture.h"
+#include "command.h"
+#include "numbers.h"
+#include "raw.h"
 #include "shapes.h"
 
 /* What the lines have given so far. */
 struct parts {
     struct capture_head head;
-    struct tejborun_state state;
-    struct given head_given, state_given;
+    struct given head_given;
     bool has_head;
+    struct board_text memory; /* with the longest memories and log */
     struct output calls, main;
 };
 
@@ -20,29 +24,35 @@ static int head_line(const struct text *text, const struct line *line, struct pa
     if (parts->has_head)
         return complain_at(text, line->number, "'capture' is given twice");
     parts->has_head = true;
-    return read_fields(text, line, &capture_heads[0], (uint32_t *)&parts->head, &parts->head_given);
+    return read_fields(text, line, &capture_heads[1], (uint32_t *)&parts->head, &parts->head_given);
 }
 
+/* A call; a run without an allowance has no limit. */
 static int call_line(const struct text *text, const struct line *line, const struct shape *shape, struct parts *parts)
 {
-    uint32_t words[CALL_WORDS];
-    int status = read_block(text, line, shape, words);
+    uint32_t words[CALL_WORDS] = {shape->fixed};
+    struct given given = {0};
+    int status = read_fields(text, line, shape, words, &given);
     if (status != STATUS_DONE)
         return status;
+    if (shape == shape_named(calls, "run") && !is_given(shape, &given, "allowance"))
+        split_number(UINT64_MAX, words + 1);
     write_words(&parts->calls, words, CALL_WORDS);
     return STATUS_DONE;
 }
 
 static int capture_line(const struct text *text, const struct line *line, struct parts *parts)
 {
+    bool is_one;
     if (strcmp(line->item[0], "capture") == 0)
         return head_line(text, line, parts);
-    if (strcmp(line->item[0], "state") == 0)
-        return read_fields(text, line, &state_blocks[0], (uint32_t *)&parts->state, &parts->state_given);
+    int status = board_line(text, line, &parts->memory, &is_one);
+    if (is_one)
+        return status;
     const struct shape *call = shape_named(calls, line->item[0]);
     if (call != NULL)
         return call_line(text, line, call, parts);
-    return memory_line(text, line, &parts->main);
+    return memory_line(text, line, ", and no capture, state, quadword, instruction, entry, start or run", &parts->main);
 }
 
 static int read_parts(struct text *text, struct parts *parts)
@@ -59,33 +69,108 @@ static int read_parts(struct text *text, struct parts *parts)
     }
 }
 
-/* Puts the parts together; complains of what no capture can have. */
-static int join_parts(const struct text *text, struct parts *parts, struct output *output)
+/* Reads the raw memories that the command's options name. */
+static int take_raw_memories(const struct text *text, struct parts *parts)
 {
+    static const enum option options[PARTS] = {[PART_DATA] = OPTION_DATA, [PART_CODE] = OPTION_CODE, [PART_LOG] = OPTION_LOG};
+    const size_t bytes[PARTS] = {4 * (size_t)parts->head.data_words, parts->head.code_bytes, 8 * (size_t)parts->head.log_numbers};
+    int status = STATUS_DONE;
+    for (size_t part = 0; part < PARTS && status == STATUS_DONE; part++) {
+        const char *name = text->given->option[options[part]];
+        struct units_given *units = &parts->memory.units[part];
+        if (name == NULL)
+            continue;
+        if (units->end > 0)
+            return complain(name, "%s has lines for this memory already", text->name);
+        status = read_raw(name, (enum part)part, bytes[part], &parts->memory.board, &units->end);
+        memset(units->given, true, units->end);
+    }
+    return status;
+}
+
+static int take_raw_main(const struct text *text, struct parts *parts)
+{
+    const char *name = text->given->option[OPTION_MAIN];
+    struct bytes file;
+    if (name == NULL)
+        return STATUS_DONE;
+    if (parts->main.count > 0)
+        return complain(name, "%s has lines for main memory already", text->name);
+    int status = read_file(name, CAPTURE_MAIN_BYTES, &file);
+    if (status != STATUS_DONE)
+        return status;
+    write_bytes(&parts->main, file.at, file.count);
+    free(file.at);
+    return STATUS_DONE;
+}
+
+static bool gives_memory(const struct parts *parts)
+{
+    const struct units_given *units = parts->memory.units;
+    return units[PART_DATA].end > 0 || units[PART_CODE].end > 0 || units[PART_LOG].end > 0;
+}
+
+/* With a fill it is a test case. */
+static int set_mark(const struct text *text, struct parts *parts)
+{
+    bool filled = is_given(&capture_heads[1], &parts->head_given, "fill");
     if (!parts->has_head)
         return complain(text->name, "has no line 'capture'");
+    if (!filled && is_given(&capture_heads[1], &parts->head_given, "whole"))
+        return complain(text->name, "has 'whole=' without 'fill=': both are of test cases");
+    parts->head.mark = capture_heads[filled].fixed;
+    return check_head(text->name, &parts->head);
+}
+
+/* Counts the memories given; a test case gives none. */
+static int count_memories(const struct text *text, struct parts *parts)
+{
+    const struct units_given *units = parts->memory.units;
+    if (is_test_case(&parts->head))
+        return gives_memory(parts) ? complain(text->name, "has 'fill=' and gives a memory: give one or the other") : STATUS_DONE;
+    parts->head.first.data_words = (uint32_t)(4 * units[PART_DATA].end);
+    parts->head.first.code_bytes = (uint32_t)(8 * units[PART_CODE].end);
+    parts->head.first.log_numbers = (uint32_t)(TEJBORUN_ENTRY_NUMBERS * units[PART_LOG].end);
+    return finish_board_text(text, &parts->memory);
+}
+
+/* Counts what follows the head; complains of what no capture can have. */
+static int count_parts(const struct text *text, struct parts *parts)
+{
     if (parts->main.count % 4 != 0)
         return complain(text->name, "makes %zu bytes of main memory; give whole words of 4", parts->main.count);
     if (parts->calls.count / CALL_BYTES > CAPTURE_CALLS)
         return complain(text->name, "has %zu calls; the most is %d", parts->calls.count / CALL_BYTES, CAPTURE_CALLS);
     parts->head.given = (uint32_t)(parts->main.count / 4);
     parts->head.calls = (uint32_t)(parts->calls.count / CALL_BYTES);
-    int status = check_head(text->name, &parts->head);
-    if (status != STATUS_DONE)
-        return status;
-    write_words(output, (const uint32_t *)&parts->head, CAPTURE_HEAD_WORDS);
-    write_words(output, (const uint32_t *)&parts->state, TEJBORUN_BLOCK_WORDS);
-    write_bytes(output, parts->calls.at, parts->calls.count);
-    write_bytes(output, parts->main.at, parts->main.count);
-    return STATUS_DONE;
+    int status = count_memories(text, parts);
+    return status == STATUS_DONE ? check_head(text->name, &parts->head) : status;
 }
 
-/* The head where the text gives no field: VIF1's memories, all zero, and main memory and log as large as they can be. */
+static void write_parts(struct parts *parts, struct output *output)
+{
+    const struct capture_head *head = &parts->head;
+    const struct board *board = &parts->memory.board;
+    write_words(output, (const uint32_t *)head, CAPTURE_HEAD_WORDS);
+    write_words(output, (const uint32_t *)&board->state, TEJBORUN_BLOCK_WORDS);
+    write_bytes(output, parts->calls.at, parts->calls.count);
+    write_bytes(output, parts->main.at, parts->main.count);
+    if (is_test_case(head))
+        return;
+    write_words(output, board->data, head->first.data_words);
+    write_bytes(output, board->code, head->first.code_bytes);
+    for (size_t i = 0; i < head->first.log_numbers; i++) {
+        uint8_t number[8];
+        put_number(number, board->log[i]);
+        write_bytes(output, number, 8);
+    }
+}
+
+/* The head where the text gives no field: VIF1's memories, and main memory and log as large as they can be. */
 static struct capture_head default_head(void)
 {
     struct memories memories = memories_of(VIF1);
     return (struct capture_head){
-        .mark = capture_heads[0].fixed,
         .main_bytes = TEJBORUN_MAIN_BYTES,
         .data_words = (uint32_t)memories.data_words,
         .code_bytes = (uint32_t)memories.code_bytes,
@@ -95,11 +180,21 @@ static struct capture_head default_head(void)
 
 int assemble_capture(struct text *text, struct output *output)
 {
-    struct parts parts = {.head = default_head()};
+    struct memories longest = {CAPTURE_DATA_WORDS, CAPTURE_CODE_BYTES};
+    struct parts parts = {.head = default_head(), .memory = new_board_text(longest, CAPTURE_LOG_NUMBERS)};
     int status = read_parts(text, &parts);
     if (status == STATUS_DONE)
-        status = join_parts(text, &parts, output);
+        status = set_mark(text, &parts);
+    if (status == STATUS_DONE)
+        status = take_raw_main(text, &parts);
+    if (status == STATUS_DONE)
+        status = take_raw_memories(text, &parts);
+    if (status == STATUS_DONE)
+        status = count_parts(text, &parts);
+    if (status == STATUS_DONE)
+        write_parts(&parts, output);
     free(parts.calls.at);
     free(parts.main.at);
+    free_board_text(&parts.memory);
     return status;
 }

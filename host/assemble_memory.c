@@ -64,8 +64,9 @@ static int shape_line(const struct text *text, const struct line *line, const st
     return STATUS_DONE;
 }
 
-int memory_line(const struct text *text, const struct line *line, struct output *output)
+int memory_line(const struct text *text, const struct line *line, const char *more, struct output *output)
 {
+    char tags[NAMES_TEXT], codes[NAMES_TEXT];
     static const struct shape *const lists[3] = {dma_tags, vif_codes, gif_tags};
     if (output->count > CAPTURE_MAIN_BYTES)
         return complain_at(text, line->number, "main memory has at most %d bytes", CAPTURE_MAIN_BYTES);
@@ -80,7 +81,10 @@ int memory_line(const struct text *text, const struct line *line, struct output 
         if (shape != NULL)
             return shape_line(text, line, shape, output);
     }
-    return complain_at(text, line->number, "'%s' is no tag, code, giftag, word, byte or at", line->item[0]);
+    list_shapes(dma_tags, tags);
+    list_shapes(vif_codes, codes);
+    return complain_at(text, line->number, "'%s' is no tag (%s), code (%s), giftag, word, byte or at%s", line->item[0], tags, codes,
+                       more != NULL ? more : "");
 }
 
 int assemble_chain(struct text *text, struct output *output)
@@ -93,7 +97,7 @@ int assemble_chain(struct text *text, struct output *output)
             return status;
         if (end)
             break;
-        status = memory_line(text, &line, output);
+        status = memory_line(text, &line, NULL, output);
         if (status != STATUS_DONE)
             return status;
     }

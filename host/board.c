@@ -13,6 +13,21 @@ struct memories memories_of(enum vif unit)
     return all[unit];
 }
 
+const char *parts_words(unsigned parts)
+{
+    static const char *const words[PARTS_ALL + 1] = {
+        "nothing",
+        "data memory",
+        "code memory",
+        "data memory and code memory",
+        "log",
+        "data memory and log",
+        "code memory and log",
+        "data memory, code memory and log",
+    };
+    return words[parts];
+}
+
 struct board new_board(struct memories lengths, size_t log_numbers)
 {
     return (struct board){
@@ -50,7 +65,7 @@ uint32_t *board_block(struct board *board)
 
 uint64_t board_used(const struct board *board)
 {
-    return join_words(board->state.chain.used);
+    return tejborun_used(&board->state);
 }
 
 void set_board_used(struct board *board, uint64_t used)

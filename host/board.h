@@ -7,6 +7,7 @@
 #include <stdint.h>
 
 #include "files.h"
+#include "sum.h"
 #include "tejborun.h"
 
 /* A VIF unit, and the lengths of its memories. */
@@ -18,6 +19,16 @@ struct memories {
 
 struct memories memories_of(enum vif unit);
 
+/* What is compared: the memories and the log. */
+enum part { PART_DATA, PART_CODE, PART_LOG, PARTS };
+
+/* Sets of parts. */
+#define PART_BIT(part) (1u << (part))
+#define PARTS_ALL (PART_BIT(PARTS) - 1u)
+
+/* A set of parts in words: "data memory and log". */
+const char *parts_words(unsigned parts);
+
 struct board {
     struct tejborun_state state;
     size_t data_words, code_bytes, log_numbers;
@@ -27,9 +38,11 @@ struct board {
 };
 
 struct result {
+    unsigned parts; /* those that it has; the others are zero */
     uint32_t answer;
     uint64_t steps;
     struct board board;
+    char sum[SUM_TEXT]; /* of the file that it was read from */
 };
 
 /* The head of a result file; memories and log follow. */
@@ -37,6 +50,7 @@ struct result_head {
     uint32_t mark, answer, steps[2];
     struct tejborun_state state;
     uint32_t log_numbers;
+    uint32_t parts; /* only in a result that lacks some */
 };
 
 enum { RESULT_HEAD_WORDS = TEJBORUN_WORDS_OF(struct result_head) };

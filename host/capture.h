@@ -1,4 +1,4 @@
-/* Capture files of one case (docs/FORMATS.md). */
+/* Capture files (docs/FORMATS.md): those of the command, and a test case, whose memories are filled. */
 #ifndef CAPTURE_H
 #define CAPTURE_H
 
@@ -7,12 +7,19 @@
 
 #include "board.h"
 
-/* What a capture file begins with; the state block, the calls and main memory follow. */
+/* What a capture file begins with; the state block, the calls, main memory and the memories given follow. */
 struct capture_head {
     uint32_t mark, main_bytes;
     uint32_t given; /* words of main memory */
     uint32_t data_words, code_bytes, log_numbers;
-    uint32_t fill[2], whole;
+    union {
+        struct {
+            uint32_t data_words, code_bytes, log_numbers;
+        } first; /* how much of the memories and the log is given; the rest is zero */
+        struct {
+            uint32_t fill[2], whole;
+        } test; /* of a test case */
+    };
     uint32_t calls;
 };
 
@@ -26,7 +33,8 @@ enum {
     CAPTURE_CODE_BYTES = TEJBORUN_CODE_BYTES + 8,
     CAPTURE_LOG_NUMBERS = TEJBORUN_LOG_NUMBERS + 8,
     CAPTURE_CALLS = 65535,
-    CAPTURE_BYTES = CAPTURE_CALLS_AT + CAPTURE_CALLS * CALL_BYTES + CAPTURE_MAIN_BYTES,
+    CAPTURE_MEMORY_BYTES = CAPTURE_MAIN_BYTES + 4 * CAPTURE_DATA_WORDS + CAPTURE_CODE_BYTES + 8 * CAPTURE_LOG_NUMBERS,
+    CAPTURE_BYTES = CAPTURE_CALLS_AT + CAPTURE_CALLS * CALL_BYTES + CAPTURE_MEMORY_BYTES,
 };
 
 struct call {
@@ -35,10 +43,13 @@ struct call {
 
 struct capture {
     struct capture_head head;
-    struct tejborun_state state;
-    struct call *call; /* head.calls of them */
-    uint32_t *word;    /* head.given of them */
+    struct call *call;  /* head.calls of them */
+    uint32_t *word;     /* head.given of them */
+    struct board board; /* what the calls begin with */
 };
+
+/* Whether it is a test case: its memories are filled, none is given. */
+bool is_test_case(const struct capture_head *head);
 
 /* Tests the head's limits; complains of the first that is broken. */
 int check_head(const char *name, const struct capture_head *head);
@@ -48,8 +59,7 @@ int parse_capture(const char *name, const struct bytes *file, struct capture *ca
 int read_capture(const char *name, struct capture *capture);
 void free_capture(struct capture *capture);
 
-/* Main memory and the board that the capture begins with; the caller frees them. */
+/* Main memory; the caller frees it. */
 uint8_t *capture_main(const struct capture *capture);
-struct board capture_board(const struct capture *capture);
 
 #endif

@@ -2,7 +2,6 @@
 #include "changes.h"
 
 #include <inttypes.h>
-#include <stdio.h>
 #include <string.h>
 
 #include "words.h"
@@ -18,20 +17,20 @@ static size_t last_change(const void *before, const void *after, size_t count, s
 
 static void print_memory(const char *name, const char *one, const char *many, uint64_t first, uint64_t count, size_t last)
 {
-    printf("  %s: ", name);
+    say("  %s: ", name);
     if (count == 0)
-        printf("nothing changed\n");
+        say("nothing changed\n");
     else
-        printf("%" PRIu64 " %s changed, first %" PRIu64 ", last %zu\n", count, plural(count, one, many), first, last);
+        say("%" PRIu64 " %s changed, first %" PRIu64 ", last %zu\n", count, plural(count, one, many), first, last);
 }
 
 static void print_log(uint64_t before, uint64_t after)
 {
     uint64_t more = after - before;
     if (more == 0)
-        printf("  log: nothing added, %" PRIu64 " used\n", after);
+        say("  log: nothing added, %" PRIu64 " used\n", after);
     else
-        printf("  log: %" PRIu64 " %s added, first %" PRIu64 ", last %" PRIu64 "\n", more, plural(more, "entry", "entries"), before, after - 1);
+        say("  log: %" PRIu64 " %s added, first %" PRIu64 ", last %" PRIu64 "\n", more, plural(more, "entry", "entries"), before, after - 1);
 }
 
 void print_changes(const struct board *before, const struct board *after)
@@ -39,7 +38,7 @@ void print_changes(const struct board *before, const struct board *after)
     uint64_t numbers[6] = {0};
     uint32_t answer = compare_boards(before, after, numbers);
     if (answer >= TEJBORUN_REFUSED) {
-        printf("  memories and log: untouched, with these lengths every run is refused\n");
+        say("  memories and log: untouched, with these lengths every run is refused\n");
         return;
     }
     size_t quadword = numbers[1] > 0 ? last_change(before->data, after->data, board_quadwords(before), 16) : 0;

@@ -6,25 +6,47 @@
 #include <stddef.h>
 #include <stdint.h>
 
-enum { COMMAND_WORDS = 3 };
+enum option {
+    OPTION_OUTPUT,
+    OPTION_ALLOWANCE,
+    OPTION_FROM,
+    OPTION_NO_START,
+    OPTION_MAIN,
+    OPTION_DATA,
+    OPTION_CODE,
+    OPTION_LOG,
+    OPTION_ALL,
+    OPTION_UNFINISHED,
+    OPTION_QUIET,
+    OPTION_JSON,
+    OPTIONS /* how many */
+};
 
 /* What was given after the command's name. */
 struct words_given {
     size_t count;
-    const char *word[COMMAND_WORDS]; /* without the options */
-    const char *output;              /* -o, or null */
-    bool has_allowance, all;
+    const char **word;           /* without the options */
+    const char *option[OPTIONS]; /* their values, empty for those without; null where not given */
     uint64_t allowance;
 };
 
 /* Each does its command and hands back the exit status. */
-int command_build(const struct words_given *given);
-int command_steps(const struct words_given *given);
-int command_meaning(const struct words_given *given);
-int command_run(const struct words_given *given);
-int command_play(const struct words_given *given);
-int command_compare(const struct words_given *given);
-int command_dump(const struct words_given *given);
-int command_assemble(const struct words_given *given);
+typedef int command_call(const struct words_given *given);
+command_call command_build, command_steps, command_meaning, command_run, command_play, command_compare, command_report, command_import, command_export, command_dump, command_assemble;
+
+struct command {
+    const char *name;
+    size_t least, most; /* words */
+    size_t files;       /* the first word that is a file */
+    unsigned options;   /* a bit each */
+    bool needs_output;
+    command_call *call;
+    const char *usage, *help;
+};
+
+#define TAKES(option) (1u << (option))
+
+/* Takes the words after the command's name. A status; the caller frees given->word. */
+int take_words(const struct command *command, int count, char **words, struct words_given *given);
 
 #endif

@@ -1,148 +1,107 @@
-/* The command compare. The library finds the first difference of each kind and counts; here it is shown. */
+/* The command compare: a board, or a rack of boards, beside a result. */
+#include "compare.h"
+
 #include <inttypes.h>
 #include <stdio.h>
 #include <string.h>
 
-#include "board.h"
 #include "command.h"
-#include "numbers.h"
 #include "words.h"
 
-static void show_quadword(const struct board *a, const struct board *b, size_t number)
-{
-    static const char fields[] = "XYZW";
-    printf("  quadword %zu (0x%zX)\n       result                   board                    board - result\n", number, number);
-    for (size_t i = 0; i < 4; i++) {
-        uint32_t x = a->data[4 * number + i], y = b->data[4 * number + i];
-        int64_t counts = signed_word(y - x);
-        printf("    %c  0x%08" PRIX32 " %11" PRId64 "   0x%08" PRIX32 " %11" PRId64, fields[i], x, signed_word(x), y, signed_word(y));
-        if (counts == 0)
-            printf("   same\n");
-        else
-            printf("   %+" PRId64 " %s\n", counts, plural(counts == 1 || counts == -1 ? 1 : 2, "count", "counts"));
-    }
-}
-
-static void show_instruction(const struct board *a, const struct board *b, size_t number)
-{
-    printf("  instruction %zu (0x%zX): result 0x%016" PRIX64 ", board 0x%016" PRIX64 "\n", number, number, get_number(a->code + 8 * number),
-           get_number(b->code + 8 * number));
-}
-
-static void print_entry(const char *who, const struct board *board, size_t number)
-{
-    const uint64_t *entry = board_entry(board, number);
-    uint64_t log_register = entry[TEJBORUN_ENTRY_REGISTER], value = entry[TEJBORUN_ENTRY_VALUE];
-    const char *name = register_name(log_register);
-    printf("    %s register 0x%02" PRIX64 " %s, value 0x%016" PRIX64 " (%" PRIu64 ")\n", who, log_register, name != NULL ? name : "(no name)", value,
-           value);
-}
-
-static void show_entry(const struct board *a, const struct board *b, size_t number)
-{
-    printf("  log entry %zu\n", number);
-    print_entry("result", a, number);
-    print_entry("board ", b, number);
-}
-
-/* One kind of unit that is compared, and how a difference is shown. */
-struct unit {
-    const char *memory, *one, *many, *differs, *differ;
-    void (*show)(const struct board *, const struct board *, size_t);
+const struct part_words part_words[PARTS] = {
+    [PART_DATA] = {"data memory", "quadword", "quadwords"},
+    [PART_CODE] = {"code memory", "instruction", "instructions"},
+    [PART_LOG] = {"log", "entry", "entries"},
 };
 
-static const struct unit units[3] = {
-    {"data memory", "quadword", "quadwords", "quadword differs", "quadwords differ", show_quadword},
-    {"code memory", "instruction", "instructions", "instruction differs", "instructions differ", show_instruction},
-    {"log", "entry", "entries", "entry differs", "entries differ", show_entry},
+const char *verdict_words(const struct rack *rack, const struct compared *compared)
+{
+    static const char *const finished[VERDICTS] = {"equal", "different", "refused", "no verdict"};
+    static const char *const unfinished[VERDICTS] = {"equal to an unfinished result", "different from an unfinished result", "refused", "no verdict"};
+    if (compared->board == NULL)
+        return "not read";
+    return rack->result->answer == TEJBORUN_DONE ? finished[compared->comparison.verdict] : unfinished[compared->comparison.verdict];
+}
+
+/* Says why there is no verdict on a board. */
+static void complain_of_verdict(const struct rack *rack, const struct compared *compared)
+{
+    const struct comparison *comparison = &compared->comparison;
+    if (comparison->verdict == VERDICT_REFUSED)
+        complain("compare", "%s and %s: refused %" PRIu32 ": %s", rack->name, compared->name, comparison->refusal, tejborun_message(comparison->refusal));
+    if (comparison->verdict == VERDICT_NONE && comparison->reason == REASON_PARTS)
+        complain("compare", "%s: no verdict: %s has %s, %s %s; only whole results are compared", compared->name, rack->name,
+                 parts_words(rack->result->parts), compared->name, parts_words(compared->board->parts));
+    if (comparison->verdict == VERDICT_NONE && comparison->reason == REASON_UNFINISHED)
+        complain("compare", "%s: no verdict: %s is unfinished, its answer is %" PRIu32 ": %s; --unfinished compares it all the same", compared->name,
+                 rack->name, rack->result->answer, tejborun_message(rack->result->answer));
+}
+
+/* How boards are shown. */
+struct view {
+    show_compared *show;
+    int (*end)(const struct rack *);
 };
 
-/* Makes a unit of a kind the same in b, so that the library finds the next difference. */
-static void make_same(const struct board *a, struct board *b, size_t kind, size_t number)
+static struct view view_of(const struct words_given *given)
 {
-    if (kind == 0)
-        memcpy(b->data + 4 * number, a->data + 4 * number, 16);
-    else if (kind == 1)
-        memcpy(b->code + 8 * number, a->code + 8 * number, 8);
-    else
-        memcpy(board_entry(b, number), board_entry(a, number), TEJBORUN_ENTRY_NUMBERS * sizeof *b->log);
+    if (given->option[OPTION_QUIET] != NULL)
+        return (struct view){NULL, NULL};
+    if (given->option[OPTION_JSON] != NULL)
+        return (struct view){show_json, end_json};
+    return given->count == 2 ? (struct view){show_board, NULL} : (struct view){show_row, show_summary};
 }
 
-/* Shows every difference of a kind; spends a copy of board b. */
-static void show_all(const struct board *a, const struct board *b, size_t kind)
+/* Reads a board, asks for the verdict and shows it. */
+static void compare_board(const struct words_given *given, show_compared *show, const char *name, struct rack *rack)
 {
-    struct board spent = copy_board(b);
-    uint64_t numbers[6] = {0};
-    while (compare_boards(a, &spent, numbers) == TEJBORUN_DIFFERENT && numbers[2 * kind + 1] > 0) {
-        units[kind].show(a, &spent, numbers[2 * kind]);
-        make_same(a, &spent, kind, numbers[2 * kind]);
+    struct result board;
+    struct compared compared = {.name = name, .status = read_result(name, &board)};
+    if (compared.status == STATUS_DONE) {
+        compared.board = &board;
+        compared.comparison = compare_results(rack->result, &board, given->option[OPTION_UNFINISHED] != NULL);
+        compared.status = status_of_verdict(compared.comparison.verdict);
+        complain_of_verdict(rack, &compared);
     }
-    free_board(&spent);
+    rack->status = worse(rack->status, compared.status);
+    if (show != NULL)
+        rack->status = worse(rack->status, show(rack->context, rack, &compared));
+    rack->ends[compared.board != NULL ? compared.comparison.verdict : VERDICTS]++;
+    rack->boards++;
+    if (compared.board != NULL)
+        free_board(&board.board);
 }
 
-static void show_kind(const struct board *a, const struct board *b, size_t kind, const uint64_t *numbers, bool all)
+void compare_rack(const struct words_given *given, show_compared *show, struct rack *rack)
 {
-    const struct unit *unit = &units[kind];
-    uint64_t first = numbers[2 * kind], count = numbers[2 * kind + 1];
-    if (count == 0) {
-        printf("%s: the same, %" PRIu64 " %s compared\n", unit->memory, first, plural(first, unit->one, unit->many));
-        return;
-    }
-    printf("%s: %" PRIu64 " %s, the first is %" PRIu64 "\n", unit->memory, count, plural(count, unit->differs, unit->differ), first);
-    if (all)
-        show_all(a, b, kind);
-    else
-        unit->show(a, b, first);
+    for (size_t i = 1; i < given->count; i++)
+        compare_board(given, show, given->word[i], rack);
 }
 
-/* Shows the first entry that only one of the two has. */
-static void show_lengths(const struct board *a, const struct board *b)
+/* The longest name of a board, as far as a column goes. */
+static int longest_name(const struct words_given *given)
 {
-    uint64_t of_a = board_used(a), of_b = board_used(b);
-    if (of_a == of_b)
-        return;
-    const struct board *longer = of_a > of_b ? a : b;
-    uint64_t less = of_a > of_b ? of_b : of_a, more = of_a > of_b ? of_a : of_b;
-    printf("log: the result has %" PRIu64 " %s, the board %" PRIu64 "; only the %s has %" PRIu64 " to %" PRIu64 ", the first of them\n", of_a,
-           plural(of_a, "entry", "entries"), of_b, longer == a ? "result" : "board", less, more - 1);
-    print_entry(longer == a ? "result" : "board ", longer, less);
-}
-
-static void show_answer(const char *name, const struct result *result)
-{
-    printf("%s: answer %" PRIu32 ", %s; %" PRIu64 " %s\n", name, result->answer, meaning_of(result->answer), result->steps,
-           plural(result->steps, "step", "steps"));
-}
-
-static int compare_results(const struct words_given *given, const struct result *result, const struct result *board)
-{
-    uint64_t numbers[6] = {0};
-    uint32_t answer = compare_boards(&result->board, &board->board, numbers);
-    if (answer != TEJBORUN_SAME && answer != TEJBORUN_DIFFERENT) {
-        uint32_t refusal = answer >= TEJBORUN_REFUSED ? answer - TEJBORUN_REFUSED : answer;
-        complain("compare", "%s and %s: refused %" PRIu32 ": %s", given->word[0], given->word[1], refusal, meaning_of(refusal));
-        return STATUS_REFUSED;
-    }
-    show_answer(given->word[0], result);
-    show_answer(given->word[1], board);
-    for (size_t kind = 0; kind < 3; kind++)
-        show_kind(&result->board, &board->board, kind, numbers, given->all);
-    show_lengths(&result->board, &board->board);
-    puts(answer == TEJBORUN_SAME ? "equal" : "different");
-    return answer == TEJBORUN_SAME ? STATUS_DONE : STATUS_REFUSED;
+    size_t longest = 8;
+    for (size_t i = 1; i < given->count; i++)
+        if (strlen(given->word[i]) > longest)
+            longest = strlen(given->word[i]);
+    return longest < 60 ? (int)longest : 60;
 }
 
 int command_compare(const struct words_given *given)
 {
-    struct result result, board;
+    struct result result;
+    struct view view = view_of(given);
+    struct rack rack = {.name = given->word[0], .result = &result, .all = given->option[OPTION_ALL] != NULL};
+    rack.width = longest_name(given);
+    if (rack.all && view.show == show_row)
+        return complain("compare", "--all shows one board, or several with --json");
     int status = read_result(given->word[0], &result);
     if (status != STATUS_DONE)
         return status;
-    status = read_result(given->word[1], &board);
-    if (status == STATUS_DONE) {
-        status = compare_results(given, &result, &board);
-        free_board(&board.board);
-    }
+    compare_rack(given, view.show, &rack);
+    if (view.end != NULL)
+        rack.status = worse(rack.status, view.end(&rack));
     free_board(&result.board);
-    return status;
+    return rack.status;
 }

@@ -43,6 +43,8 @@ int command_dump(const struct words_given *given)
     const char *kind = given->count == 2 ? given->word[0] : kind_by_mark(&file);
     if (kind != NULL)
         status = dump_as(kind, name, &file);
+    else if (is_text(&file))
+        status = complain(name, "it is text already");
     else
         status = complain(name, "begins with no mark; give its kind: tejborun dump sheet, chain or state FILE");
     free(file.at);

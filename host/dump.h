@@ -6,8 +6,8 @@
 #include <stdint.h>
 #include <stdio.h>
 
+#include "board.h"
 #include "files.h"
-#include "state_shape.h"
 
 /* Each prints the file of these bytes and hands back the exit status. */
 int dump_sheet(const char *name, const struct bytes *file);
@@ -18,6 +18,11 @@ int dump_result(const char *name, const struct bytes *file);
 
 /* Prints words of main memory by their roles. */
 void print_words(const uint32_t *words, const uint8_t *roles, size_t count);
+
+/* Print the quadwords, instructions or entries below a number that are not zero, the last of them in any case where so wanted; of the log also those used. */
+void print_data(const struct board *board, size_t end, bool last);
+void print_code_memory(const struct board *board, size_t end, bool last);
+void print_log(const struct board *board, size_t end, bool last);
 
 /* Prints a state block, one or more lines. */
 void print_state(const struct tejborun_state *state);

@@ -38,7 +38,7 @@ int dump_chain(const char *name, const struct bytes *file)
 static void follow_calls(const struct capture *capture, uint8_t *roles)
 {
     struct trail trail = new_trail(capture->word, capture->head.given, capture->head.main_bytes / 4, roles);
-    trail_from_state(&trail, &capture->state);
+    trail_from_state(&trail, &capture->board.state);
     for (size_t i = 0; i < capture->head.calls; i++) {
         const uint32_t *words = capture->call[i].words;
         if (words[0] == 1)
@@ -48,13 +48,25 @@ static void follow_calls(const struct capture *capture, uint8_t *roles)
     }
 }
 
+/* Prints the memories that the capture gives. */
+static void print_first(const struct capture *capture)
+{
+    const struct capture_head *head = &capture->head;
+    if (is_test_case(head))
+        return;
+    print_data(&capture->board, head->first.data_words / 4, true);
+    print_code_memory(&capture->board, head->first.code_bytes / 8, true);
+    print_log(&capture->board, head->first.log_numbers / TEJBORUN_ENTRY_NUMBERS, true);
+}
+
 static void print_capture(const struct capture *capture)
 {
     uint8_t *roles = allocate(capture->head.given, 1);
     follow_calls(capture, roles);
-    print_block(stdout, &capture_heads[0], (const uint32_t *)&capture->head);
+    print_block(stdout, shape_of(capture_heads, capture->head.mark), (const uint32_t *)&capture->head);
     putchar('\n');
-    print_state(&capture->state);
+    print_state(&capture->board.state);
+    print_first(capture);
     for (size_t i = 0; i < capture->head.calls; i++) {
         print_block(stdout, shape_of(calls, capture->call[i].words[0]), capture->call[i].words);
         putchar('\n');

@@ -11,23 +11,23 @@
 static void print_head(const struct result *result)
 {
     const struct result_head head = result_head_of(result);
-    print_block(stdout, &result_heads[0], (const uint32_t *)&head);
-    printf("  # %s\n", meaning_of(result->answer));
+    print_block(stdout, shape_of(result_heads, head.mark), (const uint32_t *)&head);
+    printf("  # %s\n", tejborun_message(result->answer));
 }
 
-static void print_data(const struct board *board)
+void print_data(const struct board *board, size_t end, bool last)
 {
-    for (size_t i = 0; i < board_quadwords(board); i++) {
+    for (size_t i = 0; i < end; i++) {
         const uint32_t *at = board->data + 4 * i;
-        if ((at[0] | at[1] | at[2] | at[3]) != 0)
+        if ((at[0] | at[1] | at[2] | at[3]) != 0 || (last && i + 1 == end))
             printf("quadword %zu 0x%08" PRIX32 " 0x%08" PRIX32 " 0x%08" PRIX32 " 0x%08" PRIX32 "\n", i, at[0], at[1], at[2], at[3]);
     }
 }
 
-static void print_code_memory(const struct board *board)
+void print_code_memory(const struct board *board, size_t end, bool last)
 {
-    for (size_t i = 0; i < board_instructions(board); i++)
-        if (get_number(board->code + 8 * i) != 0)
+    for (size_t i = 0; i < end; i++)
+        if (get_number(board->code + 8 * i) != 0 || (last && i + 1 == end))
             printf("instruction %zu 0x%016" PRIX64 "\n", i, get_number(board->code + 8 * i));
 }
 
@@ -39,14 +39,13 @@ static bool is_zero(const uint64_t *entry)
     return any == 0;
 }
 
-/* Prints the entries used, and beyond them those that are not zero. */
-static void print_log(const struct board *board)
+void print_log(const struct board *board, size_t end, bool last)
 {
     uint64_t used = board_used(board);
     bool beyond = false;
-    for (size_t i = 0; i < board_entries(board); i++) {
+    for (size_t i = 0; i < end; i++) {
         const uint64_t *entry = board_entry(board, i);
-        if (i >= used && is_zero(entry))
+        if (i >= used && is_zero(entry) && !(last && i + 1 == end))
             continue;
         if (i >= used && !beyond)
             printf("# beyond the entries used\n");
@@ -63,11 +62,12 @@ int dump_result(const char *name, const struct bytes *file)
     int status = parse_result(name, file, &result);
     if (status != STATUS_DONE)
         return status;
+    const struct board *board = &result.board;
     print_head(&result);
-    print_state(&result.board.state);
-    print_data(&result.board);
-    print_code_memory(&result.board);
-    print_log(&result.board);
+    print_state(&board->state);
+    print_data(board, board_quadwords(board), false);
+    print_code_memory(board, board_instructions(board), false);
+    print_log(board, board_entries(board), false);
     free_board(&result.board);
     return STATUS_DONE;
 }

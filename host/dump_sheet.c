@@ -81,7 +81,7 @@ int dump_sheet(const char *name, const struct bytes *file)
     if (answer == TEJBORUN_DONE)
         printf(", %" PRIu64 " %s\n", numbers[0], plural(numbers[0], "step", "steps"));
     else
-        printf(", refused %" PRIu32 " at offset %zu: %s\n", answer, end, meaning_of(answer));
+        printf(", refused %" PRIu32 " at offset %zu: %s\n", answer, end, tejborun_message(answer));
     for (size_t at = 0; at < end;)
         at += print_record(file->at, at);
     if (answer == TEJBORUN_DONE)

@@ -17,7 +17,7 @@ uint64_t field_value(const uint32_t *words, const struct field *field)
     return value;
 }
 
-static void set_field(uint32_t *words, const struct field *field, uint64_t value)
+void set_field(uint32_t *words, const struct field *field, uint64_t value)
 {
     for (unsigned i = 0; i < field->width; i++) {
         unsigned bit = field->low + i;
@@ -42,15 +42,42 @@ const struct shape *shape_of(const struct shape *list, uint32_t word)
     return NULL;
 }
 
-static void print_value(FILE *out, const struct field *field, uint64_t value)
+void field_text(const struct field *field, uint64_t value, char text[FIELD_TEXT])
 {
     const char *name = field->names != NULL && value < field->names->count ? field->names->name[value] : NULL;
     if (name != NULL)
-        fputs(name, out);
+        snprintf(text, FIELD_TEXT, "%s", name);
     else if ((field->flags & FIELD_HEX) != 0 || value > UINT32_MAX)
-        fprintf(out, "0x%" PRIX64, value);
+        snprintf(text, FIELD_TEXT, "0x%" PRIX64, value);
     else
-        fprintf(out, "%" PRIu64, value);
+        snprintf(text, FIELD_TEXT, "%" PRIu64, value);
+}
+
+void add_name(char text[NAMES_TEXT], const char *name)
+{
+    size_t length = strlen(text);
+    snprintf(text + length, NAMES_TEXT - length, "%s%s", length > 0 ? ", " : "", name);
+}
+
+void list_shapes(const struct shape *list, char text[NAMES_TEXT])
+{
+    for (text[0] = 0; list->name != NULL; list++)
+        add_name(text, list->name);
+}
+
+void list_fields(const struct shape *shape, char text[NAMES_TEXT])
+{
+    text[0] = 0;
+    for (size_t i = 0; i < shape->fields; i++)
+        add_name(text, shape->field[i].name);
+}
+
+void list_names(const struct names *names, char text[NAMES_TEXT])
+{
+    text[0] = 0;
+    for (size_t i = 0; i < names->count; i++)
+        if (names->name[i] != NULL)
+            add_name(text, names->name[i]);
 }
 
 void print_block(FILE *out, const struct shape *shape, const uint32_t *words)
@@ -67,8 +94,9 @@ void print_block(FILE *out, const struct shape *shape, const uint32_t *words)
         if (!line_begun)
             fprintf(out, "\n%s", shape->name);
         line_begun = true;
-        fprintf(out, " %s=", field->name);
-        print_value(out, field, value);
+        char text[FIELD_TEXT];
+        field_text(field, value, text);
+        fprintf(out, " %s=%s", field->name, text);
     }
 }
 
@@ -99,22 +127,39 @@ static size_t find_field(const struct shape *shape, const char *item, size_t len
     return shape->fields;
 }
 
+bool is_given(const struct shape *shape, const struct given *given, const char *name)
+{
+    size_t i = find_field(shape, name, strlen(name));
+    return i < shape->fields && given->field[i];
+}
+
+static int complain_of_value(const struct text *text, const struct line *line, const struct field *field, const char *value)
+{
+    char names[NAMES_TEXT] = "";
+    if (field->names != NULL)
+        list_names(field->names, names);
+    return complain_at(text, line->number, "%s=%s: the field has %u bits; give a number as 12 or 0x1F%s%s", field->name, value, field->width,
+                       names[0] != 0 ? ", or one of " : "", names);
+}
+
 static int read_field(const struct text *text, const struct line *line, const char *item, const struct shape *shape, uint32_t *words, struct given *given)
 {
+    char known[NAMES_TEXT];
     size_t length = strcspn(item, "=");
     if (item[length] == 0)
         return complain_at(text, line->number, "'%s' after '%s': expected field=value", item, shape->name);
     size_t i = find_field(shape, item, length);
-    if (i == shape->fields)
-        return complain_at(text, line->number, "'%s' has no field '%.*s'", shape->name, (int)length, item);
+    if (i == shape->fields) {
+        list_fields(shape, known);
+        return complain_at(text, line->number, "'%s' has no field '%.*s'; it has %s", shape->name, (int)length, item, known);
+    }
     const struct field *field = &shape->field[i];
     if (given->field[i])
         return complain_at(text, line->number, "'%s' is given twice", field->name);
     given->field[i] = true;
     uint64_t value;
     if (!read_value(item + length + 1, field, &value))
-        return complain_at(text, line->number, "%s=%s: the field has %u bits; give a number as 12 or 0x1F%s", field->name, item + length + 1, field->width,
-                           field->names != NULL ? ", or one of its names" : "");
+        return complain_of_value(text, line, field, item + length + 1);
     set_field(words, field, value);
     return STATUS_DONE;
 }

@@ -42,7 +42,24 @@ struct given {
     bool field[MOST_FIELDS];
 };
 
+/* Whether the field of a name was given. */
+bool is_given(const struct shape *shape, const struct given *given, const char *name);
+
 uint64_t field_value(const uint32_t *words, const struct field *field);
+void set_field(uint32_t *words, const struct field *field, uint64_t value);
+
+/* A value as its field shows it: by its name, in hexadecimal or decimal. */
+enum { FIELD_TEXT = 32 };
+void field_text(const struct field *field, uint64_t value, char text[FIELD_TEXT]);
+
+/* The names of shapes, of a shape's fields or of a field's values, with commas; cut where there is no room. */
+enum { NAMES_TEXT = 1024 };
+void list_shapes(const struct shape *list, char text[NAMES_TEXT]);
+void list_fields(const struct shape *shape, char text[NAMES_TEXT]);
+void list_names(const struct names *names, char text[NAMES_TEXT]);
+
+/* Adds a name to such a list. */
+void add_name(char text[NAMES_TEXT], const char *name);
 
 /* The shape of a name in a list that ends with a nameless one; null where there is none. */
 const struct shape *shape_named(const struct shape *list, const char *name);

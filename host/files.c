@@ -1,15 +1,19 @@
-/* Files, messages and exit statuses. */
+/* Files that are read, messages and exit statuses. */
 #define _POSIX_C_SOURCE 200809L
 
 #include "files.h"
 
 #include <errno.h>
 #include <stdarg.h>
-#include <stdbool.h>
-#include <stdio.h>
 #include <stdlib.h>
 #include <string.h>
 #include <sys/stat.h>
+
+int worse(int a, int b)
+{
+    static const int order[] = {[STATUS_DONE] = 0, [STATUS_REFUSED] = 1, [STATUS_STOPPED] = 2, [STATUS_BAD] = 3};
+    return order[a] > order[b] ? a : b;
+}
 
 int complain(const char *about, const char *format, ...)
 {
@@ -23,6 +27,21 @@ int complain(const char *about, const char *format, ...)
     return STATUS_BAD;
 }
 
+static FILE *said;
+
+void say_to(FILE *stream)
+{
+    said = stream;
+}
+
+void say(const char *format, ...)
+{
+    va_list values;
+    va_start(values, format);
+    vfprintf(said != NULL ? said : stdout, format, values);
+    va_end(values);
+}
+
 void *allocate(size_t count, size_t size)
 {
     void *memory = calloc(count > 0 ? count : 1, size);
@@ -31,6 +50,19 @@ void *allocate(size_t count, size_t size)
         exit(STATUS_BAD);
     }
     return memory;
+}
+
+char *copy_text(const char *text)
+{
+    size_t length = strlen(text);
+    char *copy = allocate(length + 1, 1);
+    memcpy(copy, text, length);
+    return copy;
+}
+
+bool is_dash(const char *name)
+{
+    return strcmp(name, "-") == 0;
 }
 
 /* Reads up to most + 1 bytes, so that a longer file shows. */
@@ -63,11 +95,12 @@ static int read_stream(const char *name, FILE *stream, size_t most, struct bytes
 int read_file(const char *name, size_t most, struct bytes *file)
 {
     *file = (struct bytes){0};
-    FILE *stream = fopen(name, "rb");
+    FILE *stream = is_dash(name) ? stdin : fopen(name, "rb");
     if (stream == NULL)
         return complain(name, "cannot be opened: %s", strerror(errno));
     int status = read_stream(name, stream, most, file);
-    fclose(stream);
+    if (stream != stdin)
+        fclose(stream);
     if (status != STATUS_DONE) {
         free(file->at);
         *file = (struct bytes){0};
@@ -75,48 +108,12 @@ int read_file(const char *name, size_t most, struct bytes *file)
     return status;
 }
 
-/* Whether everything was written; closes the stream. */
-static bool write_stream(FILE *stream, const uint8_t *bytes, size_t count)
+bool same_file(const char *a, const char *b)
 {
-    bool whole = count == 0 || fwrite(bytes, 1, count, stream) == count;
-    return fclose(stream) == 0 && whole;
-}
-
-/* Writes to what is not a regular file, such as a pipe: it is not replaced. */
-static int write_through(const char *name, const uint8_t *bytes, size_t count)
-{
-    FILE *stream = fopen(name, "wb");
-    if (stream == NULL || !write_stream(stream, bytes, count))
-        return complain(name, "cannot be written: %s", strerror(errno));
-    return STATUS_DONE;
-}
-
-static int write_beside(const char *name, const char *beside, const uint8_t *bytes, size_t count)
-{
-    FILE *stream = fopen(beside, "wb");
-    if (stream == NULL)
-        return complain(name, "cannot be written: %s: %s", beside, strerror(errno));
-    if (!write_stream(stream, bytes, count) || rename(beside, name) != 0) {
-        int status = complain(name, "cannot be written: %s", strerror(errno));
-        remove(beside);
-        return status;
-    }
-    return STATUS_DONE;
-}
-
-int write_file(const char *name, const uint8_t *bytes, size_t count)
-{
-    static const char ending[] = ".partial";
-    struct stat found;
-    if (stat(name, &found) == 0 && S_ISDIR(found.st_mode))
-        return complain(name, "cannot be written: it is a directory");
-    if (stat(name, &found) == 0 && !S_ISREG(found.st_mode))
-        return write_through(name, bytes, count);
-    size_t length = strlen(name);
-    char *beside = allocate(length + sizeof ending, 1);
-    memcpy(beside, name, length);
-    memcpy(beside + length, ending, sizeof ending);
-    int status = write_beside(name, beside, bytes, count);
-    free(beside);
-    return status;
+    struct stat of_a, of_b;
+    if (is_dash(a) || is_dash(b))
+        return is_dash(a) && is_dash(b);
+    if (stat(a, &of_a) != 0 || stat(b, &of_b) != 0)
+        return false;
+    return S_ISREG(of_a.st_mode) && of_a.st_dev == of_b.st_dev && of_a.st_ino == of_b.st_ino;
 }

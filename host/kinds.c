@@ -9,11 +9,21 @@ bool has_mark(const struct bytes *file, const struct shape *head)
     return file->count >= 4 && get_word(file->at) == head->fixed;
 }
 
+bool is_text(const struct bytes *file)
+{
+    for (size_t i = 0; i < file->count; i++) {
+        uint8_t c = file->at[i];
+        if ((c < ' ' && c != '\t' && c != '\r' && c != '\n') || c == 0x7F)
+            return false;
+    }
+    return file->count > 0;
+}
+
 const char *kind_by_mark(const struct bytes *file)
 {
-    if (has_mark(file, &capture_heads[0]))
+    if (has_mark(file, &capture_heads[0]) || has_mark(file, &capture_heads[1]))
         return "capture";
-    if (has_mark(file, &result_heads[0]))
+    if (has_mark(file, &result_heads[0]) || has_mark(file, &result_heads[1]))
         return "result";
     if (file->count >= 2 && file->at[0] == 0x9E && file->at[1] == 0x51)
         return "sheet";
@@ -24,6 +34,8 @@ int complain_of_mark(const char *name, const struct bytes *file, const struct sh
 {
     const char *kind = kind_by_mark(file);
     uint8_t mark[4];
+    if (is_text(file))
+        return complain(name, "no %s, but text; assemble it first: tejborun assemble %s %s -o FILE", head->name, head->name, name);
     put_word(mark, head->fixed);
     return complain(name, "no %s: it does not begin with the mark %.4s%s%s", head->name, (const char *)mark, kind != NULL ? ", but with that of a " : "",
                     kind != NULL ? kind : "");

@@ -11,6 +11,9 @@
 /* Whether the file begins with the mark of a head. */
 bool has_mark(const struct bytes *file, const struct shape *head);
 
+/* Whether a file is text: no byte but characters, blanks and line ends. */
+bool is_text(const struct bytes *file);
+
 /* The kind of a file by its mark; null where it has none. */
 const char *kind_by_mark(const struct bytes *file);
 

@@ -1,43 +1,65 @@
 /* The command: finds out what is wanted and calls it. */
+#define _POSIX_C_SOURCE 200809L
+
 #include <errno.h>
+#include <signal.h>
 #include <stdio.h>
+#include <stdlib.h>
 #include <string.h>
 
 #include "command.h"
 #include "files.h"
-#include "numbers.h"
+#include "identity.h"
+#include "tejborun.h"
 
-enum { TAKES_OUTPUT = 1, TAKES_ALLOWANCE = 2, TAKES_ALL = 4 };
-
-struct command {
-    const char *name;
-    size_t least, most; /* words */
-    unsigned options;
-    int (*call)(const struct words_given *);
-    const char *usage, *help;
-};
+#define STATUSES                                                                                                            \
+    "Exit status: 0 done or equal, 1 a refusal or a difference, 2 bad usage or file, 3 stopped before the end (90, 91) or\n" \
+    "no verdict; of several the worst in the order 2, 3, 1, 0.\n"
 
 static const struct command commands[] = {
-    {"build", 1, 1, TAKES_OUTPUT, command_build, "build SHEET -o CHAIN", "Builds the chain of a test sheet.\n"},
-    {"steps", 1, 1, 0, command_steps, "steps SHEET", "Says how many steps the chain of a test sheet takes.\n"},
-    {"meaning", 1, 1, TAKES_OUTPUT, command_meaning, "meaning SHEET -o RESULT",
+    {"build", 1, 1, 0, TAKES(OPTION_OUTPUT), true, command_build, "build SHEET -o CHAIN", "Builds the chain of a test sheet.\n"},
+    {"steps", 1, 1, 0, 0, false, command_steps, "steps SHEET", "Says how many steps the chain of a test sheet takes.\n"},
+    {"meaning", 1, 1, 0, TAKES(OPTION_OUTPUT), true, command_meaning, "meaning SHEET -o RESULT",
      "Writes what the sheet says a board holds afterwards: its records fed to zero memories and an empty log.\n"},
-    {"run", 1, 1, TAKES_OUTPUT | TAKES_ALLOWANCE, command_run, "run CAPTURE -o RESULT [--allowance N]",
-     "Makes the calls of a capture of one case and writes what the last one leaves, with the last run's answer and step count.\n"
+    {"run", 1, 1, 0, TAKES(OPTION_OUTPUT) | TAKES(OPTION_ALLOWANCE) | TAKES(OPTION_FROM) | TAKES(OPTION_NO_START), false, command_run,
+     "run CAPTURE [-o RESULT] [--allowance N] [--from RESULT] [--no-start]",
+     "Makes the calls of a capture and writes what the last one leaves, with the last run's answer and step count.\n"
      "  --allowance N  the step allowance of each run, in place of the capture's\n"
-     "A refused run is written too, with what its steps left; the exit status is then 1. A run that stops at an interrupt\n"
-     "mark (91) or with its allowance used (90) is not refused.\n"},
-    {"play", 1, 1, TAKES_OUTPUT, command_play, "play SHEET -o RESULT",
+     "  --from RESULT  begins with the state, memories and log of a result, in place of the capture's zeros\n"
+     "  --no-start     leaves the capture's starts out: with --from a run goes on where it stopped\n"
+     "A refused run is written too, with what its steps left, and so is one that Ctrl-C stops, as if its allowance were used.\n"},
+    {"play", 1, 1, 0, TAKES(OPTION_OUTPUT), false, command_play, "play SHEET [-o RESULT]",
      "Builds the chain of a test sheet at address 0 and runs it from reset on channel 1, over zero memories and an empty log.\n"},
-    {"compare", 2, 2, TAKES_ALL, command_compare, "compare RESULT BOARD [--all]",
-     "Compares data memory, code memory and log of two result files; shows the first difference of each and how many there are.\n"
-     "  --all  shows every difference, not only the first of each\n"
+    {"compare", 2, SIZE_MAX, 0, TAKES(OPTION_ALL) | TAKES(OPTION_UNFINISHED) | TAKES(OPTION_QUIET) | TAKES(OPTION_JSON), false, command_compare,
+     "compare RESULT BOARD.. [--all] [--unfinished] [--quiet] [--json]",
+     "Compares data memory, code memory and log of boards with those of a result. Of one board it shows the first difference of\n"
+     "each and how many there are; several boards have a row each and a summary.\n"
+     "  --all         shows every difference, not only the first of each\n"
+     "  --unfinished  compares also where RESULT is of a run that did not end with done (0)\n"
+     "  --quiet       prints no verdict: the exit status has it\n"
+     "  --json        prints JSON\n"
      "Answer and step count are shown and not compared; registers are neither.\n"},
-    {"dump", 1, 2, 0, command_dump, "dump [KIND] FILE",
+    {"report", 2, SIZE_MAX, 0, TAKES(OPTION_OUTPUT) | TAKES(OPTION_FROM) | TAKES(OPTION_UNFINISHED), true, command_report,
+     "report RESULT BOARD.. -o PAGE [--from RESULT] [--unfinished]",
+     "Writes the comparison of boards with a result as one HTML page, to be looked at, printed on A4 and kept: verdicts, files with\n"
+     "their SHA-256, the first differences, maps of the memories and a plot of board minus result.\n"
+     "  --from RESULT  the memories that the transfer began with, zeros otherwise; the maps show what it left as it was\n"
+     "  --unfinished   compares also where RESULT is of a run that did not end with done (0)\n"},
+    {"import", 0, 0, 0, TAKES(OPTION_OUTPUT) | TAKES(OPTION_DATA) | TAKES(OPTION_CODE) | TAKES(OPTION_LOG), true, command_import,
+     "import -o RESULT [--data FILE] [--code FILE] [--log FILE]",
+     "Makes a result of a board's own dumps, any of the three: the bytes of data memory, code memory and log, little-endian. The\n"
+     "result says which parts it has.\n"},
+    {"export", 1, 1, 0, TAKES(OPTION_MAIN) | TAKES(OPTION_DATA) | TAKES(OPTION_CODE) | TAKES(OPTION_LOG), false, command_export,
+     "export FILE [--main FILE] [--data FILE] [--code FILE] [--log FILE]",
+     "Writes the memories and the log of a result as such dumps; of a capture those that it begins with, and its main memory.\n"},
+    {"dump", 1, 2, 2, 0, false, command_dump, "dump [KIND] FILE",
      "Prints a file as text (docs/TEXT.md). KIND is sheet, chain, state, capture or result; it may be left out where the file\n"
      "begins with a mark (sheet, capture, result).\n"},
-    {"assemble", 2, 2, TAKES_OUTPUT, command_assemble, "assemble KIND TEXT -o FILE",
-     "Writes the file that a text describes (docs/TEXT.md). KIND is sheet, chain, state, capture or result.\n"},
+    {"assemble", 2, 2, 1, TAKES(OPTION_OUTPUT) | TAKES(OPTION_MAIN) | TAKES(OPTION_DATA) | TAKES(OPTION_CODE) | TAKES(OPTION_LOG), true,
+     command_assemble, "assemble KIND TEXT -o FILE [--main FILE] [--data FILE] [--code FILE] [--log FILE]",
+     "Writes the file that a text describes (docs/TEXT.md). KIND is sheet, chain, state, capture or result.\n"
+     "  --main FILE, --data FILE, --code FILE, --log FILE\n"
+     "                main memory, data memory, code memory and log of a capture from a raw file, in place of lines\n"},
 };
 
 enum { COMMANDS = sizeof commands / sizeof commands[0] };
@@ -47,8 +69,9 @@ static void print_help(FILE *out)
     fputs("tejborun: what a DMA transfer leaves in the memories behind VIF1 and the GIF\n\nusage:\n", out);
     for (size_t i = 0; i < COMMANDS; i++)
         fprintf(out, "  tejborun %s\n", commands[i].usage);
-    fputs("  tejborun COMMAND --help\n\n"
-          "Numbers are decimal or 0x hexadecimal. Exit status: 0 done or equal, 1 a difference or a refusal, 2 bad usage or file.\n",
+    fputs("  tejborun help [COMMAND]\n  tejborun --version\n\n"
+          "Options may be written as -oFILE, --output FILE or --output=FILE.\n"
+          "A file - is standard input, or standard output after -o. Numbers are decimal or 0x hexadecimal.\n" STATUSES,
           out);
 }
 
@@ -60,66 +83,66 @@ static const struct command *find_command(const char *name)
     return NULL;
 }
 
-static int bad_usage(const struct command *command, const char *what)
+static bool is_help(const char *word)
 {
-    return complain(command->name, "%s\nusage: tejborun %s", what, command->usage);
-}
-
-/* Takes the option at *i; steps over its value. A status. */
-static int take_option(const struct command *command, int count, char **words, int *i, struct words_given *given)
-{
-    const char *option = words[*i];
-    if (strcmp(option, "--all") == 0 && (command->options & TAKES_ALL) != 0) {
-        given->all = true;
-        return STATUS_DONE;
-    }
-    bool output = strcmp(option, "-o") == 0 && (command->options & TAKES_OUTPUT) != 0;
-    bool allowance = strcmp(option, "--allowance") == 0 && (command->options & TAKES_ALLOWANCE) != 0;
-    if (!output && !allowance)
-        return complain(command->name, "unknown option %s\nusage: tejborun %s", option, command->usage);
-    if (++*i == count)
-        return complain(command->name, "nothing after %s\nusage: tejborun %s", option, command->usage);
-    if ((output && given->output != NULL) || (allowance && given->has_allowance))
-        return complain(command->name, "%s is given twice", option);
-    if (output)
-        given->output = words[*i];
-    else if (!read_number(words[*i], &given->allowance))
-        return complain(command->name, "'%s' is no allowance: give a number below 2^64, as 1000 or 0x3E8", words[*i]);
-    given->has_allowance |= allowance;
-    return STATUS_DONE;
-}
-
-/* Takes the words after the command's name. */
-static int take_words(const struct command *command, int count, char **words, struct words_given *given)
-{
-    bool options = true;
-    for (int i = 0; i < count; i++) {
-        if (options && strcmp(words[i], "--") == 0) {
-            options = false;
-        } else if (options && words[i][0] == '-' && words[i][1] != 0) {
-            int status = take_option(command, count, words, &i, given);
-            if (status != STATUS_DONE)
-                return status;
-        } else if (given->count == command->most) {
-            return bad_usage(command, "too many words");
-        } else {
-            given->word[given->count++] = words[i];
-        }
-    }
-    if (given->count < command->least)
-        return bad_usage(command, "too few words");
-    if ((command->options & TAKES_OUTPUT) != 0 && given->output == NULL)
-        return bad_usage(command, "say with -o where to write");
-    return STATUS_DONE;
+    return strcmp(word, "--help") == 0 || strcmp(word, "-h") == 0;
 }
 
 /* Whether help is asked for among the words. */
 static bool wants_help(int count, char **words)
 {
     for (int i = 0; i < count && strcmp(words[i], "--") != 0; i++)
-        if (strcmp(words[i], "--help") == 0)
+        if (is_help(words[i]))
             return true;
     return false;
+}
+
+static int print_command_help(const struct command *command)
+{
+    printf("usage: tejborun %s\n%s" STATUSES, command->usage, command->help);
+    return STATUS_DONE;
+}
+
+/* Does a command; where its output is standard output, nothing else is written there. */
+static int call(const struct command *command, int count, char **words)
+{
+    struct words_given given;
+    int status = take_words(command, count, words, &given);
+    if (status != STATUS_DONE)
+        return status;
+    if (given.option[OPTION_OUTPUT] != NULL && is_dash(given.option[OPTION_OUTPUT]))
+        say_to(stderr);
+    status = command->call(&given);
+    free(given.word);
+    return status;
+}
+
+static int unknown_command(const char *name)
+{
+    char known[256] = "";
+    for (size_t i = 0; i < COMMANDS; i++) {
+        strcat(known, i > 0 ? ", " : "");
+        strcat(known, commands[i].name);
+    }
+    return complain(name, "no such command; known are %s; see tejborun --help", known);
+}
+
+static int print_version(void)
+{
+    printf("tejborun %s\nproof: %s\nlibrary: SHA-256 %s\n", TEJBORUN_VERSION, proof_identity(), library_sum());
+    return STATUS_DONE;
+}
+
+/* Help on all, or on one command. */
+static int help(int count, char **words)
+{
+    if (count > 1)
+        return complain("help", "too many words\nusage: tejborun help [COMMAND]");
+    const struct command *command = count > 0 ? find_command(words[0]) : NULL;
+    if (count > 0)
+        return command != NULL ? print_command_help(command) : unknown_command(words[0]);
+    print_help(stdout);
+    return STATUS_DONE;
 }
 
 static int perform(int count, char **words)
@@ -128,24 +151,19 @@ static int perform(int count, char **words)
         print_help(stderr);
         return STATUS_BAD;
     }
-    if (strcmp(words[0], "--help") == 0) {
-        print_help(stdout);
-        return STATUS_DONE;
-    }
+    if (is_help(words[0]) || strcmp(words[0], "help") == 0)
+        return help(count - 1, words + 1);
+    if (strcmp(words[0], "--version") == 0)
+        return print_version();
     const struct command *command = find_command(words[0]);
     if (command == NULL)
-        return complain(words[0], "no such command; see tejborun --help");
-    if (wants_help(count - 1, words + 1)) {
-        printf("usage: tejborun %s\n%s", command->usage, command->help);
-        return STATUS_DONE;
-    }
-    struct words_given given = {0};
-    int status = take_words(command, count - 1, words + 1, &given);
-    return status == STATUS_DONE ? command->call(&given) : status;
+        return unknown_command(words[0]);
+    return wants_help(count - 1, words + 1) ? print_command_help(command) : call(command, count - 1, words + 1);
 }
 
 int main(int count, char **words)
 {
+    signal(SIGXFSZ, SIG_IGN); /* a write beyond a file's limit then fails, and is cleaned up */
     int status = perform(count > 0 ? count - 1 : 0, words + 1);
     if (fflush(stdout) != 0 || ferror(stdout))
         return complain("standard output", "cannot be written: %s", strerror(errno));

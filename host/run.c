@@ -1,34 +1,41 @@
 /* The commands run and play. */
 #include <inttypes.h>
-#include <stdio.h>
 #include <stdlib.h>
+#include <string.h>
 
+#include "blame.h"
 #include "board.h"
 #include "capture.h"
 #include "changes.h"
 #include "command.h"
+#include "kinds.h"
 #include "numbers.h"
+#include "progress.h"
 #include "sheet.h"
 #include "tejborun.h"
 #include "words.h"
 
-/* Whether an answer of a start or a run refuses it. */
-static bool is_refusal(uint32_t answer)
+/* The exit status of an answer of a start or a run. */
+static int status_of(uint32_t answer)
 {
-    return answer != TEJBORUN_DONE && answer != TEJBORUN_ALLOWANCE && answer != TEJBORUN_INTERRUPT;
+    if (answer == TEJBORUN_DONE)
+        return STATUS_DONE;
+    return answer == TEJBORUN_ALLOWANCE || answer == TEJBORUN_INTERRUPT ? STATUS_STOPPED : STATUS_REFUSED;
 }
 
 static void print_run(uint32_t answer, uint64_t steps)
 {
-    printf("answer %" PRIu32 ", %s%s; %" PRIu64 " %s\n", answer, is_refusal(answer) ? "refused: " : "", meaning_of(answer), steps,
-           plural(steps, "step", "steps"));
+    say("answer %" PRIu32 ", %s%s; %" PRIu64 " %s\n", answer, status_of(answer) == STATUS_REFUSED ? "refused: " : "", tejborun_message(answer), steps,
+        plural(steps, "step", "steps"));
 }
 
 static uint32_t make_start(size_t number, const uint32_t *words, struct board *board)
 {
     uint32_t answer = tejborun_start(board_block(board), TEJBORUN_BLOCK_WORDS, words[1], words[2], words[3]);
-    printf("call %zu, start on channel %" PRIu32 " at 0x%" PRIX32 ", TTE %" PRIu32 ": answer %" PRIu32 ", %s%s\n", number, words[1], words[2], words[3],
-           answer, answer == TEJBORUN_DONE ? "started" : "refused: ", answer == TEJBORUN_DONE ? "" : meaning_of(answer));
+    say("call %zu, start on channel %" PRIu32 " at 0x%" PRIX32 ", TTE %" PRIu32 ": answer %" PRIu32 ", %s%s\n", number, words[1], words[2], words[3],
+        answer, answer == TEJBORUN_DONE ? "started" : "refused: ", answer == TEJBORUN_DONE ? "" : tejborun_message(answer));
+    if (answer == TEJBORUN_BAD_VALUE)
+        blame_start(&board->state, words);
     return answer;
 }
 
@@ -38,46 +45,111 @@ struct lent {
     size_t main_bytes;
 };
 
-static uint32_t make_run(size_t number, uint64_t allowance, const struct lent *lent, struct result *result)
+/* A long run is made in slices of so many steps, each on what the one before left; to the library that is one run (chain Theorems.run-from). */
+enum { SLICE = 1 << 20 };
+
+/* Runs for at most so many steps, or until it is interrupted. */
+static void run_slices(uint64_t allowance, const struct lent *lent, struct result *result)
 {
     struct board *board = &result->board;
-    uint64_t steps = 0;
-    result->answer = tejborun_run(lent->main, lent->main_bytes, board->data, board->data_words, board->code, board->code_bytes, board->log,
-                                  board->log_numbers, board_block(board), TEJBORUN_BLOCK_WORDS, allowance, &steps, 1);
-    result->steps = steps;
-    printf("call %zu, run with allowance %" PRIu64 ": ", number, allowance);
-    print_run(result->answer, steps);
-    return result->answer;
+    result->steps = 0;
+    show_progress(0);
+    do {
+        uint64_t rest = allowance - result->steps, steps = 0;
+        result->answer = tejborun_run(lent->main, lent->main_bytes, board->data, board->data_words, board->code, board->code_bytes, board->log,
+                                      board->log_numbers, board_block(board), TEJBORUN_BLOCK_WORDS, rest < SLICE ? rest : SLICE, &steps, 1);
+        result->steps += steps;
+        show_progress(result->steps);
+    } while (result->answer == TEJBORUN_ALLOWANCE && result->steps < allowance && !is_interrupted());
+    end_progress();
 }
 
-/* Makes the calls; whether one was refused. */
-static bool make_calls(const struct words_given *given, const struct capture *capture, const struct lent *lent, struct result *result)
+static void make_run(size_t number, uint64_t allowance, const struct lent *lent, struct result *result)
 {
-    bool refused = false;
-    for (size_t i = 0; i < capture->head.calls; i++) {
-        const uint32_t *words = capture->call[i].words;
-        uint64_t allowance = given->has_allowance ? given->allowance : join_words(words + 1);
-        uint32_t answer = words[0] == 1 ? make_start(i, words, &result->board) : make_run(i, allowance, lent, result);
-        refused |= is_refusal(answer);
-    }
-    return refused;
+    run_slices(allowance, lent, result);
+    if (allowance == UINT64_MAX)
+        say("call %zu, run without limit: ", number);
+    else
+        say("call %zu, run with allowance %" PRIu64 ": ", number, allowance);
+    if (is_interrupted() && result->answer == TEJBORUN_ALLOWANCE)
+        say("interrupted after %" PRIu64 " %s\n", result->steps, plural(result->steps, "step", "steps"));
+    else
+        print_run(result->answer, result->steps);
+    if (result->answer == TEJBORUN_BAD_VALUE)
+        blame_state(&result->board.state);
 }
 
-static int run_capture(const struct words_given *given, const struct capture *capture)
+/* Makes the calls. The status: of a refusal, and of the last run where it stopped before the end; a capture without a run stops there too. */
+static int make_calls(const struct words_given *given, const struct capture *capture, const struct lent *lent, struct result *result)
+{
+    int status = STATUS_DONE, last = STATUS_STOPPED;
+    watch_interrupts();
+    for (size_t i = 0; i < capture->head.calls && !is_interrupted(); i++) {
+        const uint32_t *words = capture->call[i].words;
+        uint64_t allowance = given->option[OPTION_ALLOWANCE] != NULL ? given->allowance : join_words(words + 1);
+        if (words[0] == 1 && given->option[OPTION_NO_START] != NULL)
+            continue;
+        if (words[0] == 1) {
+            status = worse(status, status_of(make_start(i, words, &result->board)));
+            continue;
+        }
+        make_run(i, allowance, lent, result);
+        last = status_of(result->answer);
+        status = worse(status, last == STATUS_STOPPED ? STATUS_DONE : last);
+    }
+    unwatch_interrupts();
+    return worse(status, is_interrupted() ? STATUS_STOPPED : last);
+}
+
+/* Writes what the calls left, where a result is wanted. */
+static int keep_result(const struct words_given *given, const struct result *result)
+{
+    const char *name = given->option[OPTION_OUTPUT];
+    if (name == NULL)
+        return STATUS_DONE;
+    int status = board_fits(name, &result->board);
+    return status == STATUS_DONE ? write_result(name, result) : status;
+}
+
+static int run_capture(const struct words_given *given, const struct capture *capture, struct board *board)
 {
     uint8_t *main = capture_main(capture);
     struct lent lent = {main, capture->head.main_bytes};
-    struct result result = {.board = capture_board(capture)};
-    struct board before = copy_board(&result.board);
-    bool refused = make_calls(given, capture, &lent, &result);
-    print_changes(&before, &result.board);
-    int status = board_fits(given->output, &result.board);
-    if (status == STATUS_DONE)
-        status = write_result(given->output, &result);
+    struct result result = {.parts = PARTS_ALL, .board = copy_board(board)};
+    int status = make_calls(given, capture, &lent, &result);
+    print_changes(board, &result.board);
+    status = worse(status, keep_result(given, &result));
     free(main);
-    free_board(&before);
     free_board(&result.board);
-    return refused ? STATUS_REFUSED : status;
+    return status;
+}
+
+/* Whether the capture begins with anything but zero memories, an empty log and the reset state. */
+static bool begins_with_something(const struct capture *capture)
+{
+    const struct capture_head *head = &capture->head;
+    struct tejborun_state reset;
+    tejborun_reset((uint32_t *)&reset, TEJBORUN_BLOCK_WORDS);
+    return is_test_case(head) || head->first.data_words > 0 || head->first.code_bytes > 0 || head->first.log_numbers > 0 ||
+           memcmp(&reset, &capture->board.state, sizeof reset) != 0;
+}
+
+/* Runs the capture over what a result holds. */
+static int run_from(const struct words_given *given, const struct capture *capture)
+{
+    struct result first;
+    const char *from = given->option[OPTION_FROM];
+    if (begins_with_something(capture))
+        return complain(given->word[0], "has a state or memories of its own: %s cannot take their place", from);
+    int status = read_result(from, &first);
+    if (status != STATUS_DONE)
+        return status;
+    if (first.parts == PARTS_ALL)
+        status = run_capture(given, capture, &first.board);
+    else
+        status = complain(from, "has %s alone: a run begins with all", parts_words(first.parts));
+    free_board(&first.board);
+    return status;
 }
 
 int command_run(const struct words_given *given)
@@ -86,7 +158,7 @@ int command_run(const struct words_given *given)
     int status = read_capture(given->word[0], &capture);
     if (status != STATUS_DONE)
         return status;
-    status = run_capture(given, &capture);
+    status = given->option[OPTION_FROM] != NULL ? run_from(given, &capture) : run_capture(given, &capture, &capture.board);
     free_capture(&capture);
     return status;
 }
@@ -102,13 +174,14 @@ static int play_sheet(const struct words_given *given, const struct bytes *sheet
                                             board->code_bytes, board->log, board->log_numbers, board_block(board), TEJBORUN_BLOCK_WORDS, UINT64_MAX,
                                             numbers, 2);
     free(main);
+    if (is_sheet_refusal(result->answer) && is_text(sheet))
+        complain(given->word[0], "it is text; assemble it first: tejborun assemble sheet %s -o SHEET", given->word[0]);
     if (is_sheet_refusal(result->answer))
         return sheet_refused(given->word[0], result->answer, numbers[1]);
     result->steps = numbers[0];
     print_run(result->answer, result->steps);
     print_changes(before, board);
-    int status = write_result(given->output, result);
-    return status == STATUS_DONE && is_refusal(result->answer) ? STATUS_REFUSED : status;
+    return worse(status_of(result->answer), keep_result(given, result));
 }
 
 int command_play(const struct words_given *given)
@@ -117,7 +190,7 @@ int command_play(const struct words_given *given)
     int status = read_sheet(given->word[0], &sheet);
     if (status != STATUS_DONE)
         return status;
-    struct result result = {.board = new_board(memories_of(VIF1), TEJBORUN_LOG_NUMBERS)};
+    struct result result = {.parts = PARTS_ALL, .board = new_board(memories_of(VIF1), TEJBORUN_LOG_NUMBERS)};
     struct board before = copy_board(&result.board);
     status = play_sheet(given, &sheet, &before, &result);
     free_board(&before);

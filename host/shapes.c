@@ -130,21 +130,37 @@ const struct shape calls[] = {
 
 #define CAPTURE(name, member, flags) MEMBER(struct capture_head, name, member, flags, NULL)
 
-/* The lengths of what follows, given and calls, are counted. */
-static const struct field capture_head[] = {
-    CAPTURE("main-bytes", main_bytes, FIELD_SHOWN),
-    CAPTURE("data-words", data_words, FIELD_SHOWN),
-    CAPTURE("code-bytes", code_bytes, FIELD_SHOWN),
-    CAPTURE("log-numbers", log_numbers, FIELD_SHOWN),
-    CAPTURE("fill", fill, FIELD_SHOWN | FIELD_HEX),
-    CAPTURE("whole", whole, FIELD_SHOWN),
+/* The lengths of what follows are counted. */
+#define CAPTURE_FIELDS                                                                                                                            \
+    CAPTURE("main-bytes", main_bytes, FIELD_SHOWN), CAPTURE("data-words", data_words, FIELD_SHOWN), CAPTURE("code-bytes", code_bytes, FIELD_SHOWN), \
+        CAPTURE("log-numbers", log_numbers, FIELD_SHOWN)
+
+static const struct field capture_head[] = {CAPTURE_FIELDS};
+static const struct field test_case_head[] = {
+    CAPTURE_FIELDS,
+    CAPTURE("fill", test.fill, FIELD_SHOWN | FIELD_HEX),
+    CAPTURE("whole", test.whole, FIELD_SHOWN),
 };
 
-const struct shape capture_heads[] = {{"capture", CAPTURE_HEAD_WORDS, UINT32_MAX, UINT32_C(0x50414354), LIST(capture_head)}, END};
+const struct shape capture_heads[] = {
+    {"capture", CAPTURE_HEAD_WORDS, UINT32_MAX, UINT32_C(0x32414354), LIST(capture_head)},
+    {"capture", CAPTURE_HEAD_WORDS, UINT32_MAX, UINT32_C(0x50414354), LIST(test_case_head)},
+    END,
+};
 
 #define RESULT(name, member) MEMBER(struct result_head, name, member, FIELD_SHOWN, NULL)
 
 /* The state block has lines of its own. */
-static const struct field result_head[] = {RESULT("answer", answer), RESULT("steps", steps), RESULT("log-numbers", log_numbers)};
+#define RESULT_FIELDS RESULT("answer", answer), RESULT("steps", steps), RESULT("log-numbers", log_numbers)
 
-const struct shape result_heads[] = {{"result", RESULT_HEAD_WORDS, UINT32_MAX, UINT32_C(0x53455254), LIST(result_head)}, END};
+static const char *const parts_names[PARTS_ALL] = {NULL, "data", "code", "data+code", "log", "data+log", "code+log"};
+static const struct names parts = {PARTS_ALL, parts_names};
+
+static const struct field result_head[] = {RESULT_FIELDS};
+static const struct field partial_result_head[] = {RESULT_FIELDS, MEMBER(struct result_head, "parts", parts, FIELD_SHOWN, &parts)};
+
+const struct shape result_heads[] = {
+    {"result", RESULT_HEAD_WORDS, UINT32_MAX, UINT32_C(0x53455254), LIST(result_head)},
+    {"result", RESULT_HEAD_WORDS, UINT32_MAX, UINT32_C(0x32455254), LIST(partial_result_head)},
+    END,
+};

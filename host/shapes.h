@@ -9,8 +9,8 @@ extern const struct shape vif_codes[];    /* a word that fits none is no code */
 extern const struct shape gif_tags[];     /* one, which every quadword fits */
 extern const struct shape record_heads[]; /* a sheet's, two words of which the last two bytes are not the header's */
 extern const struct shape calls[];        /* a capture's */
-extern const struct shape capture_heads[];
-extern const struct shape result_heads[];
+extern const struct shape capture_heads[]; /* of a capture, and of a test case */
+extern const struct shape result_heads[];  /* of a whole result, and of one that lacks parts */
 extern const struct shape state_blocks[];
 
 /* The names of formats by their numbers. */

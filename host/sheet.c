@@ -2,11 +2,11 @@
 #include "sheet.h"
 
 #include <inttypes.h>
-#include <stdio.h>
 #include <stdlib.h>
 
 #include "board.h"
 #include "command.h"
+#include "kinds.h"
 #include "tejborun.h"
 #include "words.h"
 
@@ -25,7 +25,7 @@ bool is_sheet_refusal(uint32_t answer)
 
 int sheet_refused(const char *name, uint32_t refusal, uint64_t offset)
 {
-    complain(name, "refused %" PRIu32 " at offset %" PRIu64 ": %s", refusal, offset, meaning_of(refusal));
+    complain(name, "refused %" PRIu32 " at offset %" PRIu64 ": %s", refusal, offset, tejborun_message(refusal));
     return STATUS_REFUSED;
 }
 
@@ -35,6 +35,8 @@ static int count_steps(const char *name, const struct bytes *sheet, uint64_t *st
     uint64_t numbers[2] = {0};
     uint32_t answer = tejborun_steps(sheet->at, sheet->count, numbers, 2);
     *steps = numbers[0];
+    if (answer != TEJBORUN_DONE && is_text(sheet))
+        complain(name, "it is text; assemble it first: tejborun assemble sheet %s -o SHEET", name);
     return answer == TEJBORUN_DONE ? STATUS_DONE : sheet_refused(name, answer, numbers[1]);
 }
 
@@ -50,10 +52,11 @@ static int build_chain(const struct words_given *given, const struct bytes *shee
     if (length % 16 != 0)
         status = sheet_refused(name, (uint32_t)length, 0);
     else
-        status = write_file(given->output, chain, length);
+        status = write_file(given->option[OPTION_OUTPUT], chain, length);
     free(chain);
     if (status == STATUS_DONE)
-        printf("%s: a chain of %zu bytes, %zu %s, %" PRIu64 " %s\n", given->output, length, length / 16, plural(length / 16, "quadword", "quadwords"),
+        say("%s: a chain of %zu bytes, %zu %s, %" PRIu64 " %s\n", given->option[OPTION_OUTPUT], length, length / 16,
+            plural(length / 16, "quadword", "quadwords"),
                steps, plural(steps, "step", "steps"));
     return status;
 }
@@ -79,7 +82,7 @@ int command_steps(const struct words_given *given)
     status = count_steps(given->word[0], &sheet, &steps);
     free(sheet.at);
     if (status == STATUS_DONE)
-        printf("%" PRIu64 " %s\n", steps, plural(steps, "step", "steps"));
+        say("%" PRIu64 " %s\n", steps, plural(steps, "step", "steps"));
     return status;
 }
 
@@ -106,12 +109,12 @@ int command_meaning(const struct words_given *given)
     int status = read_sheet(given->word[0], &sheet);
     if (status != STATUS_DONE)
         return status;
-    struct result result = {.board = new_board(memories_of(VIF1), TEJBORUN_LOG_NUMBERS)};
+    struct result result = {.parts = PARTS_ALL, .board = new_board(memories_of(VIF1), TEJBORUN_LOG_NUMBERS)};
     status = feed_sheet(given->word[0], &sheet, &result);
     if (status == STATUS_DONE)
-        status = write_result(given->output, &result);
+        status = write_result(given->option[OPTION_OUTPUT], &result);
     if (status == STATUS_DONE)
-        printf("%s: the sheet's meaning, %" PRIu64 " %s, %" PRIu64 " log %s\n", given->output, result.steps, plural(result.steps, "step", "steps"),
+        say("%s: the sheet's meaning, %" PRIu64 " %s, %" PRIu64 " log %s\n", given->option[OPTION_OUTPUT], result.steps, plural(result.steps, "step", "steps"),
                board_used(&result.board), plural(board_used(&result.board), "entry", "entries"));
     free_board(&result.board);
     free(sheet.at);

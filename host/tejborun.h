@@ -24,6 +24,8 @@
 extern "C" {
 #endif
 
+#define TEJBORUN_VERSION "0.2.0"
+
 /* The memories of VIF1, and the lengths in which they are lent. */
 #define TEJBORUN_VIF1_QUADWORDS 1024u    /* of data memory */
 #define TEJBORUN_VIF1_INSTRUCTIONS 2048u /* of code memory */
@@ -86,6 +88,15 @@ enum tejborun_answer {
     TEJBORUN_INTERRUPT = 91  /* stopped at an interrupt mark */
 };
 
+/* An answer in words, never null; the text is the program's and stays. It is C (message.c) and may be called from any thread, as all others. */
+const char *tejborun_message(uint32_t answer);
+
+/* The entries of the log that a state says are used. */
+static inline uint64_t tejborun_used(const struct tejborun_state *state)
+{
+    return state->chain.used[0] | (uint64_t)state->chain.used[1] << 32;
+}
+
 /* Builds the chain of a sheet in the output. Answers the chain's length in bytes (a multiple of 16), or the refusal (40 to 47). A refusal leaves the
  * output as it is, success what lies beyond the chain. */
 size_t tejborun_build(const uint8_t *sheet, size_t sheet_bytes, uint8_t *output, size_t output_bytes);
@@ -118,7 +129,8 @@ uint32_t tejborun_build_and_run(const uint8_t *sheet, size_t sheet_bytes, uint8_
 
 /* Compares two boards' memories and logs. Answers TEJBORUN_SAME, TEJBORUN_DIFFERENT, or TEJBORUN_REFUSED + 2, 3 or 4 for a length that is wrong on either
  * side, the lowest where several are. result[0], [1]: the first quadword that differs and how many differ; [2], [3]: instructions; [4], [5]: log
- * entries that both have. Where none differs, the first is the number compared; where refused, all six are 0. */
+ * entries that both have. Where none differs, the first is the number compared; where refused, all six are 0. Logs that differ in their length alone are
+ * TEJBORUN_DIFFERENT, though [5] is 0: [4] is then the length of the shorter, and which is longer stands in used_a and used_b. */
 #define TEJBORUN_SAME 0u
 #define TEJBORUN_DIFFERENT 1u
 #define TEJBORUN_REFUSED 100u

@@ -10,6 +10,7 @@
 #include <sys/mman.h>
 #include <unistd.h>
 
+#include "sum.h"
 #include "tejborun.h"
 
 #define CHECK(holds) check(holds, #holds, __LINE__)
@@ -768,7 +769,8 @@ static void test_compare(bool end)
     free_pair(&pair);
     new_pair(&pair, &six, &six, end);
     pair.used[0] = 4;
-    CHECK(call_compare(&pair) == TEJBORUN_DIFFERENT && numbers(&pair.result)[4] == 3 && numbers(&pair.result)[5] == 0);
+    result = numbers(&pair.result);
+    CHECK(call_compare(&pair) == TEJBORUN_DIFFERENT && result[1] == 0 && result[3] == 0 && result[4] == 3 && result[5] == 0);
     free_pair(&pair);
 }
 
@@ -795,6 +797,57 @@ static void test_wrong_compare(bool end)
     free_pair(&pair);
 }
 
+/* Every answer has a message of its own, and every other number the same one. */
+static void test_messages(void)
+{
+    static const uint32_t answers[] = {
+        TEJBORUN_DONE,       TEJBORUN_BAD_MAIN,    TEJBORUN_BAD_DATA,   TEJBORUN_BAD_CODE,   TEJBORUN_BAD_LOG,        TEJBORUN_BAD_VALUE,
+        TEJBORUN_BAD_TADR,   TEJBORUN_BAD_ADDR,    TEJBORUN_BAD_SPR,    TEJBORUN_BAD_CALL,   TEJBORUN_BAD_PAYLOAD,    TEJBORUN_BAD_CMD,
+        TEJBORUN_BAD_FORMAT, TEJBORUN_BAD_CYCLE,   TEJBORUN_BAD_MODE,   TEJBORUN_BAD_DIRECT, TEJBORUN_BAD_DESCRIPTOR, TEJBORUN_LOG_FULL,
+        TEJBORUN_BAD_MARK,   TEJBORUN_BAD_KIND,    TEJBORUN_BAD_COUNT,  TEJBORUN_BAD_ADDRESS, TEJBORUN_CUT_RECORD,    TEJBORUN_BAD_PAD,
+        TEJBORUN_LONG_SHEET, TEJBORUN_LONG_CHAIN,  TEJBORUN_SHORT,      TEJBORUN_ALLOWANCE,  TEJBORUN_INTERRUPT,
+    };
+    enum { ANSWERS = sizeof answers / sizeof answers[0] };
+    const char *none = tejborun_message(UINT32_MAX);
+    size_t meant = 0;
+    for (uint32_t number = 0; number < 70000; number++)
+        meant += strcmp(tejborun_message(number), none) != 0;
+    CHECK(meant == ANSWERS);
+    for (size_t i = 0; i < ANSWERS; i++)
+        for (size_t j = 0; j < i; j++)
+            CHECK(strcmp(tejborun_message(answers[i]), tejborun_message(answers[j])) != 0 && strcmp(tejborun_message(answers[i]), none) != 0);
+}
+
+/* SHA-256: the examples of FIPS 180-2, and libmd's own. */
+static void test_sums(void)
+{
+    static const char *const known[][2] = {
+        {"", "e3b0c44298fc1c149afbf4c8996fb92427ae41e4649b934ca495991b7852b855"},
+        {"abc", "ba7816bf8f01cfea414140de5dae2223b00361a396177a9cb410ff61f20015ad"},
+        {"12345", "5994471abb01112afcc18159f6cc74b4f511b99806da59b3caf5a9c173cacfc5"},
+        {"abcdbcdecdefdefgefghfghighijhijkijkljklmklmnlmnomnopnopq", "248d6a61d20638b8e5c026930c3e6039a33ce45964ff2167f6ecedd419db06c1"},
+    };
+    char sum[SUM_TEXT];
+    for (size_t i = 0; i < sizeof known / sizeof known[0]; i++) {
+        struct bytes bytes = {(uint8_t *)known[i][0], strlen(known[i][0])};
+        sum_of(&bytes, sum);
+        CHECK(strcmp(sum, known[i][1]) == 0);
+    }
+    struct bytes million = {malloc(1000000), 1000000};
+    CHECK(million.at != NULL);
+    memset(million.at, 'a', million.count);
+    sum_of(&million, sum);
+    CHECK(strcmp(sum, "cdc76e5c9914fb9281a1c7e284d73e67f1809a48a497200e046d39ccc7112cd0") == 0);
+    free(million.at);
+}
+
+static void test_used(void)
+{
+    struct tejborun_state held = {.chain.used = {UINT32_C(0x89ABCDEF), UINT32_C(0x01234567)}};
+    CHECK(tejborun_used(&held) == UINT64_C(0x0123456789ABCDEF));
+    CHECK(tejborun_reset((uint32_t *)&held, TEJBORUN_BLOCK_WORDS) == TEJBORUN_DONE && tejborun_used(&held) == 0);
+}
+
 int main(void)
 {
     for (int end = 0; end < 2; end++) {
@@ -815,6 +868,9 @@ int main(void)
     }
     test_unit_words();
     test_path_words();
+    test_messages();
+    test_used();
+    test_sums();
     puts("C interface: every function with good, short and wrong buffers, guard pages behind and before them: as the header says");
     puts("state block: every word under its name");
     return 0;

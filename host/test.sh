@@ -1,7 +1,8 @@
 #!/bin/sh
 # Tests of the command: sh host/test.sh COMMAND SECOND PROGRAMS [EVERY]
-# COMMAND is the command, SECOND the second program, PROGRAMS the folder of the proved programs (replay is used). Of the generated captures every EVERYth
+# COMMAND is the command, SECOND the second program, PROGRAMS the folder of the proved programs (replay is used); test-forms lies beside the command. Of the generated captures every EVERYth
 # one is tried, the 10th where it is not given, and of the sheets five times as many. Prints what it did and stops at the first thing that is wrong.
+# TESTS=NAMES in the environment makes those tests alone: layout first, and of the older ones those that leave the files needed.
 # shellcheck disable=SC2046
 set -u
 command=$1
@@ -14,7 +15,8 @@ case $command in /*) ;; *) command=$PWD/$command ;; esac
 case $second in /*) ;; *) second=$PWD/$second ;; esac
 case $replay in /*) ;; *) replay=$PWD/$replay ;; esac
 here=$(cd "$(dirname "$0")" && pwd)
-for program in "$command" "$second" "$replay"; do
+forms=$(dirname "$command")/test-forms
+for program in "$command" "$second" "$replay" "$forms"; do
     test -x "$program" || { echo "$program is not there" >&2; exit 1; }
 done
 cd "$work" || exit 1
@@ -41,8 +43,14 @@ says() {
 
 absent() {
     for file in "$@"; do
-        if test -e "$file" || test -e "$file.partial"; then fail "$file was left behind"; fi
+        if test -e "$file"; then fail "$file was left behind"; fi
     done
+    nothing_partial
+}
+
+# No file that was being written is left here.
+nothing_partial() {
+    if find . -name '*partial*' ! -name another.partial | grep . >&2; then fail 'a file was left behind'; fi
 }
 
 same() {
@@ -135,18 +143,19 @@ state_words() {
 usage() {
     expect 0 --help
     says out 'tejborun build SHEET -o CHAIN'
-    for name in build steps meaning run play compare dump assemble; do
+    for name in build steps meaning run play compare report dump assemble; do
         expect 0 "$name" --help
         says out "usage: tejborun $name"
         expect 2 "$name"
         says err "usage: tejborun $name"
         expect 2 "$name" --nonsense
         says err 'unknown option --nonsense'
+        case $name in run) says err '; known are -o, --output, --allowance, --from, --no-start' ;; esac
         expect 2 "$name" a b c d
     done
     expect 2
     expect 2 nonsense
-    says err 'no such command'
+    says err 'no such command; known are build, steps, meaning, run, play, compare, report, import, export, dump, assemble'
     expect 2 build a.sheet
     says err 'say with -o where to write'
     expect 2 build a.sheet -o
@@ -298,11 +307,11 @@ generated_sheets() {
     echo "generated sheets: $tried of $number built as the second program builds them, to text and back, played as they are meant"
 }
 
-# replayed: reads the results of the case for its calls; sets where the last state block, the last run and its memories are, and whether a call was
-# refused and whether none did anything.
+# replayed: reads the results of the case for its calls; sets where the last state block, the last run and its memories are, the exit status that the calls
+# have (3 where the last run stopped before the end or there is none, else 1 where a call was refused), and whether none did anything.
 replayed() {
     data=$1 code=$2 log=$3 calls=$4
-    at=0 block=none run=none memories=none any_refused=0 idle=1
+    at=0 block=none run=none memories=none any_refused=0 last=90 idle=1
     for kind in $(words case "$calls_at" $((4 * calls)) | awk '{ print $1 }'); do
         answer=$(($(words results $at 1)))
         case $answer in
@@ -314,11 +323,15 @@ replayed() {
             block=$((at + 4))
             at=$((at + 4 + block_bytes))
         else
-            run=$at block=$((at + 12)) memories=$((at + 12 + block_bytes))
+            run=$at last=$answer block=$((at + 12)) memories=$((at + 12 + block_bytes))
             at=$((memories + 4 * data + (code + 3) / 4 * 4 + 8 * log))
         fi
     done
     test "$at" = $(($(wc -c < results))) || fail 'results of another length'
+    case $last in
+    90 | 91) status=3 ;;
+    *) status=$any_refused ;;
+    esac
 }
 
 # wanted_result FILE OFFSET: what the run of the case has to leave, from the results, with the state block of a file.
@@ -345,12 +358,12 @@ one_capture() {
     replayed "$3" "$4" "$5" "$9"
     rm -f result
     if test "$3" != "$data_words" || test "$4" != "$code_bytes" || test $(($5 % entry_numbers)) != 0 || test "$5" -gt "$log_numbers"; then
-        expect $((2 - any_refused)) run case -o result
+        expect 2 run case -o result
         says err 'not written'
         absent result
         return
     fi
-    expect $any_refused run case -o result
+    expect "$status" run case -o result
     if test $block = none; then wanted_result case 40 > wanted; else wanted_result results "$block" > wanted; fi
     if test $memories = none; then head -c "$result_head" result > part; else cp result part; fi
     # A refusal changes no buffer: then the words that mean nothing may stand as they were given, where replay writes zero.
@@ -387,9 +400,9 @@ examples() {
     expect 0 run difference.capture -o difference.result
     says out 'answer 0, done; 1042 steps'
     says out '256 quadwords changed, first 0, last 255'
-    expect 0 run difference.capture -o some.result --allowance 100
+    expect 3 run difference.capture -o some.result --allowance 100
     says out 'answer 90, the step allowance is used; 100 steps'
-    expect 0 run difference.capture -o none.result --allowance 0x0
+    expect 3 run difference.capture -o none.result --allowance 0x0
     says out 'answer 90, the step allowance is used; 0 steps'
     says out 'data memory: nothing changed'
     expect 0 run difference.capture -o enough.result --allowance 0x412
@@ -397,7 +410,7 @@ examples() {
     same difference.result enough.result
     sed 's/^  NOP/  NOP irq=1/' "$here/../examples/difference.capture.txt" > mark.txt
     expect 0 assemble capture mark.txt -o mark.capture
-    expect 0 run mark.capture -o mark.result
+    expect 3 run mark.capture -o mark.result
     says out 'answer 91, stopped at an interrupt mark; 4 steps'
     sed 's/mode=2/mode=3/' "$here/../examples/difference.capture.txt" > refused.txt
     expect 0 assemble capture refused.txt -o refused.capture
@@ -419,42 +432,47 @@ edited() {
 
 comparisons() {
     expect 0 play all-kinds.sheet -o a
-    expect 0 compare a a
+    cp a b
+    expect 0 compare a b
     says out 'equal'
     "$command" dump a > a.txt
     edited a.txt 's/^quadword 1023 0x00000001/quadword 1023 0x00000000/'
     expect 1 compare a board
     says out 'data memory: 1 quadword differs, the first is 1023'
-    says out 'X  0x00000001           1   0x00000000           0   -1 count'
-    says out 'Y  0xFFFFFFFE          -2   0xFFFFFFFE          -2   same'
+    says out 'X  0x00000001           1  1.40129846e-45   0x00000000           0  0                -1 count'
+    says out 'Y  0xFFFFFFFE          -2  nan'
+    says out '       a                                        board                                    board - result'
     says out 'different'
     edited a.txt 's/ 0x80000000$/ 0x7FFFFFFE/'
     expect 1 compare a board
-    says out 'W  0x80000000 -2147483648   0x7FFFFFFE  2147483646   -2 counts'
+    says out 'W  0x80000000 -2147483648  -0               0x7FFFFFFE  2147483646  nan              -2 counts'
     edited a.txt 's/^instruction 1 0x8000033C400002FF/instruction 2000 0xFF/'
     expect 1 compare a board
     says out 'code memory: 2 instructions differ, the first is 1'
-    says out 'instruction 1 (0x1): result 0x8000033C400002FF, board 0x0000000000000000'
+    says out 'instruction 1 (0x1)'
+    says out 'a      0x8000033C400002FF'
+    says out 'board  0x0000000000000000'
     expect 1 compare a board --all
-    says out 'instruction 2000 (0x7D0): result 0x0000000000000000, board 0x00000000000000FF'
+    says out 'instruction 2000 (0x7D0)'
+    says out 'board  0x00000000000000FF'
     edited a.txt 's/^entry 3 TEST_1 .*/entry 3 0xFE 0x10/'
     expect 1 compare a board
     says out 'log: 1 entry differs, the first is 3'
-    says out 'result register 0x47 TEST_1, value 0x000000000005000D'
+    says out 'a      register 0x47 TEST_1, value 0x000000000005000D'
     says out 'board  register 0xFE (no name), value 0x0000000000000010 (16)'
     edited a.txt 's/used=7/used=5/'
     expect 1 compare a board
     says out 'log: the same, 5 entries compared'
-    says out 'the result has 7 entries, the board 5; only the result has 5 to 6'
-    says out 'result register 0x100 MSCAL, value 0x00000000000007FF'
+    says out 'a has 7 entries, board 5; only a has 5 to 6'
+    says out 'a      register 0x100 MSCAL, value 0x00000000000007FF'
     expect 1 compare board a
-    says out 'only the board has 5 to 6'
+    says out 'only a has 5 to 6'
     edited a.txt "s/used=7/used=$((entries + 1))/"
     expect 1 compare a board
     says err 'refused 4: '
     expect 2 compare a missing
     expect 2 compare a a.txt
-    says err 'a.txt: no result'
+    says err 'a.txt: no result, but text; assemble it first: tejborun assemble result a.txt -o FILE'
     echo "comparisons: equal; a field, an instruction, a log entry, the number of entries; refused; every difference"
 }
 
@@ -503,6 +521,11 @@ damaged_files() {
     limit 32 2
     limit 36 65536
     limit "$calls_at" 3
+    sed 's/^capture/capture fill=0/' "$here/../examples/difference.capture.txt" > test-case.txt
+    expect 0 assemble capture test-case.txt -o test-case
+    patched test-case 32 2
+    expect 2 run broken -o broken.out
+    says err 'damaged capture: 2 for whole memories; the most is 1'
     cat difference.capture difference.capture > broken
     expect 2 run broken -o broken.out
     says err 'give a capture of one case'
@@ -600,10 +623,10 @@ bad_texts() {
     bad_text sheet 2 "'4294967296' is no word" 'data addr=1\nvector 1 2 3 4294967296\n'
     bad_text sheet 2 "'-2147483649' is no word" 'data addr=1\nvector 1 2 3 -2147483649\n'
     bad_text sheet 1 'addr=65536: the field has 16 bits' 'data addr=65536\n'
-    bad_text sheet 1 "'data' has no field 'adr'" 'data adr=5\n'
+    bad_text sheet 1 "'data' has no field 'adr'; it has addr" 'data adr=5\n'
     bad_text sheet 1 "'addr' is given twice" 'data addr=5 addr=5\n'
     bad_text sheet 1 "'5' after 'data': expected field=value" 'data 5\n'
-    bad_text sheet 2 "'NAME' is no register" 'gs\nwrite NAME 1\n'
+    bad_text sheet 2 "'NAME' is no register: give a number or one of PRIM, RGBAQ, " 'gs\nwrite NAME 1\n'
     bad_text sheet 2 'register MSCAL has no place in a byte' 'gs\nwrite MSCAL 1\n'
     bad_text sheet 2 "'0x10000000000000000' is no number of 64 bits" 'code addr=0\ninstruction 0x10000000000000000\n'
     bad_text sheet 1 "'256' is no number of 8 bits" 'byte 1 256\n'
@@ -614,9 +637,12 @@ bad_texts() {
     bad_text chain 2 "'NOP' at 0x1: it begins at a multiple of 4" 'byte 1\nNOP\n'
     bad_text chain 1 'qwc=65536: the field has 16 bits' 'cnt qwc=65536\n'
     bad_text chain 1 'format=V5-32: the field has 4 bits' 'UNPACK format=V5-32\n'
+    says err 'or one of S-32, S-16, S-8, V2-32, V2-16, V2-8, V3-32, V3-16, V3-8, V4-32, V4-16, V4-8, V4-5'
     bad_text chain 2 'at 0x4: the lines before reach 0x10 already' 'end\nat 4\n'
     bad_text chain 1 'at 0xFFFFFFFFFFFFFFFF: main memory ends' 'at 0xFFFFFFFFFFFFFFFF\n'
-    bad_text chain 1 "'vector' is no tag, code, giftag, word, byte or at" 'vector 1 2 3 4\n'
+    bad_text chain 1 "'vector' is no tag (refe, cnt, next, ref, refs, call, ret, end), code (NOP, STCYCL, " 'vector 1 2 3 4\n'
+    bad_text capture 2 "'vector' is no tag (refe, " 'capture\nvector 1 2 3 4\n'
+    says err ', giftag, word, byte or at, and no capture, state, quadword, instruction, entry, start or run'
     bad_text chain '' 'makes 4 bytes; a chain is whole quadwords' 'NOP\n'
     bad_text chain '' 'makes 0 bytes' '\n# nothing\n'
     bad_text chain '' 'makes 1048592 bytes' 'at 0x100010\n'
@@ -643,17 +669,633 @@ bad_texts() {
     echo "texts: each kind of mistake with its line, no output left"
 }
 
-layout
-state_words
-usage
-bench_points
-meanings
-refused_sheets
-examples
-comparisons
-damaged_files
-other_layouts
-bad_texts
-generated_sheets
-generated_captures
+# result_of NAME TEXT, capture_of NAME TEXT: the file of a text.
+result_of() {
+    printf '%b' "$2" > "$1.txt"
+    expect 0 assemble result "$1.txt" -o "$1"
+}
+
+capture_of() {
+    printf '%b' "$2" > "$1.txt"
+    expect 0 assemble capture "$1.txt" -o "$1"
+}
+
+# The entries used are the entries given, where no state line says how many.
+entries_used() {
+    result_of five 'result\nentry 0 MSCAL 5\n'
+    result_of nine 'result\nentry 0 MSCAL 9\n'
+    expect 1 compare five nine
+    says out 'log: 1 entry differs, the first is 0'
+    result_of both 'result\nentry 1 MSCAL 5\nentry 0 MSCAL 5\n'
+    expect 0 dump both
+    says out ' used=2'
+    expect 1 compare five both
+    says out 'only both has 1 to 1'
+    bad_text result '' 'has entry 2 and no entry 1' 'result\nentry 0 MSCAL 5\nentry 2 MSCAL 5\n'
+    result_of none 'result\nstate used=0\nentry 0 MSCAL 5\nentry 2 MSCAL 5\n'
+    expect 0 dump none
+    says out ' used=0'
+    round result none
+    result_of empty 'result\n'
+    expect 0 compare empty none
+    echo "entries used: those given, without a gap, or as many as a state line says"
+}
+
+# A verdict is given on a finished expectation alone, unless it is asked for.
+unfinished() {
+    result_of ended 'result\n'
+    for answer in 5 22 90 91; do
+        result_of stopped "result answer=$answer\n"
+        expect 3 compare stopped ended
+        says err "ended: no verdict: stopped is unfinished, its answer is $answer: "
+        if grep -q equal out; then fail 'a verdict'; fi
+        expect 0 compare stopped ended --unfinished
+        says out 'equal to an unfinished result'
+        expect 0 compare ended stopped
+    done
+    result_of other 'result answer=22\nquadword 3 1 2 3 4\n'
+    expect 1 compare other ended --unfinished
+    says out 'different from an unfinished result'
+    printf 'capture\nrun allowance=%s\nend\n' 0 > a.txt
+    expect 0 assemble capture a.txt -o a.capture
+    expect 3 run a.capture -o a
+    capture_of b.capture 'capture\nstart channel=1\nrun allowance=0\nrun\nend\n'
+    expect 0 run b.capture -o b
+    says out 'answer 90, '
+    says out 'answer 0, done; 1 step'
+    capture_of c.capture 'capture\nstart channel=3\nrun allowance=0\nend\n'
+    expect 3 run c.capture -o c
+    capture_of d.capture 'capture\nstart channel=3\nrun\nend\n'
+    expect 1 run d.capture -o d
+    capture_of e.capture 'capture\nstart channel=1\nend\n'
+    expect 3 run e.capture -o e
+    for name in '' build steps meaning run play compare report import export dump assemble; do
+        # shellcheck disable=SC2086
+        expect 0 $name --help
+        says out '0 done or equal, 1 a refusal or a difference, 2 bad usage or file, 3 stopped before the end (90, 91) or'
+    done
+    echo "unfinished: no verdict unless it is asked for; exit status 3, and of several the worst in the order 2, 3, 1, 0"
+}
+
+# What a capture begins with: zeros, lines, raw files, a result; and a fill, as in test cases.
+beginnings() {
+    capture_of zero.capture 'capture\nstart channel=1\nrun\nend\n'
+    expect 0 run zero.capture -o zero.result
+    expect 0 dump zero.result
+    if grep -e '^quadword' -e '^instruction' -e '^entry' out; then fail 'a memory that is not zero at first'; fi
+    capture_of filled.capture 'capture fill=0 log-numbers=8\nstart channel=1\nrun\nend\n'
+    test "$(head -c 4 filled.capture)" = TCAP || fail 'the mark of a test case'
+    "$replay" < filled.capture > results || fail 'a test case for replay'
+    test "$(head -c 4 zero.capture)" = TCA2 || fail 'the mark of a capture'
+    expect 0 run filled.capture -o filled.result
+    expect 0 dump filled.result
+    says out "quadword 1 0x"
+    round capture filled.capture
+    capture_of given.capture 'capture log-numbers=64\nquadword 3 1 -2 3 4\ninstruction 7 0x123\nentry 0 MSCAL 5\nentry 1 PRIM 0\nstart channel=1\nrun\nend\n'
+    round capture given.capture
+    expect 0 run given.capture -o given.result
+    says out 'log: nothing added, 2 used'
+    expect 0 dump given.result
+    says out 'quadword 3 0x00000001 0xFFFFFFFE 0x00000003 0x00000004'
+    says out 'instruction 7 0x0000000000000123'
+    says out 'entry 0 MSCAL 0x0000000000000005'
+    capture_of zeros.capture 'capture\nstate used=1\nquadword 9 0 0 0 0\ninstruction 9 0\nentry 3 PRIM 0\n'
+    round capture zeros.capture
+    bad_text capture '' "has 'fill=' and gives a memory" 'capture fill=0\nquadword 1 1 2 3 4\n'
+    bad_text capture '' "has 'whole=' without 'fill='" 'capture whole=1\n'
+    bad_text capture '' 'damaged capture: 8 words given of data memory; the most is 4' 'capture data-words=4\nquadword 1 1 2 3 4\n'
+    capture_of run.capture 'capture\nrun\n'
+    words run.capture "$calls_at" 4 | grep -q '^ *2 4294967295 4294967295 *0$' || fail 'a run without allowance'
+    words run.capture 40 1 | grep -q '^ *1$' || fail 'no state line: reset'
+    raw_beginnings
+    continued
+    echo "beginnings: zeros, lines, raw files, a result; a fill as before; a run that goes on where one stopped"
+}
+
+raw_beginnings() {
+    head -c $((4 * data_words)) "$command" > raw.data
+    head -c "$code_bytes" "$second" > raw.code
+    { word 256; word 0; word 7; word 0; } > raw.log
+    { word 0x70000000; word 0; word 0; word 0; } > raw.main
+    printf 'capture\nstart channel=1\nrun\n' > raw.txt
+    expect 0 assemble capture raw.txt -o raw.capture --main raw.main --data raw.data --code raw.code --log raw.log
+    round capture raw.capture
+    expect 0 run raw.capture -o raw.result
+    slice raw.result "$result_head" $((4 * data_words)) > got
+    same got raw.data
+    slice raw.result $((result_head + 4 * data_words)) "$code_bytes" > got
+    same got raw.code
+    expect 0 dump raw.result
+    says out ' used=1'
+    says out 'entry 0 MSCAL 0x0000000000000007'
+    printf x >> raw.data
+    expect 2 assemble capture raw.txt -o bad.out --data raw.data
+    says err "raw.data: no dump of data memory: $((4 * data_words + 1)) bytes; it has $((4 * data_words))"
+    printf x >> raw.log
+    expect 2 assemble capture raw.txt -o bad.out --log raw.log
+    says err 'raw.log: no dump of a log'
+    printf 'capture data-words=100000\n' > long.txt
+    head -c 400000 /dev/zero > raw.data
+    expect 2 assemble capture long.txt -o bad.out --data raw.data
+    expect 2 assemble sheet raw.txt -o bad.out --data raw.data
+    expect 2 assemble capture given.capture.txt -o bad.out --code raw.code
+    says err 'has lines for this memory already'
+    absent bad.out
+}
+
+# A capture, what it leaves and what half of it leaves.
+halves() {
+    expect 0 assemble capture "$here/../examples/difference.capture.txt" -o whole.capture
+    expect 0 run whole.capture -o whole.result
+    expect 3 run whole.capture -o half.result --allowance 500
+}
+
+continued() {
+    halves
+    expect 0 run whole.capture --from half.result --no-start -o rest.result
+    says out 'answer 0, done; 542 steps'
+    expect 0 compare whole.result rest.result
+    expect 2 run given.capture --from half.result -o bad.out
+    says err 'has a state or memories of its own'
+    expect 2 run filled.capture --from half.result -o bad.out
+    expect 2 run whole.capture --from missing -o bad.out
+    absent bad.out
+}
+
+# One file given twice, an output that is an input.
+one_file() {
+    halves
+    result_of x 'result\n'
+    cp x y
+    ln -s x link
+    ln x hard
+    for other in x ./x link hard; do
+        expect 2 compare x "$other"
+        says err 'the same file'
+    done
+    expect 2 compare - - < x
+    expect 0 compare x y
+    printf 'start addr=5\n' > sheet.txt
+    expect 0 assemble sheet sheet.txt -o a
+    cp a before
+    ln -s a to-a
+    for other in a ./a to-a; do
+        expect 2 build a -o "$other"
+        says err 'is an input and the output'
+        same a before
+    done
+    expect 2 run whole.capture --from half.result -o half.result
+    expect 2 assemble sheet sheet.txt -o sheet.txt
+    expect 0 build a -o sheet
+    echo "one file: compared with itself, or an input and the output, under any name"
+}
+
+# Links are followed, modes kept, others' files kept, nothing left behind.
+outputs() {
+    printf 'start addr=5\n' > sheet.txt
+    expect 0 assemble sheet sheet.txt -o a
+    expect 0 build a -o wanted
+    echo old > target
+    ln -s target through
+    mkdir -p sub
+    ln -s ../new-target sub/through
+    expect 0 build a -o through
+    expect 0 build a -o sub/through
+    test -h through && test -h sub/through || fail 'a symbolic link was replaced'
+    same target wanted
+    same new-target wanted
+    ln -s round-1 round-2
+    ln -s round-2 round-1
+    expect 2 build a -o round-1
+    echo old > moded
+    chmod 640 moded
+    expect 0 build a -o moded
+    same moded wanted
+    test "$(stat -c %a moded)" = 640 || fail 'the mode was not kept'
+    (umask 027 && "$command" build a -o fresh > /dev/null)
+    test "$(stat -c %a fresh)" = 640 || fail 'the umask was not heeded'
+    echo mine > another.partial
+    cp another.partial kept.partial
+    expect 0 build a -o another
+    same another.partial kept.partial
+    rm kept.partial
+    capture_of refused.capture 'capture\nstart channel=3\nrun\nend\n'
+    expect 2 run refused.capture -o missing-folder/x
+    cp wanted limited
+    (ulimit -f 1 && "$command" play a -o limited > /dev/null 2> err)
+    test $? = 2 || fail 'SIGXFSZ'
+    same limited wanted
+    nothing_partial
+    interrupted
+    echo "outputs: links followed, modes kept, others' files kept; nothing left behind by signals, limits or folders that are not there"
+}
+
+# A signal at the worst moment, just before the rename, and a disk that is full after ten bytes: by a library that is loaded first.
+interrupted() {
+    cat > signal.c <<'END'
+#define _GNU_SOURCE
+#include <dlfcn.h>
+#include <signal.h>
+#include <errno.h>
+#include <stdlib.h>
+#include <sys/types.h>
+ssize_t write(int file, const void *bytes, size_t count)
+{
+    ssize_t (*real)(int, const void *, size_t) = (ssize_t (*)(int, const void *, size_t))dlsym(RTLD_NEXT, "write");
+    if (file <= 2 || getenv("DISK_FULL_AFTER") == NULL)
+        return real(file, bytes, count);
+    size_t room = strtoul(getenv("DISK_FULL_AFTER"), NULL, 10);
+    setenv("DISK_FULL_AFTER", "0", 1);
+    errno = ENOSPC;
+    return room == 0 ? -1 : real(file, bytes, count < room ? count : room);
+}
+int rename(const char *from, const char *to)
+{
+    int (*real)(const char *, const char *) = (int (*)(const char *, const char *))dlsym(RTLD_NEXT, "rename");
+    raise(atoi(getenv("SIGNAL_AT_RENAME")));
+    return real(from, to);
+}
+END
+    cc -w -shared -fPIC -o signal.so signal.c -ldl || fail 'signal.c'
+    for number in 1 2 3 15; do
+        mkdir -p clean
+        SIGNAL_AT_RENAME=$number ASAN_OPTIONS=verify_asan_link_order=0:detect_leaks=0 LD_PRELOAD=$work/signal.so "$command" build a -o clean/x > /dev/null 2> err
+        test $? = $((128 + number)) || fail "signal $number: $(cat err)"
+        test "$(ls -A clean)" = x || fail "left behind by signal $number: $(ls -A clean)"
+        same clean/x wanted
+        rm -r clean
+    done
+    cp a full
+    DISK_FULL_AFTER=10 ASAN_OPTIONS=verify_asan_link_order=0:detect_leaks=0 LD_PRELOAD=$work/signal.so "$command" build a -o full > out 2> err
+    test $? = 2 || fail 'a full disk'
+    says err 'full: cannot be written: No space left on device'
+    same full a
+    nothing_partial
+}
+
+# A file - is standard input or output, and nothing else is written there.
+dashes() {
+    halves
+    printf 'start addr=5\n' > sheet.txt
+    expect 0 assemble sheet sheet.txt -o a
+    expect 0 build a -o wanted
+    "$command" build - -o - < a > got 2> err || fail 'build - -o -'
+    same got wanted
+    says err '48 bytes'
+    "$command" assemble sheet - -o - < sheet.txt > got || fail 'assemble - -o -'
+    same got a
+    expect 0 play a -o a.result
+    "$command" play a -o - > got 2> err || fail 'play -o -'
+    same got a.result
+    says err 'answer 0, done'
+    "$command" meaning a -o - > meant 2> err || fail 'meaning -o -'
+    "$command" compare a.result - < meant > out || fail 'compare with standard input'
+    says out 'equal'
+    "$command" dump - < a.result > out || fail 'dump -'
+    "$command" run - -o - < whole.capture > got 2> err || fail 'run -'
+    same got whole.result
+    "$command" assemble sheet sheet.txt -o - > /dev/full 2> err
+    test $? = 2 || fail 'standard output full'
+    echo "dashes: standard input and output, and nothing else written there"
+}
+
+# well_formed FORM FILE: the file is json or a page.
+well_formed() {
+    "$forms" "$1" < "$2" 2> err || fail "$2: $(cat err)"
+}
+
+# A rack: an equal board, a different one, one with a shorter log, one that is refused, one that is no result, one that is not there.
+boards() {
+    result_of expected 'result steps=6\nquadword 0 1 2 3 4\nquadword 9 1 2 3 4\ninstruction 5 7\nentry 0 MSCAL 5\nentry 1 PRIM 6\n'
+    cp expected good
+    result_of low 'result\nquadword 0 1 2 3 4\nquadword 9 0 2 3 4\ninstruction 5 8\nentry 0 MSCAL 5\nentry 1 PRIM 7\n'
+    result_of short 'result\nquadword 0 1 2 3 4\nquadword 9 1 2 3 4\ninstruction 5 7\nentry 0 MSCAL 5\n'
+    result_of refused "result\nstate used=$((entries + 1))\n"
+    odd=$(printf 'na"m\\e\t<&>\377')
+    cp good "$odd"
+}
+
+rack() {
+    boards
+    expect 1 compare expected good low short
+    says out 'board     verdict       first difference    how many'
+    says out 'good      equal'
+    says out 'low       different     quadword 9          1 quadword, 1 instruction, 1 entry'
+    says out "short     different     log's length 1, not 2"
+    says out '3 boards beside expected: 1 equal, 2 different'
+    cp good again
+    expect 0 compare expected good again
+    says out '2 boards beside expected: 2 equal'
+    expect 2 compare expected good refused low.txt missing
+    says out 'refused   refused'
+    says out 'low.txt   not read'
+    says out '4 boards beside expected: 1 equal, 1 refused, 2 not read'
+    expect 1 compare expected good refused
+    result_of stopped 'result answer=90\n'
+    expect 3 compare stopped good low
+    says out '2 boards beside stopped: 2 no verdict'
+    expect 2 compare expected good good
+    expect 2 compare expected good low --all
+    expect 0 compare expected good again --quiet
+    test ! -s out || fail '--quiet says something'
+    expect 1 compare expected good low --quiet
+    test ! -s out || fail '--quiet says something'
+    expect 2 compare expected good missing --quiet
+    rack_json
+    echo "rack: a row a board, the summary, the worst status; quiet; JSON, well formed with any file name"
+}
+
+rack_json() {
+    for words in 'good' 'good low short' 'low --all' 'good low short --all'; do
+        # shellcheck disable=SC2086
+        "$command" compare expected $words --json > out 2> err
+        well_formed json out
+    done
+    says out '"data": {"compared": 1024, "different": 1, "differences": ['
+    says out '{"number": 9, "result": ["0x00000001", "0x00000002", "0x00000003", "0x00000004"], "board": ["0x00000000", "0x00000002", "0x00000003", "0x00000004"]}'
+    says out '{"number": 1, "result": {"register": 0, "value": "0x0000000000000006"}, "board": {"register": 0, "value": "0x0000000000000007"}}'
+    says out '"result_entries": 2, "board_entries": 1'
+    says out '"summary": {"boards": 3, "equal": 1, "different": 2, "refused": 0, "no_verdict": 0, "not_read": 0}'
+    says out '"status": 1'
+    expect 2 compare expected "$odd" refused missing --json
+    well_formed json out
+    says out '"na\"m\\e\u0009<&>\uFFFD"'
+    says out '"verdict": "refused", "status": 1, "has": "data memory, code memory and log", "refusal": 4'
+    says out '"verdict": "not read", "status": 2'
+    "$command" compare stopped good --unfinished --json > out 2> err
+    well_formed json out
+    says out '"verdict": "different from an unfinished result"'
+}
+
+# refused_value WORDS TEXT: a capture of the text is refused with 5, which names the fields.
+refused_value() {
+    capture_of five.capture "capture\n$2\nend\n"
+    "$command" run five.capture -o five > out 2> err
+    says out "  out of its range: $1"
+}
+
+messages() {
+    refused_value 'start channel=3' 'start channel=3\nrun'
+    refused_value 'start channel=2, or start tte=1' 'start channel=2 tte=1'
+    refused_value 'start tadr=0x8' 'start channel=1 tadr=8'
+    refused_value 'state mode=3' 'state mode=3\nrun'
+    refused_value 'state mode=3' 'state mode=3\nstart channel=1'
+    refused_value 'state waiting=UNPACK' 'state waiting=UNPACK due=1\nrun'
+    refused_value "more than one field of 'state'" 'state mode=3 dbf=2\nrun'
+    expect 2 run "$here/../examples/difference.capture.txt" -o unwritten
+    says err 'no capture, but text; assemble it first: tejborun assemble capture '
+    for name in build meaning play; do
+        expect 1 "$name" "$here/../examples/all-kinds.sheet.txt" -o unwritten
+        says err 'it is text; assemble it first: tejborun assemble sheet '
+    done
+    expect 2 dump "$here/../examples/all-kinds.sheet.txt"
+    says err 'it is text already'
+    printf '\357\273\277start addr=5\n' > marked.txt
+    printf 'start addr=5\n' > plain.txt
+    expect 0 assemble sheet marked.txt -o marked
+    expect 0 assemble sheet plain.txt -o plain
+    same marked plain
+    absent unwritten
+    echo "messages: the fields of refusal 5, text in place of a file, a byte order mark"
+}
+
+# Runs of several slices; an endless chain, stopped by Ctrl-C, that goes on afterwards.
+long_runs() {
+    printf 'start channel=1\nrun allowance=2500000\nnext addr=0\n' > endless.txt
+    { echo 'capture fill=7 whole=1 main-bytes=16 log-numbers=8'; cat endless.txt; } > case.txt
+    expect 0 assemble capture case.txt -o case
+    "$replay" < case > results || fail 'replay'
+    replayed "$data_words" "$code_bytes" 8 2
+    expect 3 run case -o result
+    wanted_result results "$block" > wanted
+    same result wanted 'a run of 2,500,000 steps'
+    says out 'answer 90, the step allowance is used; 2500000 steps'
+    { printf 'capture\n'; sed 's/ allowance.*//' endless.txt; } > endless.capture.txt
+    expect 0 assemble capture endless.capture.txt -o endless.capture
+    timeout --foreground --preserve-status -k 20 -s INT 1 "$command" run endless.capture -o stopped.result > out 2> err
+    test $? = 3 || fail "Ctrl-C: $(cat err)"
+    says out 'run without limit: interrupted after '
+    test ! -s err || fail 'progress where there is no terminal'
+    expect 0 dump stopped.result
+    says out 'result answer=90'
+    expect 3 run endless.capture --from stopped.result --no-start -o further.result --allowance 100
+    says out 'answer 90, the step allowance is used; 100 steps'
+    expect 3 compare stopped.result further.result
+    expect 3 run endless.capture --allowance 5
+    printf 'start addr=5\n' > sheet.txt
+    expect 0 assemble sheet sheet.txt -o a
+    expect 0 play a
+    progress_shown
+    echo "long runs: several slices are one run; Ctrl-C stops an endless chain, which goes on from what it left; progress on a terminal alone"
+}
+
+# On a terminal steps and rate are shown; script, where it is there, gives one.
+progress_shown() {
+    command -v script > /dev/null || return 0
+    timeout -k 20 60 script -qec "$command run endless.capture -o shown.result --allowance 20000000" typescript > /dev/null 2>&1 < /dev/null
+    grep -q ' steps, [0-9.]* million a second; Ctrl-C stops' typescript || fail 'no progress on a terminal'
+}
+
+# The forms of options, help and version.
+conventions() {
+    printf 'start addr=5\n' > sheet.txt
+    expect 0 assemble sheet sheet.txt -o a
+    expect 0 build a -o wanted
+    expect 0 build a -ochain-1
+    expect 0 build -o chain-2 a
+    expect 0 build a --output chain-3
+    expect 0 build a --output=chain-4
+    expect 0 build -ochain-5 -- a
+    for i in 1 2 3 4 5; do same chain-$i wanted; done
+    halves
+    expect 3 run whole.capture --allowance=500 -ohalf-2
+    same half.result half-2
+    expect 2 run whole.capture --no-start=1
+    says err '--no-start takes no value'
+    expect 2 build a -o x --output y
+    says err '--output is given twice'
+    expect 2 build a --output
+    for words in -h --help help; do
+        expect 0 $words
+        says out 'tejborun build SHEET -o CHAIN'
+    done
+    for words in 'run -h' 'run --help' 'help run'; do
+        # shellcheck disable=SC2086
+        expect 0 $words
+        says out 'usage: tejborun run CAPTURE'
+    done
+    expect 2 help nonsense
+    expect 0 --version
+    version=$(sed -n 's/^#define TEJBORUN_VERSION "\(.*\)"/\1/p' "$here/tejborun.h")
+    says out "tejborun $version"
+    says out 'library: SHA-256 '
+    says "$here/../CHANGELOG.md" "## "
+    installed
+    echo "conventions: each form of an option, help, version; installed: command, library, headers, manual, completion"
+}
+
+# What make install puts where, and a program that is built with it.
+installed() {
+    make -s -C "$here/.." install DESTDIR="$work/root" PREFIX=/opt/bench > out 2> err || fail "make install: $(cat err)"
+    root=$work/root/opt/bench
+    "$root/bin/tejborun" --version > out || fail 'the command installed'
+    says out "tejborun $version"
+    says "$root/share/man/man1/tejborun.1" "tejborun $version"
+    says "$root/lib/pkgconfig/tejborun.pc" 'prefix=/opt/bench'
+    cat > user.c <<'END'
+#include <stdio.h>
+#include <tejborun.h>
+int main(void)
+{
+    struct tejborun_state state;
+    return tejborun_reset((uint32_t *)&state, TEJBORUN_BLOCK_WORDS) != TEJBORUN_DONE || tejborun_used(&state) != 0 || puts(tejborun_message(90)) < 0;
+}
+END
+    cc -o user user.c -I"$root/include/tejborun" -L"$root/lib" -ltejborun && ./user > out || fail 'a program with the library installed'
+    says out 'the step allowance is used'
+    if command -v bash > /dev/null; then bash -n "$root/share/bash-completion/completions/tejborun" || fail 'the completion'; fi
+    make -s -C "$here/.." uninstall DESTDIR="$work/root" PREFIX=/opt/bench || fail 'make uninstall'
+    if find root -type f | grep . >&2; then fail 'left behind by make uninstall'; fi
+}
+
+# The page: well formed with any file name, its numbers those of compare --json, its sums those of sha256sum.
+report() {
+    boards
+    expect 2 report expected good low short refused "$odd" missing -o page.html
+    well_formed page page.html
+    says page.html 'na&quot;m\e'
+    says page.html '&lt;&amp;&gt;'
+    says page.html '<td class="verdict good">equal</td>'
+    says page.html '<td class="verdict bad">not read</td>'
+    for file in expected good low short; do says page.html "<td class=\"sum\">$(sha256sum < "$file" | cut -d ' ' -f 1)</td>"; done
+    says page.html "tejborun $(sed -n 's/^#define TEJBORUN_VERSION "\(.*\)"/\1/p' "$here/tejborun.h")"
+    says page.html 'answer 0, done; 6 steps'
+    says page.html 'the result has <span class="number">2</span>, the board <span class="number">1</span>.'
+    "$command" compare expected good low short refused "$odd" missing --json > out 2> err
+    sed -n 's/.*"different": \([0-9]*\), .*differences.*/\1/p' out > wanted
+    grep '^<tr><td>' page.html | grep -o '<td class="number">[0-9][0-9]*</td>' | tr -dc '0-9\n' > got
+    test "$(wc -l < wanted)" = 12 || fail 'numbers of compare --json'
+    same got wanted 'the numbers of the page'
+    test "$(grep -c '<rect class="different"' page.html)" = 2 || fail 'what differs in the maps'
+    expect 1 report expected low -o page.html --from short
+    well_formed page page.html
+    "$command" report expected good -o - > page.html 2> err || fail 'report -o -'
+    well_formed page page.html
+    result_of stopped 'result answer=90\n'
+    expect 3 report stopped good -o page.html
+    says page.html 'no verdict'
+    well_formed page page.html
+    expect 2 report missing good -o none.html
+    expect 2 report expected good -o good
+    absent none.html
+    echo "report: a page of each kind of verdict, well formed, with the numbers of compare --json and the sums of sha256sum"
+}
+
+# A board's own dumps: into a result and back, any of the three; a result that lacks a part has no verdict.
+dumps() {
+    halves
+    state_words > /dev/null
+    printf 'capture main-bytes=8192 log-numbers=64\nstart channel=1\nrun\n' > calls.txt
+    expect 0 assemble capture calls.txt -o again.capture
+    expect 0 assemble sheet "$here/../examples/all-kinds.sheet.txt" -o all.sheet
+    expect 0 play all.sheet -o all.result
+    expect 0 export all.result --data vu.bin --code micro.bin --log log.bin
+    slice all.result "$result_head" $((4 * data_words)) > wanted
+    same vu.bin wanted
+    slice all.result $((result_head + 4 * data_words)) "$code_bytes" > wanted
+    same micro.bin wanted
+    slice all.result $((result_head + memory_bytes)) $((8 * 7 * entry_numbers)) > wanted
+    same log.bin wanted
+    expect 0 import --data vu.bin --code micro.bin --log log.bin -o board.result
+    says out 'board.result: data memory, code memory and log'
+    expect 0 compare all.result board.result
+    says out 'equal'
+    for parts in data code log 'data code' 'data log' 'code log'; do one_import; done
+    expect 2 import -o lacking.result
+    says err 'give a dump'
+    head -c 100 vu.bin > cut.bin
+    expect 2 import --data cut.bin -o lacking.result
+    says err 'cut.bin: no dump of data memory: 100 bytes'
+    expect 2 import --log cut.bin -o lacking.result
+    expect 2 import --data vu.bin -o vu.bin
+    says err 'is an input and the output'
+    expect 2 export all.result
+    expect 2 export all.result --data x.bin --code x.bin
+    says err 'x.bin is given for two dumps'
+    expect 2 export all.result --data all.result
+    expect 2 export all.result --main x.bin
+    expect 0 export whole.capture --main main.bin --data zeros.bin
+    expect 0 assemble capture --main main.bin -o again.capture - < calls.txt
+    expect 0 run again.capture -o again.result
+    expect 0 compare whole.result again.result
+    head -c $((4 * data_words)) /dev/zero > wanted
+    same zeros.bin wanted
+    partial_files
+    absent lacking.result x.bin
+    echo "dumps: any of the three into a result and back, main memory out of a capture and into one; no verdict where a part is lacking"
+}
+
+# One import of some parts: its text, its dumps, no verdict.
+one_import() {
+    set --
+    for part in $parts; do
+        case $part in data) set -- "$@" --data vu.bin ;; code) set -- "$@" --code=micro.bin ;; log) set -- "$@" --log log.bin ;; esac
+    done
+    expect 0 import "$@" -o part.result
+    round result part.result
+    expect 0 dump part.result
+    says out "parts=$(echo "$parts" | tr ' ' '+')"
+    for side in 'all.result part.result' 'part.result all.result'; do
+        # shellcheck disable=SC2086
+        expect 3 compare $side
+        says err 'no verdict: '
+        if grep -q -e equal -e different out; then fail 'a verdict over parts'; fi
+    done
+    expect 3 compare all.result board.result part.result
+    says out '2 boards beside all.result: 1 equal, 1 no verdict'
+    for part in data code log; do
+        case " $parts " in
+        *" $part "*) expect 0 export part.result --$part back.bin ;;
+        *) expect 2 export part.result --$part lacking.bin ;;
+        esac
+    done
+    expect 2 run again.capture --from part.result -o lacking.result
+    absent lacking.bin lacking.result
+}
+
+partial_files() {
+    expect 0 import --data vu.bin -o part.result
+    damaged result part.result compare all.result broken
+    patched part.result "$result_head" 7
+    expect 2 dump broken
+    says err 'damaged result: its parts are 7'
+    patched part.result "$result_head" 0
+    expect 2 dump broken
+    bad_text result 1 'parts=7' 'result parts=7\n'
+    bad_text result 2 "'quadword': the result has log alone" 'result parts=log\nquadword 1 1 2 3 4\n'
+    another_layout result part.result $((16 + block_bytes)) compare all.result broken
+}
+
+# What is given twice; and every one of 65,536 differences shown in a moment.
+repeated() {
+    bad_text result 3 'quadword 10 is given twice' 'result\nquadword 10 1 2 3 4\nquadword 10 1 2 3 4\n'
+    bad_text result 3 'instruction 2047 is given twice' 'result\ninstruction 2047 1\ninstruction 0x7FF 1\n'
+    bad_text result 3 'entry 0 is given twice' 'result\nentry 0 1 1\nentry 0 1 2\n'
+    bad_text capture 3 'quadword 10 is given twice' 'capture\nquadword 10 1 2 3 4\nquadword 10 1 2 3 4\n'
+    echo result > long.txt
+    cp long.txt other.txt
+    seq 0 $((entries - 1)) | sed 's/.*/entry & 1 1/' >> long.txt
+    seq 0 $((entries - 1)) | sed 's/.*/entry & 1 2/' >> other.txt
+    expect 0 assemble result long.txt -o long
+    expect 0 assemble result other.txt -o other
+    timeout 10 "$command" compare long other --all > out 2> err
+    test $? = 1 || fail 'compare --all takes long'
+    test "$(grep -c 'log entry' out)" = $entries || fail 'differences left out'
+    echo "repeated: places given twice; $entries differences shown"
+}
+
+for name in ${TESTS:-layout state_words usage bench_points meanings refused_sheets examples comparisons damaged_files other_layouts bad_texts entries_used \
+    unfinished beginnings one_file outputs dashes repeated rack messages long_runs conventions report dumps generated_sheets generated_captures}; do
+    "$name"
+done
 echo "host/test.sh: all as it has to be"

@@ -6,6 +6,7 @@
 #include <stdlib.h>
 #include <string.h>
 
+#include "fields.h"
 #include "files.h"
 #include "numbers.h"
 #include "words.h"
@@ -89,11 +90,14 @@ int number_item(const struct text *text, const struct line *line, size_t i, unsi
 int register_item(const struct text *text, const struct line *line, size_t i, uint64_t *number)
 {
     int named = register_named(line->item[i]);
+    char known[NAMES_TEXT] = "";
     if (named >= 0)
         *number = (uint64_t)named;
-    else if (!read_number(line->item[i], number))
-        return complain_at(text, line->number, "'%s' is no register: give a name of docs/TEXT.md or a number", line->item[i]);
-    return STATUS_DONE;
+    if (named >= 0 || read_number(line->item[i], number))
+        return STATUS_DONE;
+    for (size_t place = 0; listed_register(place) != NULL; place++)
+        add_name(known, listed_register(place));
+    return complain_at(text, line->number, "'%s' is no register: give a number or one of %s", line->item[i], known);
 }
 
 int expect_items(const struct text *text, const struct line *line, size_t count, const char *what)

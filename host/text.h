@@ -8,8 +8,11 @@
 
 enum { TEXT_ITEMS = 64 }; /* most items of a line */
 
+struct words_given;
+
 struct text {
     const char *name; /* the file's */
+    const struct words_given *given; /* of the command */
     char *next;       /* what is still to be read, ended by a zero; lines are cut into items in place */
     unsigned line;    /* the number of the last line read */
 };

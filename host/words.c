@@ -1,76 +1,7 @@
 /* The meanings of numbers in words. */
 #include "words.h"
 
-#include <stddef.h>
-#include <stdio.h>
 #include <string.h>
-
-#include "tejborun.h"
-
-struct meaning {
-    uint32_t answer;
-    const char *words;
-    unsigned limit;   /* stands before the rest, where there is one */
-    const char *rest;
-};
-
-static const struct meaning meanings[] = {
-    {TEJBORUN_DONE, "done", 0, NULL},
-    {TEJBORUN_BAD_MAIN, "main memory has length 0, no multiple of 16 or more than ", TEJBORUN_MAIN_BYTES, " bytes"},
-    {TEJBORUN_BAD_DATA, "data memory is not ", TEJBORUN_DATA_WORDS, " words"},
-    {TEJBORUN_BAD_CODE, "code memory is not ", TEJBORUN_CODE_BYTES, " bytes"},
-    {TEJBORUN_BAD_LOG, "the log's length is no whole entries, above ", TEJBORUN_LOG_NUMBERS, " numbers or below the entries used"},
-    {TEJBORUN_BAD_VALUE, "a state or start value is outside the range of its field", 0, NULL},
-    {TEJBORUN_BAD_TADR, "TADR lies outside main memory", 0, NULL},
-    {TEJBORUN_BAD_ADDR, "ADDR of the tag is no multiple of 16", 0, NULL},
-    {TEJBORUN_BAD_SPR, "SPR is set in a tag that uses ADDR", 0, NULL},
-    {TEJBORUN_BAD_CALL, "call with two addresses on the stack", 0, NULL},
-    {TEJBORUN_BAD_PAYLOAD, "payload or pending words lie outside main memory", 0, NULL},
-    {TEJBORUN_BAD_CMD, "a VIF code whose CMD is not listed", 0, NULL},
-    {TEJBORUN_BAD_FORMAT, "UNPACK with vl 3 and vn below 3", 0, NULL},
-    {TEJBORUN_BAD_CYCLE, "UNPACK with WL 0", 0, NULL},
-    {TEJBORUN_BAD_MODE, "STMOD with mode 3", 0, NULL},
-    {TEJBORUN_BAD_DIRECT, "DIRECT payload is due and the next word is not word 0 of its quadword", 0, NULL},
-    {TEJBORUN_BAD_DESCRIPTOR, "GIF descriptor B is met at its data", 0, NULL},
-    {TEJBORUN_LOG_FULL, "the log lacks room", 0, NULL},
-    {TEJBORUN_BAD_MARK, "the record does not begin with the mark 9E 51", 0, NULL},
-    {TEJBORUN_BAD_KIND, "the record's kind is none of 1 to 4", 0, NULL},
-    {TEJBORUN_BAD_COUNT, "the record's count is not one of its kind", 0, NULL},
-    {TEJBORUN_BAD_ADDRESS, "the record's address is not one of its kind", 0, NULL},
-    {TEJBORUN_CUT_RECORD, "the record's header or body is cut off by the sheet's end", 0, NULL},
-    {TEJBORUN_BAD_PAD, "a GS entry's pad is not zero", 0, NULL},
-    {TEJBORUN_LONG_SHEET, "the sheet is longer than ", TEJBORUN_SHEET_BYTES, " bytes"},
-    {TEJBORUN_LONG_CHAIN, "the chain is longer than the output", 0, NULL},
-    {TEJBORUN_SHORT, "a state block that is not ", TEJBORUN_BLOCK_WORDS, " words, or a result with too few numbers"},
-    {TEJBORUN_ALLOWANCE, "the step allowance is used", 0, NULL},
-    {TEJBORUN_INTERRUPT, "stopped at an interrupt mark", 0, NULL},
-};
-
-/* Writes a number with a comma at each thousand; how many characters. */
-static size_t write_grouped(char *text, unsigned number)
-{
-    if (number < 1000)
-        return (size_t)sprintf(text, "%u", number);
-    size_t length = write_grouped(text, number / 1000);
-    return length + (size_t)sprintf(text + length, ",%03u", number % 1000);
-}
-
-const char *meaning_of(uint32_t answer)
-{
-    static char joined[160];
-    for (size_t i = 0; i < sizeof meanings / sizeof meanings[0]; i++) {
-        const struct meaning *meaning = &meanings[i];
-        char limit[16];
-        if (meaning->answer != answer)
-            continue;
-        if (meaning->rest == NULL)
-            return meaning->words;
-        write_grouped(limit, meaning->limit);
-        snprintf(joined, sizeof joined, "%s%s%s", meaning->words, limit, meaning->rest);
-        return joined;
-    }
-    return "a number without a meaning";
-}
 
 struct named {
     int number;
@@ -105,6 +36,11 @@ int register_named(const char *name)
         if (strcmp(registers[i].name, name) == 0)
             return registers[i].number;
     return -1;
+}
+
+const char *listed_register(size_t place)
+{
+    return place < sizeof registers / sizeof registers[0] ? registers[place].name : NULL;
 }
 
 const char *descriptor_name(unsigned descriptor)

@@ -2,16 +2,17 @@
 #ifndef WORDS_H
 #define WORDS_H
 
+#include <stddef.h>
 #include <stdint.h>
-
-/* The meaning of an answer or refusal; it holds until the next call. */
-const char *meaning_of(uint32_t answer);
 
 /* The name of a register of the log; null where it has none. */
 const char *register_name(uint64_t number);
 
 /* The number of a register by its name; -1 where there is none. */
 int register_named(const char *name);
+
+/* The register at a place of the list of those that have names; null after the last. */
+const char *listed_register(size_t place);
 
 /* The name of a GIF descriptor, 0 to 15. */
 const char *descriptor_name(unsigned descriptor);

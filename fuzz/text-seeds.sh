@@ -1,0 +1,20 @@
+#!/bin/sh
+# Seeds for fuzz/text.c: sh fuzz/text-seeds.sh COMMAND EXAMPLES FOLDER. The first byte of a seed says which reader it is for.
+set -eu
+command=$1 examples=$2 out=$3
+seed() {
+    { printf '%b' "\\00$1"; cat; } > "$out/$2"
+}
+"$command" assemble capture "$examples/difference.capture.txt" -o "$out/../c" > /dev/null
+"$command" assemble sheet "$examples/all-kinds.sheet.txt" -o "$out/../s" > /dev/null
+"$command" play "$out/../s" -o "$out/../r" > /dev/null
+"$command" build "$out/../s" -o "$out/../h" > /dev/null
+head -c 6000 "$examples/difference.capture.txt" | seed 0 capture
+printf 'capture fill=5 whole=1\nstate mode=2\nquadword 3 1 2 3 4\ninstruction 5 6\nentry 0 PRIM 1\nstart channel=1\nrun\nend\n' | seed 0 capture-lines
+"$command" dump "$out/../r" | seed 1 result
+printf 'result parts=data+log answer=0\nentry 0 MSCAL 5\nquadword 9 -1 0x7 3 4\n' | seed 1 parts
+seed 2 sheet < "$examples/all-kinds.sheet.txt"
+"$command" dump chain "$out/../h" | seed 3 chain
+printf 'state channel=1 waiting=UNPACK due=2 count=1 format=V4-32 path2.place=data path2.format=IMAGE\n' | seed 4 state
+head -c 2000 "$out/../c" | seed 5 capture-file
+head -c 2000 "$out/../r" | seed 6 result-file

@@ -1,0 +1,31 @@
+/* Memories and log from text. */
+#ifndef ASSEMBLE_BOARD_H
+#define ASSEMBLE_BOARD_H
+
+#include "board.h"
+#include "fields.h"
+#include "text.h"
+
+/* Which quadwords, instructions or entries were given. */
+struct units_given {
+    uint8_t *given;
+    size_t end; /* one more than the last */
+};
+
+/* A board that lines give: the state as after reset and the memories zero, where they give nothing else. */
+struct board_text {
+    struct board board;
+    struct given state_given;
+    struct units_given units[PARTS];
+};
+
+struct board_text new_board_text(struct memories lengths, size_t log_numbers);
+void free_board_text(struct board_text *memory);
+
+/* Reads a line state, quadword, instruction or entry; says whether it is one. A status. */
+int board_line(const struct text *text, const struct line *line, struct board_text *memory, bool *is_one);
+
+/* After the last line: the entries used are those given, without a gap, unless a state line says how many. A status. */
+int finish_board_text(const struct text *text, struct board_text *memory);
+
+#endif

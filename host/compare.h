@@ -1,0 +1,48 @@
+/* Boards beside a result: what is printed of them. */
+#ifndef COMPARE_H
+#define COMPARE_H
+
+#include "verdict.h"
+
+/* A board's file, and what the library says of it. */
+struct compared {
+    const char *name;
+    const struct result *board; /* null where it cannot be read */
+    struct comparison comparison;
+    int status;
+};
+
+/* The expectation, and how many boards came to which end. */
+struct rack {
+    const char *name;
+    const struct result *result;
+    bool all;  /* every difference is shown */
+    int width; /* of the boards' names, in characters */
+    size_t boards, ends[VERDICTS + 1];
+    int status;    /* the worst so far */
+    void *context; /* of the function that shows */
+};
+
+/* Shows a board. A status. */
+typedef int show_compared(void *context, const struct rack *rack, const struct compared *compared);
+
+struct words_given;
+
+/* Compares every board of the words, from the second on, with the rack's result; shows each where a function is given. */
+void compare_rack(const struct words_given *given, show_compared *show, struct rack *rack);
+
+/* How a part and its units are called. */
+struct part_words {
+    const char *memory, *one, *many;
+};
+extern const struct part_words part_words[PARTS];
+
+/* A verdict in words; the same for a board that cannot be read. */
+const char *verdict_words(const struct rack *rack, const struct compared *compared);
+
+/* Each prints a board, and after the last one what is to be said of all. Statuses. */
+show_compared show_board, show_row, show_json;
+int show_summary(const struct rack *rack);
+int end_json(const struct rack *rack);
+
+#endif

@@ -1,0 +1,109 @@
+/* Boards beside a result as JSON. */
+#include <inttypes.h>
+#include <stdio.h>
+#include <stdlib.h>
+
+#include "compare.h"
+#include "json.h"
+#include "numbers.h"
+
+static void print_data_unit(const struct board *board, size_t number)
+{
+    const uint32_t *at = board->data + 4 * number;
+    printf("[\"0x%08" PRIX32 "\", \"0x%08" PRIX32 "\", \"0x%08" PRIX32 "\", \"0x%08" PRIX32 "\"]", at[0], at[1], at[2], at[3]);
+}
+
+static void print_code_unit(const struct board *board, size_t number)
+{
+    printf("\"0x%016" PRIX64 "\"", get_number(board->code + 8 * number));
+}
+
+static void print_log_unit(const struct board *board, size_t number)
+{
+    const uint64_t *entry = board_entry(board, number);
+    printf("{\"register\": %" PRIu64 ", \"value\": \"0x%016" PRIX64 "\"}", entry[TEJBORUN_ENTRY_REGISTER], entry[TEJBORUN_ENTRY_VALUE]);
+}
+
+static void (*const print_unit[PARTS])(const struct board *, size_t) = {
+    [PART_DATA] = print_data_unit, [PART_CODE] = print_code_unit, [PART_LOG] = print_log_unit,
+};
+static const char *const part_names[PARTS] = {[PART_DATA] = "data", [PART_CODE] = "code", [PART_LOG] = "log"};
+
+static void print_difference(const struct board *a, const struct board *b, enum part part, size_t number)
+{
+    printf("{\"number\": %zu, \"result\": ", number);
+    print_unit[part](a, number);
+    printf(", \"board\": ");
+    print_unit[part](b, number);
+    printf("}");
+}
+
+/* The differences that are shown: the first, or every one. A status. */
+static int print_differences(const struct rack *rack, const struct compared *compared, enum part part)
+{
+    const struct board *a = &rack->result->board, *b = &compared->board->board;
+    const struct found *found = &compared->comparison.found[part];
+    size_t *numbers = differing_units(a, b, part, found);
+    if (numbers == NULL)
+        return STATUS_BAD;
+    for (size_t i = 0; i < found->count && (i == 0 || rack->all); i++) {
+        printf("%s\n          ", i > 0 ? "," : "");
+        print_difference(a, b, part, numbers[i]);
+    }
+    free(numbers);
+    return STATUS_DONE;
+}
+
+static int print_part(const struct rack *rack, const struct compared *compared, enum part part)
+{
+    const struct found *found = &compared->comparison.found[part];
+    printf("      \"%s\": {\"compared\": %" PRIu64 ", \"different\": %" PRIu64 ", ", part_names[part], found->compared, found->count);
+    if (part == PART_LOG)
+        printf("\"result_entries\": %" PRIu64 ", \"board_entries\": %" PRIu64 ", ", board_used(&rack->result->board), board_used(&compared->board->board));
+    printf("\"differences\": [");
+    int status = print_differences(rack, compared, part);
+    printf("]}%s\n", part + 1 < PARTS ? "," : "");
+    return status;
+}
+
+/* What comes before the first board. */
+static void begin_json(const struct rack *rack)
+{
+    printf("{\n  \"result\": {\"file\": ");
+    print_json_text(stdout, rack->name);
+    printf(", \"answer\": %" PRIu32 ", \"steps\": %" PRIu64 "},\n  \"boards\": [\n", rack->result->answer, rack->result->steps);
+}
+
+int show_json(void *context, const struct rack *rack, const struct compared *compared)
+{
+    (void)context;
+    int status = STATUS_DONE;
+    const struct comparison *comparison = &compared->comparison;
+    if (rack->boards == 0)
+        begin_json(rack);
+    printf("%s    {\"file\": ", rack->boards > 0 ? ",\n" : "");
+    print_json_text(stdout, compared->name);
+    printf(", \"verdict\": \"%s\", \"status\": %d", verdict_words(rack, compared), compared->status);
+    if (compared->board != NULL)
+        printf(", \"has\": \"%s\"", parts_words(compared->board->parts));
+    if (compared->board != NULL && comparison->verdict == VERDICT_REFUSED)
+        printf(", \"refusal\": %" PRIu32, comparison->refusal);
+    if (compared->board != NULL && (comparison->verdict == VERDICT_EQUAL || comparison->verdict == VERDICT_DIFFERENT)) {
+        printf(",\n");
+        for (size_t part = 0; part < PARTS; part++)
+            status = worse(status, print_part(rack, compared, (enum part)part));
+        printf("    ");
+    }
+    printf("}");
+    return status;
+}
+
+int end_json(const struct rack *rack)
+{
+    static const char *const ends[VERDICTS + 1] = {"equal", "different", "refused", "no_verdict", "not_read"};
+    printf("\n  ],\n  \"summary\": {\"boards\": %zu", rack->boards);
+    for (size_t i = 0; i <= VERDICTS; i++)
+        printf(", \"%s\": %zu", ends[i], rack->ends[i]);
+    printf("},\n  \"status\": %d\n}\n", rack->status);
+    return STATUS_DONE;
+}

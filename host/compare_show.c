@@ -1,0 +1,161 @@
+/* One board beside a result, in full. */
+#include <inttypes.h>
+#include <stdio.h>
+#include <stdlib.h>
+#include <string.h>
+
+#include "compare.h"
+#include "numbers.h"
+#include "words.h"
+
+enum { CELL = 38 }; /* characters of a word in its three forms */
+
+/* A result and a board, with the names of their files. */
+struct pair {
+    const char *name[2];
+    const struct board *board[2];
+};
+
+/* A file's name in so many characters: its end where it is longer. */
+static void print_name(const char *name, size_t width)
+{
+    size_t length = strlen(name);
+    if (length > width)
+        printf("...%s", name + length - width + 3);
+    else
+        printf("%-*s", (int)width, name);
+}
+
+/* A word in hexadecimal, as a signed number and as an IEEE number of 32 bits. */
+static void print_word(uint32_t word)
+{
+    float value;
+    memcpy(&value, &word, sizeof value);
+    printf("0x%08" PRIX32 " %11" PRId64 "  ", word, signed_word(word));
+    if (value != value)
+        printf("%-14s", "nan");
+    else
+        printf("%-14.9g", (double)value);
+}
+
+static void show_quadword(const struct pair *pair, size_t number)
+{
+    static const char fields[] = "XYZW";
+    printf("  quadword %zu (0x%zX)\n       ", number, number);
+    print_name(pair->name[0], CELL);
+    printf("   ");
+    print_name(pair->name[1], CELL);
+    printf("   board - result\n");
+    for (size_t i = 0; i < 4; i++) {
+        uint32_t x = pair->board[0]->data[4 * number + i], y = pair->board[1]->data[4 * number + i];
+        int64_t counts = signed_word(y - x);
+        printf("    %c  ", fields[i]);
+        print_word(x);
+        printf("   ");
+        print_word(y);
+        if (counts == 0)
+            printf("   same\n");
+        else
+            printf("   %+" PRId64 " %s\n", counts, plural(counts == 1 || counts == -1 ? 1 : 2, "count", "counts"));
+    }
+}
+
+/* The longer of the two names, in characters, as far as a column goes. */
+static size_t name_width(const struct pair *pair)
+{
+    size_t first = strlen(pair->name[0]), second = strlen(pair->name[1]), longer = first > second ? first : second;
+    return longer > CELL ? CELL : longer;
+}
+
+static void show_instruction(const struct pair *pair, size_t number)
+{
+    printf("  instruction %zu (0x%zX)\n", number, number);
+    for (size_t i = 0; i < 2; i++) {
+        printf("    ");
+        print_name(pair->name[i], name_width(pair));
+        printf("  0x%016" PRIX64 "\n", get_number(pair->board[i]->code + 8 * number));
+    }
+}
+
+static void print_entry(const struct pair *pair, size_t which, size_t number)
+{
+    const uint64_t *entry = board_entry(pair->board[which], number);
+    uint64_t log_register = entry[TEJBORUN_ENTRY_REGISTER], value = entry[TEJBORUN_ENTRY_VALUE];
+    const char *name = register_name(log_register);
+    printf("    ");
+    print_name(pair->name[which], name_width(pair));
+    printf("  register 0x%02" PRIX64 " %s, value 0x%016" PRIX64 " (%" PRIu64 ")\n", log_register, name != NULL ? name : "(no name)", value, value);
+}
+
+static void show_entry(const struct pair *pair, size_t number)
+{
+    printf("  log entry %zu\n", number);
+    print_entry(pair, 0, number);
+    print_entry(pair, 1, number);
+}
+
+static void (*const show_unit[PARTS])(const struct pair *, size_t) = {
+    [PART_DATA] = show_quadword, [PART_CODE] = show_instruction, [PART_LOG] = show_entry,
+};
+
+/* Shows every difference of a part. A status. */
+static int show_all(const struct pair *pair, enum part part, const struct found *found)
+{
+    size_t *numbers = differing_units(pair->board[0], pair->board[1], part, found);
+    if (numbers == NULL)
+        return STATUS_BAD;
+    for (size_t i = 0; i < found->count; i++)
+        show_unit[part](pair, numbers[i]);
+    free(numbers);
+    return STATUS_DONE;
+}
+
+static int show_part(const struct pair *pair, enum part part, const struct found *found, bool all)
+{
+    const struct part_words *words = &part_words[part];
+    if (found->count == 0) {
+        printf("%s: the same, %" PRIu64 " %s compared\n", words->memory, found->compared, plural(found->compared, words->one, words->many));
+        return STATUS_DONE;
+    }
+    printf("%s: %" PRIu64 " %s %s, the first is %" PRIu64 "\n", words->memory, found->count, plural(found->count, words->one, words->many),
+           plural(found->count, "differs", "differ"), found->first);
+    if (all)
+        return show_all(pair, part, found);
+    show_unit[part](pair, found->first);
+    return STATUS_DONE;
+}
+
+/* Shows the first entry that only one of the two has. */
+static void show_lengths(const struct pair *pair)
+{
+    uint64_t used[2] = {board_used(pair->board[0]), board_used(pair->board[1])};
+    size_t longer = used[1] > used[0];
+    if (used[0] == used[1])
+        return;
+    printf("log: %s has %" PRIu64 " %s, %s %" PRIu64 "; only %s has %" PRIu64 " to %" PRIu64 ", the first of them\n", pair->name[0], used[0],
+           plural(used[0], "entry", "entries"), pair->name[1], used[1], pair->name[longer], used[!longer], used[longer] - 1);
+    print_entry(pair, longer, used[!longer]);
+}
+
+static void show_answer(const char *name, const struct result *result)
+{
+    printf("%s: answer %" PRIu32 ", %s; %" PRIu64 " %s\n", name, result->answer, tejborun_message(result->answer), result->steps,
+           plural(result->steps, "step", "steps"));
+}
+
+int show_board(void *context, const struct rack *rack, const struct compared *compared)
+{
+    (void)context;
+    const struct comparison *comparison = &compared->comparison;
+    if (compared->board == NULL || (comparison->verdict != VERDICT_EQUAL && comparison->verdict != VERDICT_DIFFERENT))
+        return STATUS_DONE;
+    const struct pair pair = {{rack->name, compared->name}, {&rack->result->board, &compared->board->board}};
+    int status = STATUS_DONE;
+    show_answer(rack->name, rack->result);
+    show_answer(compared->name, compared->board);
+    for (size_t part = 0; part < PARTS; part++)
+        status = worse(status, show_part(&pair, (enum part)part, &comparison->found[part], rack->all));
+    show_lengths(&pair);
+    puts(verdict_words(rack, compared));
+    return status;
+}

@@ -1,0 +1,147 @@
+/* The words and options of a command. */
+#include <stdlib.h>
+#include <string.h>
+
+#include "command.h"
+#include "files.h"
+#include "numbers.h"
+
+struct option_shape {
+    const char *name, *value; /* value: what it is called in a list, null where the option has none */
+    bool is_input;            /* the value is a file that is read */
+};
+
+static const struct option_shape shapes[OPTIONS] = {
+    [OPTION_OUTPUT] = {"--output", "FILE", false},
+    [OPTION_ALLOWANCE] = {"--allowance", "N", false},
+    [OPTION_FROM] = {"--from", "RESULT", true},
+    [OPTION_NO_START] = {"--no-start", NULL, false},
+    [OPTION_MAIN] = {"--main", "FILE", true},
+    [OPTION_DATA] = {"--data", "FILE", true},
+    [OPTION_CODE] = {"--code", "FILE", true},
+    [OPTION_LOG] = {"--log", "FILE", true},
+    [OPTION_ALL] = {"--all", NULL, false},
+    [OPTION_UNFINISHED] = {"--unfinished", NULL, false},
+    [OPTION_QUIET] = {"--quiet", NULL, false},
+    [OPTION_JSON] = {"--json", NULL, false},
+};
+
+static bool takes(const struct command *command, size_t option)
+{
+    return (command->options & TAKES(option)) != 0;
+}
+
+static int bad_usage(const struct command *command, const char *what)
+{
+    return complain(command->name, "%s\nusage: tejborun %s", what, command->usage);
+}
+
+/* A word cut into an option and its value, which is null where it is the next word. */
+struct cut {
+    size_t option; /* OPTIONS where the command takes none of that name */
+    const char *value;
+};
+
+static struct cut cut_option(const struct command *command, const char *word)
+{
+    if (word[1] == 'o' && word[0] == '-' && takes(command, OPTION_OUTPUT))
+        return (struct cut){OPTION_OUTPUT, word[2] != 0 ? word + 2 : NULL};
+    size_t length = strcspn(word, "=");
+    for (size_t i = 0; i < OPTIONS; i++)
+        if (takes(command, i) && strlen(shapes[i].name) == length && memcmp(shapes[i].name, word, length) == 0)
+            return (struct cut){i, word[length] != 0 ? word + length + 1 : NULL};
+    return (struct cut){OPTIONS, NULL};
+}
+
+/* Lists the options that the command takes. */
+static int unknown_option(const struct command *command, const char *word)
+{
+    char list[512] = "";
+    for (size_t i = 0; i < OPTIONS; i++)
+        if (takes(command, i)) {
+            strcat(list, list[0] != 0 ? ", " : "; known are ");
+            strcat(list, i == OPTION_OUTPUT ? "-o, --output" : shapes[i].name);
+        }
+    return complain(command->name, "unknown option %s%s\nusage: tejborun %s", word, list, command->usage);
+}
+
+/* Takes the option at *i; steps over its value. A status. */
+static int take_option(const struct command *command, int count, char **words, int *i, struct words_given *given)
+{
+    const char *word = words[*i];
+    struct cut cut = cut_option(command, word);
+    if (cut.option == OPTIONS)
+        return unknown_option(command, word);
+    const struct option_shape *shape = &shapes[cut.option];
+    if (given->option[cut.option] != NULL)
+        return complain(command->name, "%s is given twice", shape->name);
+    if (shape->value == NULL && cut.value != NULL)
+        return complain(command->name, "%s takes no value", shape->name);
+    if (shape->value != NULL && cut.value == NULL) {
+        if (++*i == count)
+            return complain(command->name, "nothing after %s\nusage: tejborun %s", word, command->usage);
+        cut.value = words[*i];
+    }
+    given->option[cut.option] = cut.value != NULL ? cut.value : "";
+    if (cut.option == OPTION_ALLOWANCE && !read_number(cut.value, &given->allowance))
+        return complain(command->name, "'%s' is no allowance: give a number below 2^64, as 1000 or 0x3E8", cut.value);
+    return STATUS_DONE;
+}
+
+/* Collects words and options. */
+static int sort_words(const struct command *command, int count, char **words, struct words_given *given)
+{
+    bool options = true;
+    for (int i = 0; i < count; i++) {
+        if (options && strcmp(words[i], "--") == 0) {
+            options = false;
+        } else if (options && words[i][0] == '-' && words[i][1] != 0) {
+            int status = take_option(command, count, words, &i, given);
+            if (status != STATUS_DONE)
+                return status;
+        } else if (given->count == command->most) {
+            return bad_usage(command, "too many words");
+        } else {
+            given->word[given->count++] = words[i];
+        }
+    }
+    if (given->count < command->least)
+        return bad_usage(command, "too few words");
+    if (command->needs_output && given->option[OPTION_OUTPUT] == NULL)
+        return bad_usage(command, "say with -o where to write");
+    return STATUS_DONE;
+}
+
+/* Complains where two of the files are one: a file given twice, or an output that is an input. */
+static int check_file(const struct command *command, const struct words_given *given, size_t first, const char *name)
+{
+    const char *output = given->option[OPTION_OUTPUT];
+    if (output != NULL && !is_dash(output) && same_file(name, output))
+        return complain(command->name, "%s is an input and the output", name);
+    for (size_t i = first; i < given->count; i++)
+        if (same_file(name, given->word[i]))
+            return complain(command->name, "%s and %s are the same file", name, given->word[i]);
+    return STATUS_DONE;
+}
+
+static int check_files(const struct command *command, const struct words_given *given)
+{
+    int status = STATUS_DONE;
+    for (size_t i = command->files; i < given->count && status == STATUS_DONE; i++)
+        status = check_file(command, given, i + 1, given->word[i]);
+    for (size_t i = 0; i < OPTIONS && status == STATUS_DONE; i++)
+        if (shapes[i].is_input && given->option[i] != NULL)
+            status = check_file(command, given, command->files, given->option[i]);
+    return status;
+}
+
+int take_words(const struct command *command, int count, char **words, struct words_given *given)
+{
+    *given = (struct words_given){.word = allocate((size_t)count, sizeof *given->word)};
+    int status = sort_words(command, count, words, given);
+    if (status == STATUS_DONE)
+        status = check_files(command, given);
+    if (status != STATUS_DONE)
+        free(given->word);
+    return status;
+}

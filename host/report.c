@@ -1,0 +1,261 @@
+/* The command report: the comparison of boards as one page, to be printed and kept. */
+#define _POSIX_C_SOURCE 200809L
+
+#include "report.h"
+
+#include <inttypes.h>
+#include <stdlib.h>
+#include <string.h>
+#include <time.h>
+
+#include "command.h"
+#include "identity.h"
+#include "json.h"
+#include "numbers.h"
+#include "words.h"
+
+static const char head[] =
+    "<!DOCTYPE html>\n<html lang=\"en\">\n<head>\n<meta charset=\"utf-8\"/>\n"
+    "<meta http-equiv=\"Content-Security-Policy\" content=\"default-src 'none'; style-src 'unsafe-inline'\"/>\n<title>Board report</title>\n<style>\n"
+    "@page { size: A4; margin: 14mm }\n"
+    "body { font: 13px/1.45 sans-serif; color: #111; background: #fff; max-width: 190mm; margin: 1.5em auto; padding: 0 1em;\n"
+    "  -webkit-print-color-adjust: exact; print-color-adjust: exact }\n"
+    "h1 { font-size: 22px; margin: 0 0 .4em } h2 { font-size: 17px; margin: 1.6em 0 .3em; overflow-wrap: anywhere }\n"
+    "table { border-collapse: collapse; width: 100%; margin: .4em 0 } th, td { text-align: left; vertical-align: top; padding: 2px 8px 2px 0;\n"
+    "  border-bottom: 1px solid #ccc; overflow-wrap: anywhere } th { font-weight: 600; white-space: nowrap; width: 1%; overflow-wrap: normal }\n"
+    ".rows th, .rows td { width: auto } .rows .number { white-space: nowrap } .number, .hex { font-family: monospace; overflow-wrap: anywhere }\n"
+    ".sum { font-family: monospace; font-size: 10px } .verdict { font-weight: 700; white-space: nowrap } .good { color: #14602c } .bad { color: #a3140c }\n"
+    "p.verdict { font-size: 20px; margin: .2em 0 .6em } figure { margin: .3em 0 1em; break-inside: avoid } figcaption { font-size: 11px; color: #444 }\n"
+    ".map { width: 100%; height: auto; display: block } .map text { font: 8px sans-serif; fill: #444; text-anchor: end } .map .axis { text-anchor: middle }\n"
+    ".map .field { font-weight: 700; font-size: 11px; fill: #111 } .same { fill: #8fb8d8 } .different { fill: #a3140c } .untouched { fill: #ececec }\n"
+    ".frame { fill: none; stroke: #bbb; stroke-width: .5 } .zero { stroke: #888; stroke-width: .5 } .bars { stroke: #a3140c; stroke-width: .8; fill: none }\n"
+    ".key { display: inline-block; width: 10px; height: 10px; margin: 0 .3em 0 1em } .key.same { background: #8fb8d8 } .key.different { background: #a3140c }\n"
+    ".key.untouched { background: #ececec; border: 1px solid #bbb } section { break-before: page }\n"
+    "@media screen { section { border-top: 2px solid #111; margin-top: 2em } }\n"
+    "@media print { body { max-width: none; margin: 0; padding: 0; font-size: 12px } h2 { margin-top: 0 } figure { margin-bottom: .5em } }\n"
+    "</style>\n</head>\n<body>\n<h1>Board report</h1>\n";
+
+void print_escaped(FILE *page, const char *text)
+{
+    static const char marks[] = "&<>\"'";
+    static const char *const names[] = {"&amp;", "&lt;", "&gt;", "&quot;", "&#39;"};
+    while (*text != 0) {
+        size_t length = character_length(text);
+        const char *mark = strchr(marks, *text);
+        if (mark != NULL)
+            fputs(names[mark - marks], page);
+        else if (length == 0 || (unsigned char)*text < ' ' || *text == 0x7F)
+            fputs("\xEF\xBF\xBD", page);
+        else
+            fwrite(text, 1, length, page);
+        text += length > 0 ? length : 1;
+    }
+}
+
+static void print_row(FILE *page, const char *name, const char *value, const char *kind)
+{
+    fprintf(page, "<tr><th>%s</th><td class=\"%s\">", name, kind);
+    print_escaped(page, value);
+    fprintf(page, "</td></tr>\n");
+}
+
+/* A file: its name and its sum. */
+static void print_file(FILE *page, const char *name, const char *file, const struct result *result)
+{
+    print_row(page, name, is_dash(file) ? "standard input" : file, "name");
+    print_row(page, "its SHA-256", result->sum, "sum");
+}
+
+/* An answer and its steps. */
+static void print_answer(FILE *page, const struct result *result)
+{
+    char text[256];
+    snprintf(text, sizeof text, "answer %" PRIu32 ", %s; %" PRIu64 " %s", result->answer, tejborun_message(result->answer), result->steps,
+             plural(result->steps, "step", "steps"));
+    print_row(page, "its run", text, "answer");
+}
+
+static const char *verdict_class(const struct compared *compared)
+{
+    return compared->status == STATUS_DONE ? "verdict good" : "verdict bad";
+}
+
+/* The counts of a board by part; empty where there is no verdict. */
+static void print_counts(FILE *page, const struct compared *compared)
+{
+    for (size_t part = 0; part < PARTS; part++) {
+        const struct found *found = &compared->comparison.found[part];
+        fprintf(page, "<td class=\"number\">");
+        if (compared->board != NULL && compared->comparison.verdict <= VERDICT_DIFFERENT)
+            fprintf(page, "%" PRIu64, found->count);
+        fprintf(page, "</td>");
+    }
+}
+
+static void print_summary_row(FILE *rows, const struct rack *rack, const struct compared *compared)
+{
+    fprintf(rows, "<tr><td>");
+    print_escaped(rows, compared->name);
+    fprintf(rows, "</td><td class=\"%s\">%s</td>", verdict_class(compared), verdict_words(rack, compared));
+    print_counts(rows, compared);
+    fprintf(rows, "</tr>\n");
+}
+
+static void print_unit(FILE *page, const struct board *board, enum part part, size_t number)
+{
+    const uint64_t *entry = part == PART_LOG ? board_entry(board, number) : NULL;
+    const char *name = entry != NULL ? register_name(entry[TEJBORUN_ENTRY_REGISTER]) : NULL;
+    if (part == PART_DATA)
+        for (size_t i = 0; i < 4; i++)
+            fprintf(page, "%s0x%08" PRIX32, i > 0 ? " " : "", board->data[4 * number + i]);
+    else if (part == PART_CODE)
+        fprintf(page, "0x%016" PRIX64, get_number(board->code + 8 * number));
+    else
+        fprintf(page, "0x%02" PRIX64 " %s 0x%016" PRIX64, entry[TEJBORUN_ENTRY_REGISTER], name != NULL ? name : "(no name)", entry[TEJBORUN_ENTRY_VALUE]);
+}
+
+/* How many differ in each part, and the first of them. */
+static void print_differences(FILE *page, const struct rack *rack, const struct compared *compared)
+{
+    fprintf(page, "<table class=\"rows\">\n<tr><th></th><th>compared</th><th>different</th><th>first</th><th>result</th><th>board</th></tr>\n");
+    for (size_t part = 0; part < PARTS; part++) {
+        const struct found *found = &compared->comparison.found[part];
+        fprintf(page, "<tr><th>%s</th><td class=\"number\">%" PRIu64 "</td><td class=\"number\">%" PRIu64 "</td>", part_words[part].memory, found->compared,
+                found->count);
+        if (found->count > 0) {
+            fprintf(page, "<td class=\"number\">%s %" PRIu64 "</td><td class=\"hex\">", part_words[part].one, found->first);
+            print_unit(page, &rack->result->board, (enum part)part, found->first);
+            fprintf(page, "</td><td class=\"hex\">");
+            print_unit(page, &compared->board->board, (enum part)part, found->first);
+        } else {
+            fprintf(page, "<td></td><td></td><td>");
+        }
+        fprintf(page, "</td></tr>\n");
+    }
+    fprintf(page, "</table>\n<p>Log entries: the result has <span class=\"number\">%" PRIu64 "</span>, ", board_used(&rack->result->board));
+    fprintf(page, "the board <span class=\"number\">%" PRIu64 "</span>.</p>\n", board_used(&compared->board->board));
+}
+
+static void print_pictures(FILE *page, const struct board *before, const struct rack *rack, const struct compared *compared)
+{
+    const struct board *result = &rack->result->board, *board = &compared->board->board;
+    fprintf(page, "<p><span class=\"key same\"></span>the same<span class=\"key different\"></span>different<span class=\"key untouched\"></span>"
+                  "the same, and as before the transfer</p>\n<figure><figcaption>Data memory by quadword</figcaption>\n");
+    draw_map(page, before, result, board, PART_DATA);
+    fprintf(page, "</figure>\n<figure><figcaption>Code memory by instruction</figcaption>\n");
+    draw_map(page, before, result, board, PART_CODE);
+    fprintf(page, "</figure>\n");
+    if (compared->comparison.found[PART_DATA].count == 0)
+        return;
+    fprintf(page, "<figure><figcaption>Board minus result in counts, by quadword: a count that is carried on is a ramp</figcaption>\n");
+    draw_differences(page, result, board);
+    fprintf(page, "</figure>\n");
+}
+
+/* What is being written: the rows of the summary and the sections of the boards. */
+struct report {
+    const struct board *before;
+    FILE *rows, *sections;
+};
+
+static void print_section(const struct report *report, const struct rack *rack, const struct compared *compared)
+{
+    FILE *page = report->sections;
+    fprintf(page, "<section>\n<h2>");
+    print_escaped(page, compared->name);
+    fprintf(page, "</h2>\n<p class=\"%s\">%s</p>\n<table>\n", verdict_class(compared), verdict_words(rack, compared));
+    if (compared->board != NULL) {
+        print_file(page, "board", compared->name, compared->board);
+        print_row(page, "it has", parts_words(compared->board->parts), "parts");
+    }
+    if (compared->board != NULL && compared->comparison.verdict == VERDICT_REFUSED)
+        print_row(page, "refused", tejborun_message(compared->comparison.refusal), "answer");
+    fprintf(page, "</table>\n");
+    if (compared->board != NULL && compared->comparison.verdict <= VERDICT_DIFFERENT) {
+        print_differences(page, rack, compared);
+        print_pictures(page, report->before, rack, compared);
+    }
+    fprintf(page, "</section>\n");
+}
+
+static void print_head(FILE *page, const struct rack *rack)
+{
+    char now[64];
+    time_t seconds = time(NULL);
+    struct tm utc;
+    strftime(now, sizeof now, "%Y-%m-%d %H:%M UTC", gmtime_r(&seconds, &utc));
+    fputs(head, page);
+    fprintf(page, "<table>\n");
+    print_row(page, "date", now, "date");
+    print_file(page, "result", rack->name, rack->result);
+    print_answer(page, rack->result);
+    print_row(page, "software", "tejborun " TEJBORUN_VERSION, "version");
+    print_row(page, "proof", proof_identity(), "sum");
+    print_row(page, "library's SHA-256", library_sum(), "sum");
+    fprintf(page, "</table>\n");
+}
+
+static int show_section(void *report, const struct rack *rack, const struct compared *compared)
+{
+    print_summary_row(((struct report *)report)->rows, rack, compared);
+    print_section(report, rack, compared);
+    return STATUS_DONE;
+}
+
+/* Puts the page together. */
+static int write_page(const char *name, const struct rack *rack, const char *rows, const char *sections)
+{
+    char *text = NULL;
+    size_t length = 0;
+    FILE *page = open_memstream(&text, &length);
+    if (page == NULL)
+        return complain(name, "no memory for the page");
+    print_head(page, rack);
+    fprintf(page, "<table class=\"rows\">\n<tr><th>board</th><th>verdict</th><th>quadwords different</th><th>instructions different</th>"
+                  "<th>log entries different</th></tr>\n%s</table>\n%s</body>\n</html>\n", rows, sections);
+    fclose(page);
+    int status = write_file(name, (const uint8_t *)text, length);
+    free(text);
+    return status;
+}
+
+/* Compares over what the memories held before, and writes the page. */
+static int report_from(const struct words_given *given, const struct board *before, const struct result *result)
+{
+    char *rows = NULL, *sections = NULL;
+    size_t rows_length = 0, sections_length = 0;
+    struct report report = {before, open_memstream(&rows, &rows_length), open_memstream(&sections, &sections_length)};
+    if (report.rows == NULL || report.sections == NULL)
+        return complain("report", "no memory for the page");
+    struct rack rack = {.name = given->word[0], .result = result, .context = &report};
+    compare_rack(given, show_section, &rack);
+    fclose(report.rows);
+    fclose(report.sections);
+    int status = worse(rack.status, write_page(given->option[OPTION_OUTPUT], &rack, rows, sections));
+    say("%s: ", given->option[OPTION_OUTPUT]);
+    say("%zu %s reported\n", rack.boards, plural(rack.boards, "board", "boards"));
+    free(rows);
+    free(sections);
+    return status;
+}
+
+int command_report(const struct words_given *given)
+{
+    struct result result, before = {.parts = PARTS_ALL, .board = new_board(memories_of(VIF1), 0)};
+    const char *from = given->option[OPTION_FROM];
+    int status = STATUS_DONE;
+    if (from != NULL) {
+        free_board(&before.board);
+        status = read_result(from, &before);
+    }
+    if (status == STATUS_DONE && before.parts != PARTS_ALL)
+        status = complain(from, "has %s alone: a transfer begins with all", parts_words(before.parts));
+    if (status == STATUS_DONE)
+        status = read_result(given->word[0], &result);
+    if (status == STATUS_DONE) {
+        status = report_from(given, &before.board, &result);
+        free_board(&result.board);
+    }
+    free_board(&before.board);
+    return status;
+}

@@ -1,0 +1,28 @@
+# Completion of tejborun's words for bash.
+_tejborun() {
+    local word=${COMP_WORDS[COMP_CWORD]} command=${COMP_WORDS[1]}
+    local commands='build steps meaning run play compare report import export dump assemble help'
+    local kinds='sheet chain state capture result'
+    local options='--help'
+    case $command in
+    build | meaning | play) options='-o --output --help' ;;
+    run) options='-o --output --allowance --from --no-start --help' ;;
+    compare) options='--all --unfinished --quiet --json --help' ;;
+    report) options='-o --output --from --unfinished --help' ;;
+    import) options='-o --output --data --code --log --help' ;;
+    export) options='--main --data --code --log --help' ;;
+    assemble) options='-o --output --main --data --code --log --help' ;;
+    esac
+    if test "$COMP_CWORD" = 1; then
+        mapfile -t COMPREPLY < <(compgen -W "$commands --help --version" -- "$word")
+    elif test "$COMP_CWORD" = 2 && test "$command" = help; then
+        mapfile -t COMPREPLY < <(compgen -W "$commands" -- "$word")
+    elif test "$COMP_CWORD" = 2 && { test "$command" = dump || test "$command" = assemble; }; then
+        mapfile -t COMPREPLY < <(compgen -W "$kinds" -- "$word"; compgen -f -- "$word")
+    elif test "${word#-}" != "$word"; then
+        mapfile -t COMPREPLY < <(compgen -W "$options" -- "$word")
+    else
+        mapfile -t COMPREPLY < <(compgen -f -- "$word")
+    fi
+}
+complete -o filenames -F _tejborun tejborun
