@@ -6,7 +6,7 @@ use Prim.Native.Nat.{ℕ, suc, _+_, _*_, _-_, _/_, _%_, _<_, _≤_}
 use native.Mathlib.Nat.{le-refl, zero-mul}
 use native.Mathlib.Numerals.{add-one}
 use native.Mathlib.Omega.{arith}
-use borrow.Author.Tests.{leb-true, leb-false, eqb-true, eqb-false, le-leb, lt-ltb, not-true}
+use borrow.Author.Tests.{leb-true, leb-false, eqb-true, eqb-false, le-leb, not-true}
 use lib.ListN.{length}
 use lib.Dec.{eqb, leb}
 use Rattle.fields.specs.Fields.{if}
@@ -15,13 +15,13 @@ use Rattle.unpack.specs.declared.Format.{Format}
 use Rattle.unpack.specs.declared.Unpacking.{Unpacking}
 use Rattle.unpack.specs.declared.Registers.{Registers}
 use Rattle.unpack.specs.Payload.{payloadWords, wholeVectors}
-use Rattle.unpack.specs.Position.{addresses, addressMost, filling, vectorsBefore, writesDone}
+use Rattle.unpack.specs.Position.{addresses, addressMost, vectorsBefore, writesDone}
 use Rattle.unpack.specs.Write.{Written, written, writesFrom}
 use Rattle.unpack.specs.Range.{cycleRefused, cycleInRange, payloadFor, unpackingInRange, CycleFits, UnpackingFits}
 use Rattle.unpack.specs.Inner.{MemoryFits, WordFits, VectorIn, WriteIn, CompletedFits, completedWrites, UnfedFits}
 use Rattle.unpack.specs.Step.{countOf, unpackingOf, takenWords, acting, heldVector, doneAfter, wordOf, unpackWord, acceptable, Left, takeOf, unfedWrites, unfedAcceptable, unfedOf}
 use Rattle.unpack.proofs.PayloadLaws.{whole-most, vector-in, payload-most, payload-some}
-use Rattle.unpack.proofs.CycleLaws.{plain-vectors, vectors-few, vectors-zero, vectors-some, done-few, done-exactly, plain-done}
+use Rattle.unpack.proofs.CycleLaws.{vectors-few, vectors-zero, vectors-some, done-few, done-exactly}
 use Rattle.unpack.proofs.WriteLaws.{writes-none}
 
 pub count-range : (num : ℕ) → (1 ≤ countOf num) × (countOf num ≤ 256)
@@ -195,13 +195,6 @@ module _ {f : Format} {cl wl k i : ℕ} (y : WriteIn f cl wl k i) {v : ℕ} (e :
       let z : v - 1 ≡ y .vector = omega arith in
       rw z (y .ends)
 
--- without fills its vector has its own number
-pub plain-vector-in : {f : Format} {cl wl k i : ℕ} → filling cl wl ≡ false → WriteIn f cl wl k i → VectorIn f k i
-plain-vector-in {f} {cl} {wl} {k} {i} h y =
-    let e : suc i ≡ suc (y .vector) = sym (plain-vectors cl wl (suc i) h) ∙ y .is in
-    let z : i ≡ y .vector = omega arith in
-    rw z (y .ends)
-
 -- the loops' input: the writes of the vectors that a word completes
 module _ {size : ℕ} {f : Format} {u : Unpacking} {r : Registers} {k from to : ℕ} {mem : List ℕ} (x : CompletedFits size f u r k from to mem) where
   pub writes-fit : {first last : ℕ} → first ≡ writesDone (r .cl) (r .wl) from (u .count) → last ≡ writesDone (r .cl) (r .wl) to (u .count)
@@ -224,20 +217,15 @@ module _ {size : ℕ} {f : Format} {u : Unpacking} {r : Registers} {k from to : 
       let v = vectors-few (r .cl) (r .wl) (u .count) in
       omega arith
 
-  pub plain-writes : filling (r .cl) (r .wl) ≡ false → (from ≡ writesDone (r .cl) (r .wl) from (u .count)) × (to ≡ writesDone (r .cl) (r .wl) to (u .count))
-  plain-writes h =
-      let a : from ≤ u .count = rw (x .first) (whole-below k) in
-      let b : to ≤ u .count = rw (x .last) (whole-below (k + 1)) in
-      (sym (plain-done (r .cl) (r .wl) (x .cycle .some) h from (u .count) a), sym (plain-done (r .cl) (r .wl) (x .cycle .some) h to (u .count) b))
-
-  pub vectors-small : (from ≤ 256) × (to ≤ 256)
+  -- the vectors' numbers, as `writes_done` takes them
+  pub vectors-small : (from ≤ u .count) × (to ≤ u .count) × (from ≤ 256) × (to ≤ 256)
   vectors-small =
       let a : from ≤ u .count = rw (x .first) (whole-below k) in
       let b : to ≤ u .count = rw (x .last) (whole-below (k + 1)) in
       let c = x .unpacking .few in
-      (omega arith, omega arith)
+      (a, b, omega arith, omega arith)
 
-  -- where writes fill and payload is due, CL is not 0
+  -- where payload is due, CL is not 0
   pub cycle-taken : 1 ≤ r .cl
   cycle-taken = due-cycle f (r .cl) (r .wl) u (x .cycle .some) (x .unpacking)
 
@@ -321,10 +309,7 @@ unfed-again e x =
       few = x .few;
     }
 
--- with CL 0 every write fills, and none takes a vector
-pub unfed-filling : {size : ℕ} {u : Unpacking} {r : Registers} {mem : List ℕ} → UnfedFits size u r mem → filling (r .cl) (r .wl) ≡ true
-unfed-filling {r = r} x = let z = x .none in let w = x .cycle .some in lt-ltb (r .cl) (r .wl) (omega arith)
-
+-- with CL 0 no write takes a vector
 pub unfed-vectors : {size : ℕ} {u : Unpacking} {r : Registers} {mem : List ℕ} → UnfedFits size u r mem → (n : ℕ)
     → vectorsBefore (r .cl) (r .wl) n ≡ 0
 unfed-vectors {r = r} x n = vectors-zero (r .cl) (r .wl) (x .none) (x .cycle .some) n

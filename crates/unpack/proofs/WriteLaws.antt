@@ -6,9 +6,9 @@ use Prim.Native.Nat.{ℕ, zero, suc, _+_, _*_, _-_, _/_, _%_, _<_, _≤_}
 use native.Mathlib.Nat.{mul-le-mul, div-le-self, mod-lt, min-le-right}
 use native.Mathlib.Numerals.{add-one}
 use native.Mathlib.Omega.{arith}
-use borrow.Author.Tests.{eqb-true}
+use borrow.Author.Tests.{eqb-true, lt-ltb, le-leb}
 use lib.ListN.{length, getD, set}
-use lib.Dec.{eqb}
+use lib.Dec.{eqb, leb}
 use Rattle.fields.specs.Fields.{if}
 use Rattle.fields.proofs.ChoiceLaws.{if-ind, if-ind-by, and-left, and-right}
 use Rattle.unpack.specs.declared.Registers.{Registers}
@@ -130,15 +130,26 @@ pub vector-written : (size a i : ℕ) (r : Registers) (fields row mem : List ℕ
 unfolding writeVector
 vector-written size a i r fields row mem eq ec el es em = rw (es, em, eq, ec, el)
 
--- one write of an UNPACK with fills
-pub filling-written : (size a i : ℕ) (r : Registers) (fields row mem : List ℕ) {codes : List ℕ} {q col mode : ℕ} {rs m : List ℕ}
-    → filling (r .cl) (r .wl) ≡ true → q ≡ (a + i) % size → mode ≡ registersAt r i .mode
+-- one write, by its place and its MODE
+pub at-written : (size a i : ℕ) (r : Registers) (fields row mem : List ℕ) {codes : List ℕ} {q col mode : ℕ} {rs m : List ℕ}
+    → q ≡ positionOf size a (r .cl) (r .wl) i → mode ≡ registersAt r i .mode
     → codes ≡ codeRow (r .mask) (rowOfCycle (r .wl) i) → col ≡ getD (r .col) (rowOfCycle (r .wl) i) 0
     → rs ≡ rowsAfter codes mode fields row → m ≡ writtenAt mem q fields row col codes mode
     → written rs m ≡ writeVector size a (registersAt r i) i fields (written row mem)
 unfolding registersAt
-filling-written size a i r fields row mem f eq em ec el es et =
-    vector-written size a i (registersAt r i) fields row mem (eq ∙ sym (filling-place size a (r .cl) (r .wl) i f)) ec el (rw em at es) (rw em at et)
+at-written size a i r fields row mem eq em ec el es et =
+    vector-written size a i (registersAt r i) fields row mem eq ec el (rw em at es) (rw em at et)
+
+-- a write with CL 0 leaves ROW
+pub unfed-written : (size a i : ℕ) (r : Registers) (row mem : List ℕ) {codes : List ℕ} {q col : ℕ} {m : List ℕ} → r .cl ≡ 0 → 1 ≤ r .wl → length row ≡ 4
+    → q ≡ (a + i) % size → codes ≡ codeRow (r .mask) (rowOfCycle (r .wl) i) → col ≡ getD (r .col) (rowOfCycle (r .wl) i) 0
+    → m ≡ writtenAt mem q (0 ∷ 0 ∷ 0 ∷ 0 ∷ []) row col codes 0
+    → written row m ≡ writeVector size a (registersAt r i) i (0 ∷ 0 ∷ 0 ∷ 0 ∷ []) (written row mem)
+unfolding registersAt fills if
+unfed-written size a i r row mem {codes} z w l eq ec el et =
+    let f : filling (r .cl) (r .wl) ≡ true = lt-ltb (r .cl) (r .wl) (omega arith) in
+    let b : leb (r .cl) (i % r .wl) ≡ true = le-leb (r .cl) (i % r .wl) (omega arith) in
+    at-written size a i r (0 ∷ 0 ∷ 0 ∷ 0 ∷ []) row mem {mode = 0} (eq ∙ sym (filling-place size a (r .cl) (r .wl) i f)) (rw (f, b)) ec el (sym (plain-rows codes (0 ∷ 0 ∷ 0 ∷ 0 ∷ []) row l)) et
 
 -- a write as the cycle has it: without fills it takes the vector of its own number
 module _ (size a : ℕ) (r : Registers) (vec : ℕ → List ℕ) (i : ℕ) where

@@ -1,8 +1,7 @@
 // A write's place in the cycle of WL writes. A cycle of one is told without a division.
 ghost use mathlib.Core.Path.{_≡_};
-ghost use mathlib.Core.Bool.{true};
 ghost use Prim.Native.Nat.{_<_, _≤_, _/_, _%_, min};
-ghost use Rattle.unpack.specs.Position.{filling, vectorsBefore, writesDone};
+ghost use Rattle.unpack.specs.Position.{vectorsBefore, writesDone};
 ghost use Rattle.unpack.specs.Range.{CycleFits};
 
 // The cycles before write i.
@@ -37,10 +36,13 @@ pub(crate) fn vectors_before(cl: u32, wl: u32, n: u32) -> u32
     n
 }
 
-// The writes done once so many vectors are whole, where writes fill.
+// The writes done once so many vectors are whole.
 pub(crate) fn writes_done(cl: u32, wl: u32, vectors: u32, n: u32) -> u32
-    requires { ⌜ CycleFits cl wl × (filling cl wl ≡ true) × (1 ≤ cl) × (vectors ≤ 256) ⌝ }
+    requires { ⌜ CycleFits cl wl × (1 ≤ cl) × (vectors ≤ n) × (vectors ≤ 256) ⌝ }
     ensures { λ r. ⌜ r ≡ writesDone cl wl vectors n ⌝ }
 {
-    smaller(n, vectors / cl * wl + vectors % cl)
+    if cl < wl {
+        return smaller(n, vectors / cl * wl + vectors % cl);
+    }
+    vectors
 }

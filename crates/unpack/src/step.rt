@@ -17,11 +17,9 @@ use super::payload::whole_vectors;
 use super::range::cycle_in_range;
 use super::range::unpacking_in_range;
 use super::vector::vector;
-use super::write::write_filling;
-use super::write::write_vector;
+use super::write::fill_at;
+use super::write::write_at;
 ghost use mathlib.Core.Path.{_≡_};
-ghost use mathlib.Core.Bool.{true, false};
-ghost use Rattle.unpack.specs.Position.{filling};
 ghost use mathlib.Core.List.{[], _∷_};
 ghost use Prim.Native.Nat.{_-_, _≤_, _+_};
 ghost use lib.ListN.{length};
@@ -62,7 +60,7 @@ fn held_vector(f: Format, u: Unpacking, word: u32, k: u32, i: u32) -> [u32; 4]
     vector(f, u.usn, u.first, u.second, u.third, word, at)
 }
 
-// The vectors from number `from` to below `to`, which word k completes, where none of the writes fills.
+// The writes from number `from` to below `to`, which word k completes.
 fn write_vectors(
     size: u32,
     f: Format,
@@ -75,39 +73,7 @@ fn write_vectors(
     row: [u32; 4],
     data: &mut [u32],
 ) -> [u32; 4]
-    requires { ⌜ (filling (r .cl) (r .wl) ≡ false) × WordFits size f u r k from to (now «data») ⌝ }
-    ensures { λ rows. ⌜ written rows (now («data» .exit))
-        ≡ writesFrom size (u .address) r (heldVector f u word k) (to - from) from (written row (now («data» .entry))) ⌝ }
-{
-    let codes = unfold_mask(r.mask);
-    let col = r.col;
-    let mut rows = row;
-    let mut i = from;
-    while i < to {
-        let fields = held_vector(f, u, word, k, i);
-        let c = row_of_cycle(r.wl, i) as usize;
-        let chosen = codes[c];
-        let next = write_vector(size, u.address, r, i, fields, chosen, col[c], rows, data);
-        rows = next;
-        i += 1;
-    }
-    rows
-}
-
-// The writes from number `from` to below `to`, which word k completes, where some of them fill.
-fn write_cycles(
-    size: u32,
-    f: Format,
-    u: Unpacking,
-    r: Registers,
-    word: u32,
-    k: u32,
-    from: u32,
-    to: u32,
-    row: [u32; 4],
-    data: &mut [u32],
-) -> [u32; 4]
-    requires { ⌜ (filling (r .cl) (r .wl) ≡ true) × WordFits size f u r k from to (now «data») ⌝ }
+    requires { ⌜ WordFits size f u r k from to (now «data») ⌝ }
     ensures { λ rows. ⌜ written rows (now («data» .exit))
         ≡ writesFrom size (u .address) r (heldVector f u word k) (to - from) from (written row (now («data» .entry))) ⌝ }
 {
@@ -120,7 +86,7 @@ fn write_cycles(
         let fields = held_vector(f, u, word, k, vectors - 1);
         let c = row_of_cycle(r.wl, i) as usize;
         let chosen = codes[c];
-        let next = write_filling(size, u.address, r, i, fields, chosen, col[c], rows, data);
+        let next = write_at(size, u.address, r, i, fields, chosen, col[c], rows, data);
         rows = next;
         i += 1;
     }
@@ -144,12 +110,9 @@ fn write_completed(
     ensures { λ rows. ⌜ written rows (now («data» .exit))
         ≡ completedWrites size f u r word k from to (written row (now («data» .entry))) ⌝ }
 {
-    if r.cl < r.wl {
-        let first = writes_done(r.cl, r.wl, from, u.count);
-        let last = writes_done(r.cl, r.wl, to, u.count);
-        return write_cycles(size, f, u, r, word, k, first, last, row, data);
-    }
-    write_vectors(size, f, u, r, word, k, from, to, row, data)
+    let first = writes_done(r.cl, r.wl, from, u.count);
+    let last = writes_done(r.cl, r.wl, to, u.count);
+    write_vectors(size, f, u, r, word, k, first, last, row, data)
 }
 
 // The next payload word, where all was tested.
@@ -222,23 +185,20 @@ fn acceptable_input(size: u32, f: Format, u: Unpacking, r: Registers, data: &[u3
 }
 
 // All writes of an UNPACK with CL 0, each a fill without a vector before it.
-fn write_unfed(size: u32, u: Unpacking, r: Registers, row: [u32; 4], data: &mut [u32]) -> [u32; 4]
+fn write_unfed(size: u32, u: Unpacking, r: Registers, row: [u32; 4], data: &mut [u32])
     requires { ⌜ UnfedFits size u r (now «data») ⌝ }
-    ensures { λ rows. ⌜ written rows (now («data» .exit))
+    ensures { λ _. ⌜ written row (now («data» .exit))
         ≡ writesFrom size (u .address) r (λ j. []) (u .count) 0 (written row (now («data» .entry))) ⌝ }
 {
     let codes = unfold_mask(r.mask);
     let col = r.col;
-    let mut rows = row;
     let mut i = 0;
     while i < u.count {
         let c = row_of_cycle(r.wl, i) as usize;
         let chosen = codes[c];
-        let next = write_filling(size, u.address, r, i, [0; 4], chosen, col[c], rows, data);
-        rows = next;
+        fill_at(size, u.address, r, i, chosen, col[c], row, data);
         i += 1;
     }
-    rows
 }
 
 fn unfed_acceptable(size: u32, u: Unpacking, r: Registers, data: &[u32]) -> bool
@@ -278,10 +238,10 @@ pub fn write_without_payload(
 {
     if unfed_acceptable(size, u, r, data) {
         let s = acting_registers(f, u, r);
-        let rows = write_unfed(size, u, s, row, data);
+        write_unfed(size, u, s, row, data);
         Rows {
             accepted: true,
-            row: rows,
+            row,
         }
     } else {
         Rows {

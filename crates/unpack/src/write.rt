@@ -3,7 +3,8 @@ use super::Registers;
 use super::cycle::cycles_before;
 use super::cycle::place_in_cycle;
 ghost use mathlib.Core.Path.{_≡_};
-ghost use mathlib.Core.Bool.{true, false};
+ghost use mathlib.Core.Bool.{false};
+ghost use mathlib.Core.List.{[], _∷_};
 ghost use Prim.Native.Nat.{_<_, _≤_, _+_, _*_, _%_};
 ghost use lib.ListN.{length, getD};
 ghost use Rattle.unpack.specs.Position.{filling, addressMost, positionOf};
@@ -155,40 +156,32 @@ fn position(size: u32, address: u32, cl: u32, wl: u32, i: u32) -> u32
     wrapped(size, address + start + place_in_cycle(wl, i))
 }
 
-// Write i of an UNPACK without fills, with the mask's codes and COL of its row.
-pub(crate) fn write_vector(
-    size: u32,
-    address: u32,
-    r: Registers,
-    i: u32,
-    fields: [u32; 4],
-    codes: [u32; 4],
-    col: u32,
-    row: [u32; 4],
-    data: &mut [u32],
-) -> [u32; 4]
-    requires { ⌜ CycleFits (r .cl) (r .wl) × (filling (r .cl) (r .wl) ≡ false) × MemoryFits size (now «data») × (address ≤ addressMost) × (i ≤ 255)
-        × (codes ≡ codeRow (r .mask) (rowOfCycle (r .wl) i)) × (col ≡ getD (r .col) (rowOfCycle (r .wl) i) 0) ⌝ }
-    ensures { λ rows. ⌜ written rows (now («data» .exit)) ≡ writeVector size address r i fields (written row (now («data» .entry))) ⌝ }
+// The quadword that write i goes to.
+fn place(size: u32, address: u32, cl: u32, wl: u32, i: u32) -> u32
+    requires { ⌜ CycleFits cl wl × (0 < size) × (address ≤ addressMost) × (i ≤ 255) ⌝ }
+    ensures { λ r. ⌜ r ≡ positionOf size address cl wl i ⌝ }
 {
-    let quad = position(size, address, r.cl, r.wl, i);
-    write_quadword(data, quad as usize, fields, row, col, codes, r.mode)
+    if cl < wl {
+        return wrapped(size, address + i);
+    }
+    position(size, address, cl, wl, i)
 }
 
-// MODE of write i of an UNPACK with fills: a fill is without.
+// MODE of write i: a fill is without.
 fn mode_at(r: Registers, i: u32) -> u32
-    requires { ⌜ CycleFits (r .cl) (r .wl) × (filling (r .cl) (r .wl) ≡ true) ⌝ }
+    requires { ⌜ CycleFits (r .cl) (r .wl) ⌝ }
     ensures { λ m. ⌜ m ≡ registersAt r i .mode ⌝ }
 {
-    if r.cl <= place_in_cycle(r.wl, i) {
-        0
-    } else {
-        r.mode
+    if r.cl < r.wl {
+        if r.cl <= place_in_cycle(r.wl, i) {
+            return 0;
+        }
     }
+    r.mode
 }
 
-// Write i of an UNPACK with fills, with the mask's codes and COL of its row.
-pub(crate) fn write_filling(
+// Write i of an UNPACK, with the mask's codes and COL of its row.
+pub(crate) fn write_at(
     size: u32,
     address: u32,
     r: Registers,
@@ -199,11 +192,43 @@ pub(crate) fn write_filling(
     row: [u32; 4],
     data: &mut [u32],
 ) -> [u32; 4]
-    requires { ⌜ CycleFits (r .cl) (r .wl) × (filling (r .cl) (r .wl) ≡ true) × MemoryFits size (now «data») × (address ≤ addressMost) × (i ≤ 255)
+    requires { ⌜ CycleFits (r .cl) (r .wl) × MemoryFits size (now «data») × (address ≤ addressMost) × (i ≤ 255)
         × (codes ≡ codeRow (r .mask) (rowOfCycle (r .wl) i)) × (col ≡ getD (r .col) (rowOfCycle (r .wl) i) 0) ⌝ }
     ensures { λ rows. ⌜ written rows (now («data» .exit))
         ≡ writeVector size address (registersAt r i) i fields (written row (now («data» .entry))) ⌝ }
 {
-    let quad = wrapped(size, address + i);
+    let quad = place(size, address, r.cl, r.wl, i);
     write_quadword(data, quad as usize, fields, row, col, codes, mode_at(r, i))
+}
+
+// The fill of a quadword without a vector before it, which leaves ROW.
+fn fill_quadword(data: &mut [u32], quad: usize, row: [u32; 4], col: u32, codes: [u32; 4])
+    requires { ⌜ 4 * quad + 4 ≤ length (now «data») ⌝ }
+    ensures { λ _. ⌜ now («data» .exit) ≡ writtenAt (now («data» .entry)) quad (0 ∷ 0 ∷ 0 ∷ 0 ∷ []) row col codes 0 ⌝ }
+{
+    let at = 4 * quad;
+    put_field(data, at, codes[0], 0, 0, row[0], col);
+    put_field(data, at + 1, codes[1], 0, 0, row[1], col);
+    put_field(data, at + 2, codes[2], 0, 0, row[2], col);
+    put_field(data, at + 3, codes[3], 0, 0, row[3], col);
+}
+
+// Write i of an UNPACK with CL 0, with the mask's codes and COL of its row.
+pub(crate) fn fill_at(
+    size: u32,
+    address: u32,
+    r: Registers,
+    i: u32,
+    codes: [u32; 4],
+    col: u32,
+    row: [u32; 4],
+    data: &mut [u32],
+)
+    requires { ⌜ CycleFits (r .cl) (r .wl) × (r .cl ≡ 0) × MemoryFits size (now «data») × (address ≤ addressMost) × (i ≤ 255)
+        × (codes ≡ codeRow (r .mask) (rowOfCycle (r .wl) i)) × (col ≡ getD (r .col) (rowOfCycle (r .wl) i) 0) ⌝ }
+    ensures { λ _. ⌜ written row (now («data» .exit))
+        ≡ writeVector size address (registersAt r i) i (0 ∷ 0 ∷ 0 ∷ 0 ∷ []) (written row (now («data» .entry))) ⌝ }
+{
+    let quad = wrapped(size, address + i);
+    fill_quadword(data, quad as usize, row, col, codes);
 }

@@ -5,29 +5,28 @@ use native.Mathlib.Nat.{sub-zero}
 use native.Mathlib.Omega.{arith}
 use lib.ListN.{length}
 use borrow.Author.Needs.{needs}
-use borrow.Author.Tests.{lt-ltb}
 use Rattle.unpack.specs.Mask.{unfolded}
 use Rattle.unpack.specs.Write.{written, writesFrom}
 use Rattle.unpack.specs.Inner.{UnfedFits}
 use Rattle.unpack.proofs.WriteLaws.{row-few, row-chosen, unfed-at, writes-more, writes-none}
-use Rattle.unpack.proofs.StepLaws.{unfed-again, unfed-filling, unfed-vectors}
+use Rattle.unpack.proofs.StepLaws.{unfed-again, unfed-vectors}
 use Rattle.unpack.proofs.step.write_unfed.Statement.{statement}
 use Rattle.unpack.proofs.step.write_unfed.Tie as tie
 
 abbrev Inv-loop : tie.InvT-loop
-Inv-loop size u r data₀ codes col rows₀ i₀ «data» rows i =
+Inv-loop size u r row data₀ codes col i₀ «data» i =
     record {
       fits : UnfedFits size u r «data»;
       length : length «data» ≡ length data₀;
       codes : codes ≡ unfolded (r .mask);
       col : col ≡ r .col;
       same :
-          writesFrom size (u .address) r (λ j. []) (u .count - i) i (written rows «data»)
-          ≡ writesFrom size (u .address) r (λ j. []) (u .count) 0 (written rows₀ data₀);
+          writesFrom size (u .address) r (λ j. []) (u .count - i) i (written row «data»)
+          ≡ writesFrom size (u .address) r (λ j. []) (u .count) 0 (written row data₀);
     }
 
 abbrev μ-loop : tie.MeasureT-loop
-μ-loop size u r data₀ codes col rows₀ i₀ «data» rows i = u .count - i
+μ-loop size u r row data₀ codes col i₀ «data» i = u .count - i
 
 loop-holds : tie.Need-loop-holds Inv-loop μ-loop
 loop-holds c =
@@ -39,31 +38,31 @@ row-of-cycle-requires c κs = c .before .before .loop .inv .fits .cycle .some
 array-copy-out-chosen : tie.Need-array-copy-out-chosen Inv-loop μ-loop
 array-copy-out-chosen c = row-few _ _ (c .row-of-cycle .ensures)
 
-array-read-write-filling : tie.Need-array-read-write-filling Inv-loop μ-loop
-array-read-write-filling c = row-few _ _ (c .before .row-of-cycle .ensures)
+array-read-fill-at : tie.Need-array-read-fill-at Inv-loop μ-loop
+array-read-fill-at c = row-few _ _ (c .before .row-of-cycle .ensures)
 
-write-filling-requires : tie.Need-write-filling-requires Inv-loop μ-loop
-write-filling-requires c κs =
+fill-at-requires : tie.Need-fill-at-requires Inv-loop μ-loop
+fill-at-requires c κs =
     let t = c .before .before .before in
     let i = t .before .before .loop .inv in
     let x = i .fits in
     let e = c .before .before .row-of-cycle .ensures in
     let l = t .if1 .taken in
-    (x .cycle, unfed-filling x, x .memory, x .inside, (let f = x .few in omega arith), row-chosen _ _ _ (i .codes) e, rw (i .col, e))
+    (x .cycle, x .none, x .memory, x .inside, (let f = x .few in omega arith), row-chosen _ _ _ (i .codes) e, rw (i .col, e))
 
 loop-again : tie.Need-loop-again Inv-loop μ-loop
 loop-again c =
     let v = c .before .before in
     let t = v .before .before .before .before in
     let i = t .before .before .loop .inv in
-    let e = v .write-filling .kept .1 .1 .1 .1 .1 .1 .1 .1 .0 in
+    let e = v .fill-at .kept .1 .1 .1 .1 .1 .1 .1 .0 in
     record {
       fits = unfed-again e (i .fits);
       length = e ∙ i .length;
       codes = i .codes;
       col = i .col;
       same =
-          writes-more _ _ _ _ _ _ (t .if1 .taken) _ (v .write-filling .ensures ∙ unfed-at _ _ _ _ _ (unfed-vectors (i .fits) _) _)
+          writes-more _ _ _ _ _ _ (t .if1 .taken) _ (v .fill-at .ensures ∙ unfed-at _ _ _ _ _ (unfed-vectors (i .fits) _) _)
           ∙ i .same;
     }
 
@@ -83,8 +82,8 @@ write-unfed-spec =
     (λ c. search needs)
     array-copy-out-chosen
     (λ c. search needs)
-    array-read-write-filling
-    write-filling-requires
+    array-read-fill-at
+    fill-at-requires
     (λ c. search needs)
     (λ c. search needs)
     loop-again
