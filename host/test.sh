@@ -909,6 +909,12 @@ ssize_t write(int file, const void *bytes, size_t count)
     errno = ENOSPC;
     return room == 0 ? -1 : real(file, bytes, count < room ? count : room);
 }
+/* Whatever started the tests may have the signal ignored (nohup, a job in the background): the command begins without. */
+__attribute__((constructor)) static void begin(void)
+{
+    if (getenv("SIGNAL_AT_RENAME") != NULL)
+        signal(atoi(getenv("SIGNAL_AT_RENAME")), SIG_DFL);
+}
 int rename(const char *from, const char *to)
 {
     int (*real)(const char *, const char *) = (int (*)(const char *, const char *))dlsym(RTLD_NEXT, "rename");
