@@ -4,11 +4,12 @@ use mathlib.Core.Logic.{_↔_, _⊎_, inl, inr, ⊎-elim}
 use mathlib.Core.Bool.{Bool, true, false, _&&_}
 use Prim.Native.Nat.{ℕ, zero, suc, _+_, _*_, _-_, _/_, _%_, _<_, _≤_, min}
 use native.Mathlib.Nat.{mul-comm, add-comm, add-zero, zero-add, mul-suc, suc-mul, zero-mul, mul-zero, mul-add-div-right, mul-add-mod-self-right, div-eq-of-lt, mod-eq-of-lt, mod-lt, div-add-mod, zero-div, zero-mod, mul-le-mul-left, min-zero, zero-min}
+use native.Mathlib.Numerals.{add-one}
 use native.Mathlib.Omega.{arith}
 use borrow.Author.Tests.{ltb-true, ltb-false, lt-ltb, le-ltb, leb-true, leb-false}
 use lib.Dec.{eqb, ltb, leb}
 use Rattle.fields.specs.Fields.{if}
-use Rattle.fields.proofs.ChoiceLaws.{if-ind-by}
+use Rattle.fields.proofs.ChoiceLaws.{and-left, and-right, if-ind-by}
 use Rattle.unpack.specs.Position.{filling, fills, vectorsBefore, writesDone}
 
 -- ---- a number by its cycle and its place in it
@@ -63,6 +64,23 @@ module _ (cl wl : ℕ) where
 
     pub vectors-next : filling cl wl ≡ true → vectorsBefore cl wl (suc i) ≡ cl * (i / wl) + min (suc (i % wl)) cl
     vectors-next f = rw (by-cycle wl i) at (next-at (i / wl) (i % wl) (mod-lt i w) f)
+
+    -- a fill takes no vector
+    pub fill-next : fills cl wl i ≡ true → vectorsBefore cl wl (i + 1) ≡ vectorsBefore cl wl i
+    unfolding fills
+    fill-next e =
+        let f = and-left (filling cl wl) _ e in
+        let h = leb-true cl (i % wl) (and-right (filling cl wl) _ e) in
+        rw (add-one, vectors-here f, vectors-next f) (omega arith)
+
+    -- any other write one
+    pub payload-next : fills cl wl i ≡ false → vectorsBefore cl wl (i + 1) ≡ suc (vectorsBefore cl wl i)
+    unfolding fills
+    payload-next e = go (filling cl wl) refl
+      where
+        go : (t : Bool) → filling cl wl ≡ t → vectorsBefore cl wl (i + 1) ≡ suc (vectorsBefore cl wl i)
+        go false f = rw (add-one, plain-vectors i f, plain-vectors (suc i) f)
+        go true f = let h = leb-false cl (i % wl) (rw f at e) in rw (add-one, vectors-here f, vectors-next f) (omega arith)
 
     grows : vectorsBefore cl wl i ≤ vectorsBefore cl wl (suc i)
     grows = go (filling cl wl) refl

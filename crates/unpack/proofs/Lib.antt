@@ -7,3 +7,4 @@ pub mod WriteLaws
 pub mod StepLaws
 pub mod WholeLaws
 pub mod LengthLaws
+pub mod WordsLaws

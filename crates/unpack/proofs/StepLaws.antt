@@ -114,6 +114,12 @@ taken-few f r u x =
     let o = x .most in
     omega arith
 
+-- the words taken, from the vectors and the words of the whole payload
+pub taken-is : (f : Format) (r : Registers) (u : Unpacking) {v n : ℕ} → v ≡ vectorsBefore (r .cl) (r .wl) (u .count) → n ≡ payloadWords f v
+    → n - u .due ≡ takenWords f r u
+unfolding takenWords
+taken-is f r u ev en = rw (en, ev)
+
 -- where payload is due, CL is not 0
 pub due-cycle : (f : Format) (cl wl : ℕ) (u : Unpacking) → 1 ≤ wl → UnpackingFits f cl wl u → 1 ≤ cl
 unfolding payloadWords
@@ -127,36 +133,28 @@ due-cycle f cl wl u w x = go (eqb cl 0) refl
         let l = x .left in
         absurd (omega arith)
 
-pub completed-fits : (size : ℕ) (f : Format) (u : Unpacking) (r : Registers) (mem : List ℕ) {s : Registers} {k v from to : ℕ}
+pub completed-fits : (size : ℕ) (f : Format) (u : Unpacking) (r : Registers) (mem : List ℕ) {k v from to : ℕ}
     → CycleFits (r .cl) (r .wl) → UnpackingFits f (r .cl) (r .wl) u → MemoryFits size mem
-    → s ≡ acting f u r → k ≡ takenWords f r u → v ≡ vectorsBefore (r .cl) (r .wl) (u .count)
+    → k ≡ takenWords f r u → v ≡ vectorsBefore (r .cl) (r .wl) (u .count)
     → from ≡ wholeVectors f v k → to ≡ wholeVectors f v (k + 1)
-    → CompletedFits size f u s k from to mem
-unfolding acting
-completed-fits size f u r mem {s} {k} c x m es ek ev ef et =
+    → CompletedFits size f u r k from to mem
+completed-fits size f u r mem c x m ek ev ef et =
     let t = taken-few f r u x in
-    record {
-      cycle = rw es c;
-      memory = m;
-      unpacking = rw es x;
-      words = omega arith;
-      first = ef ∙ rw (ev, es);
-      last = et ∙ rw (ev, es);
-    }
+    record { cycle = c; memory = m; unpacking = x; words = omega arith; first = ef ∙ rw ev; last = et ∙ rw ev }
 
-pub word-taken : (size : ℕ) (f : Format) (u : Unpacking) (r : Registers) (word : ℕ) (w : Written) {s : Registers} {k v from to : ℕ} {o : Written}
-    → s ≡ acting f u r → k ≡ takenWords f r u → v ≡ vectorsBefore (r .cl) (r .wl) (u .count)
+pub word-taken : (size : ℕ) (f : Format) (u : Unpacking) (r : Registers) (word : ℕ) (w : Written) {k v from to : ℕ} {o : Written}
+    → k ≡ takenWords f r u → v ≡ vectorsBefore (r .cl) (r .wl) (u .count)
     → from ≡ wholeVectors f v k → to ≡ wholeVectors f v (k + 1)
-    → o ≡ completedWrites size f u s word k from to w → o ≡ unpackWord size f u r word w
-unfolding unpackWord wordOf completedWrites acting doneAfter
-word-taken size f u r word w es ek ev ef et e = e ∙ rw (et, ef, es, ev, ek)
+    → o ≡ completedWrites size f u r word k from to w → o ≡ unpackWord size f u r word w
+unfolding unpackWord wordOf completedWrites doneAfter
+word-taken size f u r word w ek ev ef et e = e ∙ rw (et, ef, ev, ek)
 
 -- a word that completes no vector
 pub none-completed : (size : ℕ) (f : Format) (u : Unpacking) (r : Registers) (word k from to : ℕ) (w : Written) → from ≡ to
     → w ≡ completedWrites size f u r word k from to w
 unfolding completedWrites
 none-completed size f u r word k from to w e =
-    sym (rw e (writes-none size (u .address) r (heldVector f u word k) _ _ (le-refl _) w))
+    sym (rw e (writes-none size (u .address) (acting f u r) (heldVector f u word k) _ _ (le-refl _) w))
 
 -- a write that is done with word k and not before it is of a vector that the word completes
 module _ (f : Format) (cl wl n k i : ℕ) (c : 1 ≤ wl) where
@@ -197,10 +195,12 @@ module _ {f : Format} {cl wl k i : ℕ} (y : WriteIn f cl wl k i) {v : ℕ} (e :
 
 -- the loops' input: the writes of the vectors that a word completes
 module _ {size : ℕ} {f : Format} {u : Unpacking} {r : Registers} {k from to : ℕ} {mem : List ℕ} (x : CompletedFits size f u r k from to mem) where
-  pub writes-fit : {first last : ℕ} → first ≡ writesDone (r .cl) (r .wl) from (u .count) → last ≡ writesDone (r .cl) (r .wl) to (u .count)
-      → WordFits size f u r k first last mem
-  writes-fit {first} {last} ef el =
-      let d = done-few (r .cl) (r .wl) (x .cycle .some) to (u .count) in
+  pub writes-fit : {first last : ℕ} {s : Registers} → first ≡ writesDone (r .cl) (r .wl) from (u .count) → last ≡ writesDone (r .cl) (r .wl) to (u .count)
+      → s ≡ acting f u r → WordFits size f u s k first last mem
+  unfolding acting
+  writes-fit {first} {last} ef el es =
+      rw es
+      (let d = done-few (r .cl) (r .wl) (x .cycle .some) to (u .count) in
       let c = x .unpacking .few in
       record {
         cycle = x .cycle;
@@ -209,7 +209,7 @@ module _ {size : ℕ} {f : Format} {u : Unpacking} {r : Registers} {k from to : 
         few = omega arith;
         words = x .words;
         each = λ i lo hi. write-in f (r .cl) (r .wl) (u .count) k i (x .cycle .some) (rw (← x .first, ← ef) lo) (rw (← x .last, ← el) hi);
-      }
+      })
 
   whole-below : (k : ℕ) → wholeVectors f (vectorsBefore (r .cl) (r .wl) (u .count)) k ≤ u .count
   whole-below k =
@@ -229,11 +229,11 @@ module _ {size : ℕ} {f : Format} {u : Unpacking} {r : Registers} {k from to : 
   pub cycle-taken : 1 ≤ r .cl
   cycle-taken = due-cycle f (r .cl) (r .wl) u (x .cycle .some) (x .unpacking)
 
-pub completed-by : (size : ℕ) (f : Format) (u : Unpacking) (r : Registers) (word k from to : ℕ) (w : Written) {first last : ℕ} {o : Written}
-    → first ≡ writesDone (r .cl) (r .wl) from (u .count) → last ≡ writesDone (r .cl) (r .wl) to (u .count)
-    → o ≡ writesFrom size (u .address) r (heldVector f u word k) (last - first) first w → o ≡ completedWrites size f u r word k from to w
+pub completed-by : (size : ℕ) (f : Format) (u : Unpacking) (r : Registers) (word k from to : ℕ) (w : Written) {first last : ℕ} {s : Registers} {o : Written}
+    → first ≡ writesDone (r .cl) (r .wl) from (u .count) → last ≡ writesDone (r .cl) (r .wl) to (u .count) → s ≡ acting f u r
+    → o ≡ writesFrom size (u .address) s (heldVector f u word k) (last - first) first w → o ≡ completedWrites size f u r word k from to w
 unfolding completedWrites
-completed-by size f u r word k from to w ef el e = e ∙ rw (ef, el)
+completed-by size f u r word k from to w ef el es e = e ∙ rw (ef, el, es)
 
 -- after a write of the same length
 pub word-fits-again : {size : ℕ} {f : Format} {u : Unpacking} {r : Registers} {k from to : ℕ} {mem m : List ℕ} → length m ≡ length mem

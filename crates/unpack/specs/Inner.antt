@@ -12,7 +12,7 @@ use Rattle.unpack.specs.Payload.{elementBits, vectorBits, wholeVectors}
 use Rattle.unpack.specs.Position.{addresses, addressMost, vectorsBefore, writesDone}
 use Rattle.unpack.specs.Range.{CycleFits, UnpackingFits}
 use Rattle.unpack.specs.Write.{Written, writesFrom}
-use Rattle.unpack.specs.Step.{heldVector}
+use Rattle.unpack.specs.Step.{acting, heldVector}
 
 -- the widths that elements have
 pub data Width : ℕ → Type 0 where
@@ -75,7 +75,7 @@ pub record CompletedFits (size : ℕ) (f : Format) (u : Unpacking) (r : Register
 -- those writes
 unfoldable pub completedWrites : ℕ → Format → Unpacking → Registers → ℕ → ℕ → ℕ → ℕ → Written → Written
 completedWrites size f u r word k from to w =
-    writesFrom size (u .address) r (heldVector f u word k) (done to - done from) (done from) w
+    writesFrom size (u .address) (acting f u r) (heldVector f u word k) (done to - done from) (done from) w
   where
     done : ℕ → ℕ
     done v = writesDone (r .cl) (r .wl) v (u .count)

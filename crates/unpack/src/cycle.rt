@@ -1,7 +1,7 @@
 // A write's place in the cycle of WL writes. A cycle of one is told without a division.
 ghost use mathlib.Core.Path.{_≡_};
-ghost use Prim.Native.Nat.{_<_, _≤_, _/_, _%_, min};
-ghost use Rattle.unpack.specs.Position.{vectorsBefore, writesDone};
+ghost use Prim.Native.Nat.{_<_, _≤_, _+_, _/_, _%_, min};
+ghost use Rattle.unpack.specs.Position.{fills, vectorsBefore, writesDone};
 ghost use Rattle.unpack.specs.Range.{CycleFits};
 
 // The cycles before write i.
@@ -34,6 +34,31 @@ pub(crate) fn vectors_before(cl: u32, wl: u32, n: u32) -> u32
         return cl * (n / wl) + smaller(n % wl, cl);
     }
     n
+}
+
+// Whether write i fills.
+pub(crate) fn is_fill(cl: u32, wl: u32, i: u32) -> bool
+    requires { ⌜ 0 < wl ⌝ }
+    ensures { λ r. ⌜ r ≡ fills cl wl i ⌝ }
+{
+    if cl < wl {
+        if cl <= i % wl {
+            return true;
+        }
+    }
+    false
+}
+
+// The vectors that the writes up to write i take, from those that the writes before it take.
+pub(crate) fn vectors_after(cl: u32, wl: u32, vectors: u32, i: u32) -> u32
+    requires { ⌜ (0 < wl) × (vectors ≡ vectorsBefore cl wl i) × (i ≤ 255) ⌝ }
+    ensures { λ r. ⌜ r ≡ vectorsBefore cl wl (i + 1) ⌝ }
+{
+    if is_fill(cl, wl, i) {
+        vectors
+    } else {
+        vectors + 1
+    }
 }
 
 // The writes done once so many vectors are whole.

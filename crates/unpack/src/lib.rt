@@ -6,6 +6,7 @@ mod payload;
 mod range;
 mod step;
 mod vector;
+mod words;
 mod write;
 
 pub use formats::format_named;
@@ -17,11 +18,16 @@ pub use range::cycle_refused;
 pub use range::unpacking_in_range;
 pub use step::take_word;
 pub use step::write_without_payload;
+pub use words::held;
+pub use words::take_words;
 
 // Addresses of quadwords have ten bits.
 pub const ADDRESSES: u32 = 1024;
 
 pub const ADDRESS_MOST: u32 = 1023;
+
+// The bytes that main memory has at most.
+pub const MAIN_MOST: u32 = 1048576;
 
 pub enum Format {
     S32,
@@ -72,4 +78,11 @@ pub struct Registers {
 pub struct Rows {
     pub accepted: bool,
     pub row: [u32; 4],
+}
+
+// The new ROW and the UNPACK that waits on; where the input was not acceptable, the old ones.
+pub struct WordsTaken {
+    pub accepted: bool,
+    pub row: [u32; 4],
+    pub rest: Unpacking,
 }

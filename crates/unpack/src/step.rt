@@ -5,6 +5,7 @@ use super::Format;
 use super::Registers;
 use super::Rows;
 use super::Unpacking;
+use super::cycle::vectors_after;
 use super::cycle::vectors_before;
 use super::cycle::writes_done;
 use super::mask::mask_of;
@@ -80,9 +81,10 @@ fn write_vectors(
     let codes = unfold_mask(r.mask);
     let col = r.col;
     let mut rows = row;
+    let mut vectors = vectors_before(r.cl, r.wl, from);
     let mut i = from;
     while i < to {
-        let vectors = vectors_before(r.cl, r.wl, i + 1);
+        vectors = vectors_after(r.cl, r.wl, vectors, i);
         let fields = held_vector(f, u, word, k, vectors - 1);
         let c = row_of_cycle(r.wl, i) as usize;
         let chosen = codes[c];
@@ -94,7 +96,7 @@ fn write_vectors(
 }
 
 // The vectors from number `from` to below `to`, which word k completes, and the fills after them.
-fn write_completed(
+pub(crate) fn write_completed(
     size: u32,
     f: Format,
     u: Unpacking,
@@ -112,7 +114,8 @@ fn write_completed(
 {
     let first = writes_done(r.cl, r.wl, from, u.count);
     let last = writes_done(r.cl, r.wl, to, u.count);
-    write_vectors(size, f, u, r, word, k, first, last, row, data)
+    let s = acting_registers(f, u, r);
+    write_vectors(size, f, u, s, word, k, first, last, row, data)
 }
 
 // The next payload word, where all was tested.
@@ -135,8 +138,7 @@ fn take(
     if from == to {
         return row;
     }
-    let s = acting_registers(f, u, r);
-    write_completed(size, f, u, s, word, k, from, to, row, data)
+    write_completed(size, f, u, r, word, k, from, to, row, data)
 }
 
 // The next payload word of an UNPACK, in a memory of `size` quadwords, on any input at all.
@@ -165,7 +167,13 @@ pub fn take_word(
     }
 }
 
-fn acceptable_input(size: u32, f: Format, u: Unpacking, r: Registers, data: &[u32]) -> bool
+pub(crate) fn acceptable_input(
+    size: u32,
+    f: Format,
+    u: Unpacking,
+    r: Registers,
+    data: &[u32],
+) -> bool
     ensures { λ b. ⌜ b ≡ acceptable size f u r (now («data» .entry)) ⌝ }
 {
     if size < 1 {

@@ -1,6 +1,7 @@
 // Vectors written to data memory.
 use super::Registers;
 use super::cycle::cycles_before;
+use super::cycle::is_fill;
 use super::cycle::place_in_cycle;
 ghost use mathlib.Core.Path.{_≡_};
 ghost use mathlib.Core.Bool.{false};
@@ -172,12 +173,7 @@ fn mode_at(r: Registers, i: u32) -> u32
     requires { ⌜ CycleFits (r .cl) (r .wl) ⌝ }
     ensures { λ m. ⌜ m ≡ registersAt r i .mode ⌝ }
 {
-    if r.cl < r.wl {
-        if r.cl <= place_in_cycle(r.wl, i) {
-            return 0;
-        }
-    }
-    r.mode
+    if is_fill(r.cl, r.wl, i) { 0 } else { r.mode }
 }
 
 // Write i of an UNPACK, with the mask's codes and COL of its row.

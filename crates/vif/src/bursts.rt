@@ -8,7 +8,6 @@ use super::registers::with_waiting;
 use super::registers::write_registers;
 use super::step::direct_rest;
 use super::step::directhl_rest;
-use super::step::held;
 use fields::word_at;
 use gif::Path;
 use gif::QuadwordsResult;
@@ -96,17 +95,11 @@ fn unpack_words(
 {
     let size = memories::quadwords(which);
     let registers = write_registers(unit);
-    let mut row = unit.row;
-    let mut rest = u;
-    let mut k: u32 = 0;
-    while k < n {
-        let word = word_at(main, a + 4 * k);
-        let r = unpack::take_word(size, f, rest, registers, word, row, data);
-        row = r.row;
-        rest = held(rest, word);
-        k += 1;
-    }
-    with_waiting(with_row(unit, row), Waiting::UnpackDue(f, rest))
+    let row = unit.row;
+    let r = unpack::take_words(size, f, u, registers, main, a, n, row, data);
+    let rows = r.row;
+    let rest = Waiting::UnpackDue(f, r.rest);
+    with_waiting(with_row(unit, rows), rest)
 }
 
 // n payload words of MPG. Path 2 and the other memories are any.

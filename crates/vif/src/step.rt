@@ -71,28 +71,10 @@ fn code_word(
     answered(answer, after, path2, r.used)
 }
 
-pub(crate) fn held(u: Unpacking, word: u32) -> Unpacking
-    requires { ⌜ 1 ≤ u .due ⌝ }
-    ensures { λ r. ⌜ r ≡ holds u word ⌝ }
-{
-    Unpacking {
-        address: u.address,
-        count: u.count,
-        due: u.due - 1,
-        usn: u.usn,
-        masked: u.masked,
-        interrupt: u.interrupt,
-        first: u.second,
-        second: u.third,
-        third: word,
-    }
-}
-
 fn unpack_unit(unit: Vif, f: Format, u: Unpacking, word: u32, row: [u32; 4]) -> Vif
-    requires { ⌜ 1 ≤ u .due ⌝ }
     ensures { λ r. ⌜ r ≡ unpackUnit unit f u word row ⌝ }
 {
-    let rest = Waiting::UnpackDue(f, held(u, word));
+    let rest = Waiting::UnpackDue(f, unpack::held(u, word));
     with_waiting(with_row(unit, row), or_nothing(u.due, rest))
 }
 

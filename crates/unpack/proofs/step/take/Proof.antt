@@ -1,23 +1,9 @@
-use mathlib.Core.Path.{_≡_, refl}
-use Prim.Native.Nat.{ℕ, _-_}
 use native.Mathlib.Omega.{arith}
 use borrow.Author.Needs.{needs}
-use Rattle.unpack.specs.declared.Format.{Format}
-use Rattle.unpack.specs.declared.Unpacking.{Unpacking}
-use Rattle.unpack.specs.declared.Registers.{Registers}
-use Rattle.unpack.specs.Payload.{payloadWords}
-use Rattle.unpack.specs.Position.{vectorsBefore}
-use Rattle.unpack.specs.Step.{takenWords}
 use Rattle.unpack.proofs.CycleLaws.{vectors-few}
-use Rattle.unpack.proofs.StepLaws.{taken-few, completed-fits, word-taken, none-completed}
+use Rattle.unpack.proofs.StepLaws.{taken-is, taken-few, completed-fits, word-taken, none-completed}
 use Rattle.unpack.proofs.step.take.Statement.{statement}
 use Rattle.unpack.proofs.step.take.Tie as tie
-
--- the words taken, from the vectors and the words of the whole payload
-taken-is : (f : Format) (r : Registers) (u : Unpacking) {v n : ℕ} → v ≡ vectorsBefore (r .cl) (r .wl) (u .count) → n ≡ payloadWords f v
-    → n - u .due ≡ takenWords f r u
-unfolding takenWords
-taken-is f r u ev en = rw (en, ev)
 
 payload-words-requires : tie.Need-payload-words-requires
 payload-words-requires c κs =
@@ -53,26 +39,24 @@ returns c =
     let b = c .before in
     let p = b .before .before .before in
     let v = p .before .vectors-before .ensures in
-    word-taken _ _ _ _ _ _ refl (taken-is _ _ _ v (p .payload-words .ensures)) v (b .before .whole-vectors .ensures) (b .whole-vectors2 .ensures)
+    word-taken _ _ _ _ _ _ (taken-is _ _ _ v (p .payload-words .ensures)) v (b .before .whole-vectors .ensures) (b .whole-vectors2 .ensures)
     (none-completed _ _ _ _ _ _ _ _ _ (c .if1 .taken))
 
 write-completed-requires : tie.Need-write-completed-requires
 write-completed-requires c κs =
-    let a = c .before in
-    let b = a .before .before in
+    let b = c .before .before in
     let p = b .before .before .before in
     let v = p .before .vectors-before .ensures in
     let q = p .before .before .before .pre in
-    completed-fits _ _ _ _ _ (q .0) (q .1) (q .2) (a .acting-registers .ensures) (taken-is _ _ _ v (p .payload-words .ensures)) v (b .before .whole-vectors .ensures) (b .whole-vectors2 .ensures)
+    completed-fits _ _ _ _ _ (q .0) (q .1) (q .2) (taken-is _ _ _ v (p .payload-words .ensures)) v (b .before .whole-vectors .ensures) (b .whole-vectors2 .ensures)
 
 returns-2 : tie.Need-returns-2
 returns-2 c =
     let w = c .before .before in
-    let a = w .before .before in
-    let b = a .before .before in
+    let b = w .before .before .before in
     let p = b .before .before .before in
     let v = p .before .vectors-before .ensures in
-    word-taken _ _ _ _ _ _ (a .acting-registers .ensures) (taken-is _ _ _ v (p .payload-words .ensures)) v (b .before .whole-vectors .ensures) (b .whole-vectors2 .ensures)
+    word-taken _ _ _ _ _ _ (taken-is _ _ _ v (p .payload-words .ensures)) v (b .before .whole-vectors .ensures) (b .whole-vectors2 .ensures)
     (w .write-completed .ensures)
 
 pub take-spec : {M : Type 1} → statement M
@@ -86,7 +70,6 @@ take-spec =
     (λ c. search needs)
     whole-vectors-requires-2
     returns
-    (λ c κs. search needs)
     write-completed-requires
     (λ c. search needs)
     returns-2)

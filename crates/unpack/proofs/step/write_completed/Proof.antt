@@ -11,15 +11,18 @@ writes-done-requires-2 c κs = let x = c .before .before .pre in (x .cycle, cycl
 
 write-vectors-requires : tie.Need-write-vectors-requires
 write-vectors-requires c κs =
-    let d = c .before in
-    writes-fit (d .before .before .before .pre) (d .before .writes-done .ensures) (d .writes-done2 .ensures)
+    let a = c .before in
+    let d = a .before in
+    writes-fit (d .before .before .before .pre) (d .before .writes-done .ensures) (d .writes-done2 .ensures) (a .acting-registers .ensures)
 
 returns : tie.Need-returns
 returns c =
     let w = c .before .before in
-    let d = w .before .before in
-    completed-by _ _ _ _ _ _ _ _ _ (d .before .writes-done .ensures) (d .writes-done2 .ensures) (w .write-vectors .ensures)
+    let a = w .before .before in
+    let d = a .before in
+    completed-by _ _ _ _ _ _ _ _ _ (d .before .writes-done .ensures) (d .writes-done2 .ensures) (a .acting-registers .ensures) (w .write-vectors .ensures)
 
 pub write-completed-spec : {M : Type 1} → statement M
 write-completed-spec =
-    tie.close (tie.spec writes-done-requires writes-done-requires-2 write-vectors-requires (λ c. search needs) returns)
+    tie.close
+    (tie.spec writes-done-requires writes-done-requires-2 (λ c κs. search needs) write-vectors-requires (λ c. search needs) returns)

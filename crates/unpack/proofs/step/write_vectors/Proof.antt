@@ -3,6 +3,7 @@ use Prim.Native.Nat.{_-_, _≤_, _+_}
 use native.Mathlib.Omega.{arith}
 use lib.ListN.{length}
 use borrow.Author.Needs.{needs}
+use Rattle.unpack.specs.Position.{vectorsBefore}
 use Rattle.unpack.specs.Mask.{unfolded}
 use Rattle.unpack.specs.Write.{written, writesFrom}
 use Rattle.unpack.specs.Step.{heldVector}
@@ -14,10 +15,11 @@ use Rattle.unpack.proofs.step.write_vectors.Statement.{statement}
 use Rattle.unpack.proofs.step.write_vectors.Tie as tie
 
 abbrev Inv-loop : tie.InvT-loop
-Inv-loop size f u r word k from to data₀ codes col rows₀ i₀ «data» rows i =
+Inv-loop size f u r word k from to data₀ codes col rows₀ vectors₀ i₀ «data» rows vectors i =
     record {
       fits : WordFits size f u r k from to «data»;
       later : from ≤ i;
+      vectors : vectors ≡ vectorsBefore (r .cl) (r .wl) i;
       length : length «data» ≡ length data₀;
       codes : codes ≡ unfolded (r .mask);
       col : col ≡ r .col;
@@ -27,31 +29,36 @@ Inv-loop size f u r word k from to data₀ codes col rows₀ i₀ «data» rows 
     }
 
 abbrev μ-loop : tie.MeasureT-loop
-μ-loop size f u r word k from to data₀ codes col rows₀ i₀ «data» rows i = to - i
+μ-loop size f u r word k from to data₀ codes col rows₀ vectors₀ i₀ «data» rows vectors i = to - i
 
 loop-holds : tie.Need-loop-holds Inv-loop μ-loop
 loop-holds c =
-    let p = c .before .before .before .pre in
-    record { fits = p; later = omega arith; length = refl; codes = c .before .unfold-mask .ensures; col = refl; same = refl }
+    let m = c .before .before in
+    let p = m .before .before .pre in
+    record { fits = p; later = omega arith; vectors = c .vectors-before .ensures; length = refl; codes = m .unfold-mask .ensures; col = refl; same = refl }
 
-add-vectors-before : tie.Need-add-vectors-before Inv-loop μ-loop
-add-vectors-before c = let f = c .before .loop .inv .fits .few in let l = c .loop-test .taken in omega arith
+vectors-after-requires : tie.Need-vectors-after-requires Inv-loop μ-loop
+vectors-after-requires c κs =
+    let i = c .before .loop .inv in
+    let f = i .fits .few in
+    let l = c .loop-test .taken in
+    (i .fits .cycle .some, i .vectors, omega arith)
 
 sub-held-vector : tie.Need-sub-held-vector Inv-loop μ-loop
 sub-held-vector c =
     let i = c .before .before .loop .inv in
-    number-some (i .fits .each _ (i .later) (c .before .loop-test .taken)) (c .vectors-before .ensures)
+    number-some (i .fits .each _ (i .later) (c .before .loop-test .taken)) (c .vectors-after .ensures)
 
 held-vector-requires : tie.Need-held-vector-requires Inv-loop μ-loop
 held-vector-requires c κs =
     let at-loop = c .before .before in
     let i = at-loop .loop .inv in
     let w = i .fits in
-    let a = at-loop .before .before .before .before .args in
+    let a = at-loop .before .before .before .before .before .args in
     let v = vectors-few (a .r .cl) (a .r .wl) (at-loop .loop .i + 1) in
     let l = c .before .loop-test .taken in
     let n = w .few in
-    (number-in (w .each _ (i .later) l) (c .vectors-before .ensures), w .words, omega (arith, c .vectors-before .ensures))
+    (number-in (w .each _ (i .later) l) (c .vectors-after .ensures), w .words, omega (arith, c .vectors-after .ensures))
 
 row-of-cycle-requires : tie.Need-row-of-cycle-requires Inv-loop μ-loop
 row-of-cycle-requires c κs = c .before .before .before .loop .inv .fits .cycle .some
@@ -81,11 +88,12 @@ loop-again c =
     record {
       fits = word-fits-again e (i .fits);
       later = omega arith;
+      vectors = held .before .vectors-after .ensures;
       length = e ∙ i .length;
       codes = i .codes;
       col = i .col;
       same =
-          writes-more _ _ _ _ _ _ (in-loop .loop-test .taken) _ (v .write-at .ensures ∙ rw (held .held-vector .ensures) (filling-at _ _ _ _ _ (number-up y (held .before .vectors-before .ensures)) _))
+          writes-more _ _ _ _ _ _ (in-loop .loop-test .taken) _ (v .write-at .ensures ∙ rw (held .held-vector .ensures) (filling-at _ _ _ _ _ (number-up y (held .before .vectors-after .ensures)) _))
           ∙ i .same;
     }
 
@@ -99,9 +107,9 @@ write-vectors-spec =
     Inv-loop
     μ-loop
     (λ c κs. search needs)
-    loop-holds
-    add-vectors-before
     (λ c κs. search needs)
+    loop-holds
+    vectors-after-requires
     sub-held-vector
     held-vector-requires
     row-of-cycle-requires

@@ -1,0 +1,127 @@
+// Payload words of an UNPACK taken at once, from main memory.
+use super::Format;
+use super::MAIN_MOST;
+use super::Registers;
+use super::Unpacking;
+use super::WordsTaken;
+use super::cycle::vectors_before;
+use super::payload::payload_words;
+use super::payload::whole_vectors;
+use super::step::acceptable_input;
+use super::step::write_completed;
+use fields::word_at;
+ghost use mathlib.Core.Path.{_≡_};
+ghost use Prim.Native.Nat.{_-_, _≤_, _<_};
+ghost use Rattle.unpack.specs.Write.{written};
+ghost use Rattle.unpack.specs.Range.{CycleFits, UnpackingFits};
+ghost use Rattle.unpack.specs.Inner.{MemoryFits};
+ghost use Rattle.unpack.specs.Step.{holds};
+ghost use Rattle.unpack.specs.Whole.{wordsFrom, takenBy, wordsLeft, wordsAcceptable, takeWordsOf};
+
+fn one_less(due: u32) -> u32
+    ensures { λ r. ⌜ r ≡ due - 1 ⌝ }
+{
+    if due == 0 { 0 } else { due - 1 }
+}
+
+// An UNPACK that waits on, with one payload word more held.
+pub fn held(u: Unpacking, word: u32) -> Unpacking
+    ensures { λ r. ⌜ r ≡ holds u word ⌝ }
+{
+    Unpacking {
+        address: u.address,
+        count: u.count,
+        due: one_less(u.due),
+        usn: u.usn,
+        masked: u.masked,
+        interrupt: u.interrupt,
+        first: u.second,
+        second: u.third,
+        third: word,
+    }
+}
+
+// The next n payload words, where all was tested.
+fn take_each(
+    size: u32,
+    f: Format,
+    u: Unpacking,
+    r: Registers,
+    main: &[u8],
+    a: u32,
+    n: u32,
+    row: [u32; 4],
+    data: &mut [u32],
+) -> WordsTaken
+    requires { ⌜ CycleFits (r .cl) (r .wl) × UnpackingFits f (r .cl) (r .wl) u × MemoryFits size (now «data») × (a ≤ 1048576) × (n < u .due) ⌝ }
+    ensures { λ s. ⌜ wordsLeft s (now («data» .exit))
+        ≡ takenBy size f u r (wordsFrom (now (main .entry)) a n) (written row (now («data» .entry))) ⌝ }
+{
+    let vectors = vectors_before(r.cl, r.wl, u.count);
+    let taken = payload_words(f, vectors) - u.due;
+    let mut from = whole_vectors(f, vectors, taken);
+    let mut rows = row;
+    let mut rest = u;
+    let mut k: u32 = 0;
+    while k < n {
+        let word = word_at(main, a + 4 * k);
+        let to = whole_vectors(f, vectors, taken + k + 1);
+        if from != to {
+            let next = write_completed(size, f, rest, r, word, taken + k, from, to, rows, data);
+            rows = next;
+        }
+        rest = held(rest, word);
+        from = to;
+        k += 1;
+    }
+    WordsTaken {
+        accepted: true,
+        row: rows,
+        rest,
+    }
+}
+
+// The next n payload words of an UNPACK, not its last, which lie in main memory from an address on, on any input at all.
+pub fn take_words(
+    size: u32,
+    f: Format,
+    u: Unpacking,
+    r: Registers,
+    main: &[u8],
+    a: u32,
+    n: u32,
+    row: [u32; 4],
+    data: &mut [u32],
+) -> WordsTaken
+    ensures { λ s. ⌜ wordsLeft s (now («data» .exit)) ≡ takeWordsOf size f u r (now (main .entry)) a n row (now («data» .entry)) ⌝ }
+{
+    if words_acceptable(size, f, u, r, a, n, data) {
+        take_each(size, f, u, r, main, a, n, row, data)
+    } else {
+        WordsTaken {
+            accepted: false,
+            row,
+            rest: u,
+        }
+    }
+}
+
+fn words_acceptable(
+    size: u32,
+    f: Format,
+    u: Unpacking,
+    r: Registers,
+    a: u32,
+    n: u32,
+    data: &[u32],
+) -> bool
+    ensures { λ b. ⌜ b ≡ wordsAcceptable size f u r a n (now («data» .entry)) ⌝ }
+{
+    if MAIN_MOST < a {
+        return false;
+    }
+    if u.due <= n {
+        return false;
+    }
+    acceptable_input(size, f, u, r, data)
+}
