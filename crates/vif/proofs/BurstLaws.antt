@@ -2,13 +2,13 @@
 use mathlib.Core.Path.{_≡_, refl, sym, ap, _∙_}
 use mathlib.Core.Bool.{Bool, true, false}
 use mathlib.Core.List.{List}
-use Prim.Native.Nat.{ℕ, suc, _+_, _*_, _-_, _/_, _%_, _<_}
+use Prim.Native.Nat.{ℕ, zero, suc, _+_, _*_, _-_, _/_, _%_, _<_, _≤_}
 use native.Mathlib.Nat.{sub-zero}
 use native.Mathlib.Numerals.{one-add}
 use native.Mathlib.Omega.{arith}
-use borrow.Author.Tests.{ne-eqb}
+use borrow.Author.Tests.{ne-eqb, le-leb, lt-ltb}
 use lib.ListN.{length}
-use lib.Dec.{eqb}
+use lib.Dec.{eqb, leb, ltb}
 use Rattle.fields.specs.Fields.{if}
 use Rattle.fields.specs.Memory.{wordAt, longAt, quadwordAt}
 use Rattle.fields.proofs.ChoiceLaws.{if-ind}
@@ -24,9 +24,13 @@ use Rattle.memories.specs.Lengths.{Lent, lent}
 use Rattle.unpack.specs.declared.Format.{Format}
 use Rattle.unpack.specs.declared.Unpacking.{Unpacking}
 use Rattle.unpack.specs.declared.Registers.{Registers}
-use Rattle.unpack.specs.declared.Rows.{Rows}
-use Rattle.unpack.specs.Step.{Left as UnpackLeft, left as unpackLeft, holds, acceptable, takeOf as unpackTakeOf}
+use Rattle.unpack.specs.declared.WordsTaken.{WordsTaken}
+use Rattle.unpack.specs.Write.{Written, written}
+use Rattle.unpack.specs.Step.{holds, unpackWord, acceptable}
+use Rattle.unpack.specs.Whole.{takeWords, heldAfter, wordsFrom, WordsLeft, wordsLeft, takenBy, wordsAcceptable, takeWordsOf}
 use Rattle.unpack.proofs.StepLaws.{acceptable-fits, fits-cycle, fits-unpacking}
+use Rattle.unpack.proofs.LengthLaws.{word-length}
+use Rattle.unpack.proofs.WordsLaws.{unpacking-on}
 use Rattle.vif.specs.declared.WordsResult.{WordsResult}
 use Rattle.vif.specs.declared.Incoming.{Incoming}
 use Rattle.vif.specs.declared.Incoming.the-variants.{Word0}
@@ -71,41 +75,57 @@ word-more {z = z} p e = leads-then p (leads-one {o = leaves aWord (z .unit) (z .
 abbrev pub unpacking : Vif → Format → List ℕ → Unpacking → Vif
 unpacking v f row u = withWaiting (withRow v row) (UnpackDue f u)
 
-pub unpack-begins : (which : VifUnit) (main : List ℕ) (a : ℕ) (v : Vif) (f : Format) (u : Unpacking) (p : Path) (used : ℕ) (m : Lent) → v .waiting ≡ UnpackDue f u
-    → Leads which main a 0 0 (fed v p used m) (fed (unpacking v f (v .row) u) p used m)
-unpack-begins which main a v f u p used m h = rw (← ap (λ (w : Waiting). fed (withWaiting v w) p used m) h) leads-none
-
 module _ (size : ℕ) (v : Vif) (f : Format) (u : Unpacking) (word : ℕ) (row mem : List ℕ) (g : UnpackReady size v f u mem) (h : 1 < u .due) where
   -- a payload word before the last leaves it waiting, ready for the next
-  pub unpack-ready : (m : List ℕ) → length m ≡ length mem → UnpackReady size v f (holds u word) m
+  unpack-ready : (m : List ℕ) → length m ≡ length mem → UnpackReady size v f (holds u word) m
   unfolding acceptable
   unpack-ready m l =
       let x = acceptable-fits size f u (writeRegisters v) mem (g .accepted) in
-      let y = x .unpacking in
-      let d = y .most in
       let s = x .memory in
       record {
         some = omega arith;
         accepted =
             rw (memory-accepted size m (record { some = s .some; most = s .most; long = l ∙ s .long }), fits-cycle (v .cl) (v .wl) (x .cycle))
-            (fits-unpacking f (v .cl) (v .wl) (holds u word) (record { inside = y .inside; some = y .some; few = y .few; left = omega arith; most = omega arith }));
+            (fits-unpacking f (v .cl) (v .wl) (holds u word) (unpacking-on word (x .unpacking) h));
       }
 
-  module _ {r : Registers} {s : Rows} {m : List ℕ} (er : r ≡ writeRegisters v) (es : unpackLeft s m ≡ unpackTakeOf size f u r word row mem)
-      (which : VifUnit) (z : size ≡ quadwords which) where
-    unpack-step : (p : Path) (used : ℕ) (code log : List ℕ) (next : Incoming) → wordIn next ≡ word
-        → vifStep which (unpacking v f row u) p next used (lent mem code log)
-        ≡ leaves aWord (unpacking v f (s .row) (holds u word)) p used (lent m code log)
-    unfolding vifStep unpackStep unpackTakeOf if
-    unpack-step p used code log next e =
-        let q = rw (er, g .accepted) at es in
-        rw (← z, e, not-last (u .due) (u .interrupt) h, waits-still (u .due) (UnpackDue f (holds u word)) h, ap (λ (o : UnpackLeft). o .row) q, ap (λ (o : UnpackLeft). o .mem) q)
+  abbrev wordWritten : Written
+  wordWritten = unpackWord size f u (writeRegisters v) word (written row mem)
 
-    pub unpack-more : {main : List ℕ} {a k : ℕ} {p : Path} {used : ℕ} {code log : List ℕ} {x : Fed} → word ≡ wordAt main (a + 4 * k)
-        → Leads which main a k k x (fed (unpacking v f row u) p used (lent mem code log))
-        → Leads which main a (k + 1) (k + 1) x (fed (unpacking v f (s .row) (holds u word)) p used (lent m code log))
-    unpack-more {main} {a} {k} {p} {used} {code} {log} e i =
-        word-more i (unpack-step p used code log (incomingAt main (a + 4 * k)) (incoming-word main (a + 4 * k) ∙ sym e))
+  unpack-step : (which : VifUnit) → size ≡ quadwords which → (p : Path) (used : ℕ) (code log : List ℕ) (next : Incoming) → wordIn next ≡ word
+      → vifStep which (unpacking v f row u) p next used (lent mem code log)
+      ≡ leaves aWord (unpacking v f (wordWritten .row) (holds u word)) p used (lent (wordWritten .mem) code log)
+  unfolding vifStep unpackStep
+  unpack-step which z p used code log next e =
+      rw (← z, e, not-last (u .due) (u .interrupt) h, waits-still (u .due) (UnpackDue f (holds u word)) h)
+
+-- n words of main memory, not the last
+module _ (which : VifUnit) (size : ℕ) (z : size ≡ quadwords which) (v : Vif) (f : Format) (main : List ℕ) (p : Path) (used : ℕ) (code log : List ℕ) where
+  abbrev wordsWritten : Unpacking → List ℕ → List ℕ → ℕ → ℕ → Written
+  wordsWritten u row mem a n = takeWords size f u (writeRegisters v) (wordsFrom main a n) (written row mem)
+
+  words-lead : (n a : ℕ) (u : Unpacking) (row mem : List ℕ) → UnpackReady size v f u mem → n < u .due
+      → Leads which main a n n (fed (unpacking v f row u) p used (lent mem code log))
+      (fed (unpacking v f (wordsWritten u row mem a n .row) (heldAfter u (wordsFrom main a n))) p used (lent (wordsWritten u row mem a n .mem) code log))
+  unfolding wordsFrom takeWords heldAfter
+  words-lead zero a u row mem g h = leads-none
+  words-lead (suc n) a u row mem g h =
+      let x = wordAt main a in
+      let o = unpackWord size f u (writeRegisters v) x (written row mem) in
+      let d : 1 < u .due = omega arith in
+      rw (← one-add n)
+      (leads-then
+      (leads-one (sym (unpack-step size v f u x row mem g d which z p used code log (incomingAt main a) (incoming-word main a))) refl (λ q. omega arith) refl)
+      (words-lead n (a + 4) (holds u x) (o .row) (o .mem) (unpack-ready size v f u x row mem g d (o .mem) (word-length size f u (writeRegisters v) x (written row mem))) (omega arith)))
+
+  pub unpack-leads : {n a : ℕ} {u : Unpacking} {mem m : List ℕ} {r : Registers} {s : WordsTaken} → v .waiting ≡ UnpackDue f u → UnpackReady size v f u mem → n < u .due
+      → a ≤ 1048576 → r ≡ writeRegisters v → wordsLeft s m ≡ takeWordsOf size f u r main a n (v .row) mem
+      → Leads which main a n n (fed v p used (lent mem code log)) (fed (unpacking v f (s .row) (s .rest)) p used (lent m code log))
+  unfolding takeWordsOf wordsAcceptable takenBy if
+  unpack-leads {n} {a} {u} {mem} q g h l er es =
+      let e = rw (er, le-leb a 1048576 l, lt-ltb n (u .due) h, g .accepted) at es in
+      rw (ap (λ (o : WordsLeft). o .row) e, ap (λ (o : WordsLeft). o .mem) e, ap (λ (o : WordsLeft). o .rest) e)
+      (rw (← ap (λ (w : Waiting). fed (withWaiting v w) p used (lent mem code log)) q) at (words-lead n a u (v .row) mem g h))
 
 -- ---- MPG
 

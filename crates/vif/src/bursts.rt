@@ -98,8 +98,8 @@ fn unpack_words(
     let row = unit.row;
     let r = unpack::take_words(size, f, u, registers, main, a, n, row, data);
     let rows = r.row;
-    let rest = Waiting::UnpackDue(f, r.rest);
-    with_waiting(with_row(unit, rows), rest)
+    let rest = r.rest;
+    with_waiting(with_row(unit, rows), Waiting::UnpackDue(f, rest))
 }
 
 // n payload words of MPG. Path 2 and the other memories are any.

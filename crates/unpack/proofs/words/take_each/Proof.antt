@@ -144,10 +144,10 @@ loop-again c =
     let x = at-loop .loop in
     let word = wordAt (a .main .now) (a .a + 4 * x .k) in
     let o : written (j .if1 .rows) (j .if1 .«data») ≡ unpackWord (a .size) (a .f) (x .rest) (a .r) word (written (x .rows) (x .«data»)) =
-        ⊎-elim
-        (λ t1. rw (t1 .5, t1 .6, ← t .word-at .ensures) (word-taken _ _ _ _ _ _ (i .words) (i .counted) (i .first) (w .whole-vectors2 .ensures) (t1 .2 .ensures)))
-        (λ t2. rw (t2 .1, t2 .2, ← t .word-at .ensures) (word-taken _ _ _ _ _ _ (i .words) (i .counted) (i .first) (w .whole-vectors2 .ensures) (none-completed _ _ _ _ _ _ _ _ _ (t2 .0 .left))))
-        (j .if1 .came) in
+    ⊎-elim
+    (λ t1. rw (t1 .5, t1 .6, ← t .word-at .ensures) (word-taken _ _ _ _ _ _ (i .words) (i .counted) (i .first) (w .whole-vectors2 .ensures) (t1 .2 .ensures)))
+    (λ t2. rw (t2 .1, t2 .2, ← t .word-at .ensures) (word-taken _ _ _ _ _ _ (i .words) (i .counted) (i .first) (w .whole-vectors2 .ensures) (none-completed _ _ _ _ _ _ _ _ _ (t2 .0 .left))))
+    (j .if1 .came) in
     let l = ap (λ (x : Written). length (x .mem)) o ∙ word-length (a .size) (a .f) (x .rest) (a .r) word (written (x .rows) (x .«data»)) in
     let m = i .memory in
     let held = rw (t .word-at .ensures) at (c .held .ensures) in
