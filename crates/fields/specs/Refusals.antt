@@ -67,6 +67,10 @@ modeWrong = 23
 abbrev pub directUnaligned : ℕ
 directUnaligned = 24
 
+-- request 10: "26 for UNPACK with IMM bit 15 on VIF0, after 22"
+abbrev pub topsMissing : ℕ
+topsMissing = 26
+
 -- "31 log lacks room", of a VIF step and of a GIF step
 abbrev pub logFull : ℕ
 logFull = 31

@@ -8,11 +8,16 @@ pub use units::quadwords;
 
 // The VIF units.
 pub enum VifUnit {
+    Vif0,
     Vif1,
 }
 
-// The quadwords of VIF1's data memory.
+// The quadwords of the data memories.
+pub const VIF0_QUADWORDS: u32 = 256;
+
 pub const VIF1_QUADWORDS: u32 = 1024;
 
-// The instructions of VIF1's code memory.
+// The instructions of the code memories.
+pub const VIF0_INSTRUCTIONS: u32 = 512;
+
 pub const VIF1_INSTRUCTIONS: u32 = 2048;

@@ -1,4 +1,6 @@
 // The sizes of the memories behind a unit.
+use super::VIF0_INSTRUCTIONS;
+use super::VIF0_QUADWORDS;
 use super::VIF1_INSTRUCTIONS;
 use super::VIF1_QUADWORDS;
 use super::VifUnit;
@@ -11,6 +13,7 @@ pub fn quadwords(unit: VifUnit) -> u32
     ensures { λ r. ⌜ (r ≡ quadwords unit) × ((1 ≤ r) × (r ≤ 1024)) ⌝ }
 {
     match unit {
+        VifUnit::Vif0 => VIF0_QUADWORDS,
         VifUnit::Vif1 => VIF1_QUADWORDS,
     }
 }
@@ -20,6 +23,7 @@ pub fn instructions(unit: VifUnit) -> u32
     ensures { λ r. ⌜ (r ≡ instructions unit) × ((1 ≤ r) × (r ≤ 2048)) ⌝ }
 {
     match unit {
+        VifUnit::Vif0 => VIF0_INSTRUCTIONS,
         VifUnit::Vif1 => VIF1_INSTRUCTIONS,
     }
 }
