@@ -4,11 +4,14 @@ use mathlib.Core.Bool.{Bool, true, false}
 use mathlib.Core.List.{List, [], _∷_}
 use Prim.Native.Nat.{ℕ, _+_, _%_, _≤_}
 use native.Mathlib.Omega.{arith}
-use borrow.Author.Tests.{eq-eqb, ne-eqb, le-leb}
+use borrow.Author.Tests.{eqb-true, eq-eqb, ne-eqb, le-leb}
+use lib.Dec.{eqb}
 use Rattle.fields.specs.Fields.{if}
-use Rattle.fields.specs.Refusals.{logFull}
+use Rattle.fields.specs.Refusals.{cycleWrong, logFull}
+use Rattle.fields.proofs.ChoiceLaws.{if-zero}
 use Rattle.gif.specs.Log.{entry, lacksRoom, Entered, entered, entryOf}
 use Rattle.memories.specs.declared.VifUnit.{VifUnit}
+use Rattle.memories.specs.declared.VifUnit.the-variants.{Vif0, Vif1}
 use Rattle.memories.specs.Units.{quadwords}
 use Rattle.memories.proofs.UnitLaws.{quadwords-some, quadwords-most}
 use Rattle.unpack.specs.declared.Format.{Format}
@@ -28,8 +31,9 @@ use Rattle.vif.specs.declared.VifAnswer.the-variants.{Word, Refused}
 use Rattle.vif.specs.declared.Waiting.the-variants.{UnpackDue}
 use Rattle.vif.specs.declared.Vif.{Vif}
 use Rattle.vif.specs.Setters.{withRow}
+use Rattle.vif.specs.Codes.{missingCode, codeListed}
 use Rattle.vif.specs.Payload.{writeRegisters}
-use Rattle.vif.specs.Execute.{Executed, executed, codeResult, resultWith, started, startProgram, waitsFor, addressOf, begunUnpack, unfedWritten, unfedStep, beginUnpack, executeOf, decodedStep}
+use Rattle.vif.specs.Execute.{Executed, executed, codeResult, resultWith, started, startProgram, waitsFor, addressOf, begunUnpack, topsRefused, unpackRefusal, unfedWritten, unfedStep, beginUnpack, executeOf, decodedStep}
 use Rattle.vif.specs.Inner.{CodeReady}
 use Rattle.vif.proofs.RangeLaws.{memory-accepted}
 
@@ -42,7 +46,32 @@ pub by-decoded : (which : VifUnit) {c d : Decoded} → c ≡ d → (v : Vif) (i 
     → e ≡ decodedStep which d v i used mem log → e ≡ decodedStep which c v i used mem log
 by-decoded which q v i used mem log h = rw q h
 
--- a program start by whether its entry was stored
+-- ---- where the units differ
+
+-- a code that VIF0 doesn't lack is listed on both
+pub listed-both : (which : VifUnit) (cmd : ℕ) → missingCode cmd ≡ false → codeListed which cmd ≡ true
+listed-both Vif0 cmd e = rw e
+listed-both Vif1 cmd e = refl
+
+-- what a code that VIF0 lacks needs is needed of VIF1 alone
+pub listed-one : (P : VifUnit → Type 0) (which : VifUnit) (cmd k : ℕ) → codeListed which cmd ≡ true → eqb cmd k ≡ true → missingCode k ≡ true → P Vif1
+    → P which
+listed-one P Vif0 cmd k l e m p = absurd (let l′ = rw (eqb-true cmd k e, m) at l in let z : _≡_ {A = ℕ} 0 1 = cc in omega arith)
+listed-one P Vif1 cmd k l e m p = p
+
+-- a program start leaves alone what waits
+pub started-waiting : (which : VifUnit) (v : Vif) → started which v .waiting ≡ v .waiting
+started-waiting Vif0 v = refl
+started-waiting Vif1 v = refl
+
+-- IMM bit 15 clear is refused on neither
+pub tops-clear : (which : VifUnit) → topsRefused which false ≡ false
+tops-clear Vif0 = refl
+tops-clear Vif1 = refl
+
+-- ---- a program start
+
+-- by whether its entry was stored
 module _ (which : VifUnit) (r x : ℕ) (v : Vif) (i : Bool) (used : ℕ) (mem log : List ℕ) {b : Bool} {m : List ℕ}
     (e : entered b m ≡ entryOf log used (entry r x)) where
   pub program-started : b ≡ true → executed (Word i) (started which v) (used + 1) mem m ≡ startProgram which r x v i used mem log
@@ -69,14 +98,24 @@ begun-mod f u v i a h e = e ∙ rw h
 
 -- ---- UNPACK's own step
 
-module _ (which : VifUnit) (f : Format) (u : UnpackCode) (v : Vif) (i : Bool) (mem : List ℕ) (c : cycleRefused (v .cl) (v .wl) ≡ false) where
+module _ (which : VifUnit) (u : UnpackCode) (v : Vif) where
+  -- no refusal: neither 22 nor 26
+  pub refusal-none : cycleRefused (v .cl) (v .wl) ≡ false → topsRefused which (u .tops) ≡ false → unpackRefusal which u v ≡ 0
+  unfolding unpackRefusal if
+  refusal-none c t = rw (c, t)
+
+  pub refusal-cycle : unpackRefusal which u v ≡ 0 → cycleRefused (v .cl) (v .wl) ≡ false
+  unfolding unpackRefusal
+  refusal-cycle e = if-zero (cycleRefused (v .cl) (v .wl)) cycleWrong (omega arith) e .0
+
+module _ (which : VifUnit) (f : Format) (u : UnpackCode) (v : Vif) (i : Bool) (mem : List ℕ) (c : unpackRefusal which u v ≡ 0) where
   -- with CL 0 its writes pass UNPACK's tests
   pub unfed-accepted : CodeReady which v mem → v .cl ≡ 0 → unfedAcceptable (quadwords which) (begunUnpack f u v i) (writeRegisters v) mem ≡ true
   unfolding unfedAcceptable unpackingOf
   unfed-accepted r z =
       let m : MemoryFits (quadwords which) mem = record { some = quadwords-some which; most = quadwords-most which; long = r .long } in
       let a : addressOf u (v .tops) % addresses ≤ addressMost = omega arith in
-      rw (memory-accepted (quadwords which) mem m, accepted-cycle (v .cl) (v .wl) c (r .most) (r .wide), eq-eqb (v .cl) 0 z, le-leb _ addressMost a, le-leb _ 256 (count-few (u .num)))
+      rw (memory-accepted (quadwords which) mem m, accepted-cycle (v .cl) (v .wl) (refusal-cycle which u v c) (r .most) (r .wide), eq-eqb (v .cl) 0 z, le-leb _ addressMost a, le-leb _ 256 (count-few (u .num)))
 
   module _ (used : ℕ) (log : List ℕ) {w : Unpacking} (ew : w ≡ begunUnpack f u v i) where
     pub unpack-unfed : v .cl ≡ 0 → {e : Executed} → e ≡ unfedStep (unfedWritten which f w v mem) v i used log

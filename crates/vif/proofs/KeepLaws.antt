@@ -9,7 +9,7 @@ use lib.ListN.{length}
 use lib.Seq.{length-sets}
 use lib.Dec.{eqb, ltb}
 use Rattle.fields.specs.Fields.{if}
-use Rattle.fields.specs.Refusals.{cycleWrong, modeWrong, directUnaligned, logFull}
+use Rattle.fields.specs.Refusals.{modeWrong, directUnaligned, logFull}
 use Rattle.fields.proofs.ChoiceLaws.{if-ind, if-ind-by, or-left, or-right}
 use Rattle.gif.specs.declared.Path.{Path}
 use Rattle.gif.specs.declared.GifAnswer.{GifAnswer}
@@ -22,7 +22,6 @@ use Rattle.memories.specs.declared.VifUnit.{VifUnit}
 use Rattle.memories.specs.Units.{quadwords, instructions}
 use Rattle.memories.specs.Lengths.{Lent}
 use Rattle.unpack.specs.declared.Format.{Format}
-use Rattle.unpack.specs.Range.{cycleRefused}
 use Rattle.unpack.specs.Write.{written}
 use Rattle.unpack.proofs.LengthLaws.{word-length, unfed-length}
 use Rattle.vif.specs.declared.Code.{Code}
@@ -38,7 +37,7 @@ use Rattle.vif.specs.declared.Waiting.{Waiting}
 use Rattle.vif.specs.declared.Waiting.the-variants.{Nothing, MaskDue, RowDue, ColDue, MpgDue, DirectDue, DirecthlDue, UnpackDue}
 use Rattle.vif.specs.declared.Vif.{Vif}
 use Rattle.vif.specs.Codes.{interruptOf, decodeOf}
-use Rattle.vif.specs.Execute.{Executed, executed, resultWith, startProgram, setMode, beginMpg, begunUnpack, beginUnpack, executeOf, decodedStep}
+use Rattle.vif.specs.Execute.{Executed, executed, resultWith, startProgram, setMode, beginMpg, begunUnpack, unpackRefusal, beginUnpack, executeOf, decodedStep}
 use Rattle.vif.specs.Payload.{mpgStored, bytesOf, wordPlace, writeRegisters}
 use Rattle.vif.specs.Step.{Left, leaves, refused, wordIn, afterCode, afterGif, giveQuadword, directStep, unpackStep, codeStep, stepBy, vifStep}
 
@@ -98,7 +97,7 @@ module _ (which : VifUnit) (v : Vif) (used : ℕ) (mem log : List ℕ) (h : entr
   does-unpack : (f : Format) (u : UnpackCode) (i : Bool) → Does v used mem log (beginUnpack which f u v i used mem log)
   unfolding beginUnpack
   does-unpack f u i =
-      if-ind (Does v used mem log) (cycleRefused (v .cl) (v .wl)) (does-refused cycleWrong)
+      if-ind (Does v used mem log) (not (eqb (unpackRefusal which u v) 0)) (does-refused (unpackRefusal which u v))
       (if-ind (Does v used mem log) (eqb (v .cl) 0)
       (record {
         same = λ n e. absurd (no-word e);

@@ -9,3 +9,4 @@ pub mod UnpackLaws
 pub mod SheetLaws
 pub mod FeedLaws
 pub mod BurstLaws
+pub mod Vif0Laws

@@ -44,7 +44,7 @@ memory-accepted size mem m = rw (le-leb 1 size (m .some), le-leb size addresses 
 module _ (which : VifUnit) (v : Vif) (h : unitInRange which v ≡ true) where
   pub waiting-ranged : {w : Waiting} → v .waiting ≡ w → waitingInRange which w (v .cl) (v .wl) ≡ true
   unfolding unitInRange
-  waiting-ranged q = rw (← q) (and-right (registersInRange v) _ h)
+  waiting-ranged q = rw (← q) (and-right (registersInRange which v) _ h)
 
   pub row-due : {due : ℕ} {i : Bool} → v .waiting ≡ RowDue due i → (1 ≤ due) × (due ≤ 4)
   unfolding waitingInRange

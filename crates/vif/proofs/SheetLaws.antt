@@ -21,7 +21,6 @@ use Rattle.gif.specs.Run.{sheetTag, addressData, addressDatas}
 use Rattle.gif.proofs.LogLaws.{logged-then, logged-length}
 use Rattle.gif.proofs.SheetLaws.{sheetPlace, took, sheet-tag, sheet-data}
 use Rattle.memories.specs.declared.VifUnit.{VifUnit}
-use Rattle.memories.specs.declared.VifUnit.the-variants.{Vif1}
 use Rattle.memories.specs.Units.{quadwords, instructions}
 use Rattle.memories.specs.Lengths.{Lent, lent}
 use Rattle.unpack.specs.declared.Format.the-variants.{V4x32}
@@ -46,11 +45,12 @@ use Rattle.vif.specs.declared.Waiting.{Waiting}
 use Rattle.vif.specs.declared.Waiting.the-variants.{Nothing, MpgDue, DirectDue}
 use Rattle.vif.specs.declared.Vif.{Vif}
 use Rattle.vif.specs.Setters.{withCycle, withMode, withRow, withWaiting}
-use Rattle.vif.specs.Codes.{interruptOf, quadwordsOf, mpgAddresses, codeListed, plainCode, unpackNumbers, codeOf, decodeOf}
+use Rattle.vif.specs.Codes.{interruptOf, quadwordsOf, mpgAddresses, missingCode, codeListed, plainCode, unpackNumbers, codeOf, decodeOf}
 use Rattle.vif.specs.Execute.{started, startProgram, setMode, beginMpg, addressOf}
 use Rattle.vif.specs.Payload.{orNothing, bytesOf, wordPlace, mpgStored, writeRegisters}
 use Rattle.vif.specs.Step.{leaves, wordIn, giveQuadword, vifStep}
 use Rattle.vif.specs.Feeds.{Fed, fed, Feeds, none, more, aWord, aQuadword, wordsIn, QuadwordsIn, no-quadword, one-quadword, Zeros, one-zero, storeInstruction, copyInstructions}
+use Rattle.vif.proofs.CodeLaws.{listed-both, tops-clear, refusal-none}
 use Rattle.vif.proofs.StepLaws.{code-taken}
 use Rattle.vif.proofs.UnpackLaws.{quiet, waits-no-more, words-length, payloadOf, due-left, unpack-fed}
 
@@ -75,8 +75,8 @@ feeds-as f e = rw (← e) f
 -- ---- a code's own step
 
 nop-decoded : (which : VifUnit) → decodeOf which 0 ≡ Known Nop
-unfolding decodeOf codeOf plainCode bits if
-nop-decoded Vif1 = refl
+unfolding missingCode decodeOf codeOf plainCode bits if
+nop-decoded which = rw (listed-both which 0x00 refl) refl
 
 -- a word 0 is taken and changes nothing
 pub feeds-nop : {which : VifUnit} {v : Vif} {p : Path} {used : ℕ} {m : Lent} → v .waiting ≡ Nothing → {y : Fed} {n : Incoming} {ns : List Incoming} → wordIn n ≡ 0
@@ -118,12 +118,12 @@ module _ (n a : ℕ) (some : 1 ≤ n) (few : n ≤ 255) (inside : a < addresses)
   data-quiet = ne-eqb ((1811939328 + n * 65536 + a) / 2147483648 % 2) 1 (λ e. omega arith)
 
 stcycl-decoded : (which : VifUnit) → decodeOf which 16777473 ≡ Known (Stcycl 1 1)
-unfolding decodeOf codeOf plainCode bits if
-stcycl-decoded Vif1 = refl
+unfolding missingCode decodeOf codeOf plainCode bits if
+stcycl-decoded which = rw (listed-both which 0x01 refl) refl
 
 stmod-decoded : (which : VifUnit) → decodeOf which 83886080 ≡ Known (Stmod 0)
-unfolding decodeOf codeOf plainCode bits if
-stmod-decoded Vif1 = refl
+unfolding missingCode decodeOf codeOf plainCode bits if
+stmod-decoded which = rw (listed-both which 0x05 refl) refl
 
 -- a unit for which nothing waits is idle
 idle-same : (v : Vif) → v .waiting ≡ Nothing → withWaiting v Nothing ≡ v
@@ -150,7 +150,7 @@ data-fed : (which : VifUnit) (v : Vif) (p : Path) (used : ℕ) (m : Lent) (n a :
     → Feeds which aWord (fed v p used m) (k ∷ ns) (fed v p used (lent (copyVectors (quadwords which) a (fourWords (wordsIn ns)) n 0 (m .mem)) (m .code) (m .log)))
 unfolding cycleRefused addressOf if
 data-fed which v p used m n a h hc hw hm hr some few inside k ns e w l =
-    let c : cycleRefused (v .cl) (v .wl) ≡ false = rw hw in
+    let c = refusal-none which (dataCode n a) v (rw hw) (tops-clear which) in
     let d : decodeOf which (wordIn k) ≡ Known (Unpack V4x32 (dataCode n a)) = rw e (data-decoded n a some few inside which) in
     let i : interruptOf (wordIn k) ≡ false = rw e (data-quiet n a some few inside) in
     let q : 1 ≤ v .cl = omega arith in
@@ -201,11 +201,11 @@ after-nops h ns q f =
 
 module _ (a : ℕ) (inside : a < 65536) where
   start-decoded : (which : VifUnit) → decodeOf which (335544320 + a) ≡ Known (Mscal a)
-  unfolding decodeOf codeOf plainCode bits if
-  start-decoded Vif1 =
+  unfolding missingCode decodeOf codeOf plainCode bits if
+  start-decoded which =
       let c : (335544320 + a) / 16777216 % 128 ≡ 20 = omega arith in
       let e : (335544320 + a) / 1 % 65536 ≡ a = omega arith in
-      rw (c, e)
+      rw (c, e, listed-both which 0x14 refl)
 
   start-quiet : interruptOf (335544320 + a) ≡ false
   unfolding bits
@@ -226,10 +226,6 @@ feeds-start which v p used m a ns h inside room q =
     (λ k ms e q3.
     more (code-taken which v p used m k h e (start-decoded a inside which) (start-quiet a inside) ∙ rw (le-ltb (length (m .log)) (entrySize * (used + 1)) room))
     (no-words ms q3))
-
--- a program start leaves alone what waits
-pub started-waiting : (which : VifUnit) (v : Vif) → started which v .waiting ≡ v .waiting
-started-waiting Vif1 v = refl
 
 -- ---- code: three NOPs, MPG, and words 0 after its payload
 
@@ -257,13 +253,13 @@ words-split P (w ∷ ws) pad (n ∷ ns) e k =
 
 module _ (n a : ℕ) (some : 1 ≤ n) (few : n ≤ 255) (inside : a < mpgAddresses) where
   code-decoded : (which : VifUnit) → decodeOf which (1241513984 + n * 65536 + a) ≡ Known (Mpg a n)
-  unfolding decodeOf codeOf plainCode bits if
-  code-decoded Vif1 =
+  unfolding missingCode decodeOf codeOf plainCode bits if
+  code-decoded which =
       let c : (1241513984 + n * 65536 + a) / 16777216 % 128 ≡ 74 = omega arith in
       let d : (1241513984 + n * 65536 + a) / 65536 % 256 ≡ n = omega arith in
       let e : (1241513984 + n * 65536 + a) / 1 % 65536 ≡ a = omega arith in
       let x : a / 1 % mpgAddresses ≡ a = omega arith in
-      rw (c, d, e, x)
+      rw (c, d, e, x, listed-both which 0x4A refl)
 
   code-quiet : interruptOf (1241513984 + n * 65536 + a) ≡ false
   unfolding bits

@@ -36,11 +36,12 @@ use Rattle.vif.specs.declared.Waiting.the-variants.{Nothing, UnpackDue}
 use Rattle.vif.specs.declared.Vif.{Vif}
 use Rattle.vif.specs.Setters.{withRow, withWaiting}
 use Rattle.vif.specs.Codes.{interruptOf, decodeOf}
-use Rattle.vif.specs.Execute.{addressOf, begunUnpack, beginUnpack}
+use Rattle.vif.specs.Execute.{addressOf, begunUnpack, unpackRefusal, beginUnpack}
 use Rattle.vif.specs.Payload.{completes, orNothing, writeRegisters}
 use Rattle.vif.specs.Range.{waitingInRange}
 use Rattle.vif.specs.Step.{leaves, refused, wordIn, unpackStep, vifStep}
 use Rattle.vif.specs.Feeds.{Fed, fed, Feeds, none, more, aWord, wordsIn, unpackWaits, unpackedWith, unpackedFed}
+use Rattle.vif.proofs.CodeLaws.{refusal-cycle}
 use Rattle.vif.proofs.StepLaws.{by-waiting, code-taken}
 
 -- ---- what waits
@@ -208,14 +209,17 @@ cycle-some : (cl wl : ℕ) → cycleRefused cl wl ≡ false → 1 ≤ wl
 unfolding cycleRefused
 cycle-some cl wl h = let z = eqb-false wl 0 h in omega arith
 
--- an idle unit with CL and WL that UNPACK accepts takes the code, with its interrupt bit
+-- an idle unit that does not refuse the code takes it, with its interrupt bit
 module _ (which : VifUnit) (v : Vif) (p : Path) (used : ℕ) (m : Lent) (n : Incoming) (f : Format) (u : UnpackCode) (i : Bool) (h : v .waiting ≡ Nothing)
-    (c : cycleRefused (v .cl) (v .wl) ≡ false) (d : decodeOf which (wordIn n) ≡ Known (Unpack f u)) (j : interruptOf (wordIn n) ≡ i) where
+    (c : unpackRefusal which u v ≡ 0) (d : decodeOf which (wordIn n) ≡ Known (Unpack f u)) (j : interruptOf (wordIn n) ≡ i) where
+  wl-some : 1 ≤ v .wl
+  wl-some = cycle-some (v .cl) (v .wl) (refusal-cycle which u v c)
+
   -- where CL is not 0 its payload is due
   module _ (k : 1 ≤ v .cl) where
     begun-due : 1 ≤ begunUnpack f u v i .due
     unfolding unpackingOf
-    begun-due = payload-some f _ (vectors-some (v .cl) (v .wl) k (cycle-some (v .cl) (v .wl) c) (countOf (u .num)) (count-range (u .num) .0))
+    begun-due = payload-some f _ (vectors-some (v .cl) (v .wl) k wl-some (countOf (u .num)) (count-range (u .num) .0))
 
     begun-bit : begunUnpack f u v i .interrupt ≡ i
     unfolding unpackingOf
@@ -243,7 +247,7 @@ module _ (which : VifUnit) (v : Vif) (p : Path) (used : ℕ) (m : Lent) (n : Inc
     unit-payload : (ns : List Incoming) → Words (wordsIn ns) → Quiet i (length ns) (payloadOf f u v) → length ns ≤ payloadOf f u v
         → Feeds which aWord (fed v p used m) (n ∷ ns) (unpackedFed which v p used m f u i (wordsIn ns) (unpackWaits f (heldAfter (begunUnpack f u v i) (wordsIn ns))))
     unit-payload ns w q l =
-        rw (← taken-is which v p used m f u i k (cycle-some (v .cl) (v .wl) c) (wordsIn ns) w (rw words-length l)) (unpack-fed ns q l)
+        rw (← taken-is which v p used m f u i k wl-some (wordsIn ns) w (rw words-length l)) (unpack-fed ns q l)
 
     -- of a part of a payload, after which the UNPACK waits on
     pub unit-payload-part : (ns : List Incoming) → Words (wordsIn ns) → length ns < payloadOf f u v
@@ -268,13 +272,13 @@ module _ (which : VifUnit) (v : Vif) (p : Path) (used : ℕ) (m : Lent) (n : Inc
   unfolding beginUnpack if
   unfed-taken z =
       code-taken which v p used m n h refl d j
-      ∙ rw (c, eq-eqb (v .cl) 0 z, unfed-theorem (quadwords which) f (begunUnpack f u v i) (writeRegisters v) (written (v .row) (m .mem)) z (cycle-some (v .cl) (v .wl) c))
+      ∙ rw (c, eq-eqb (v .cl) 0 z, unfed-theorem (quadwords which) f (begunUnpack f u v i) (writeRegisters v) (written (v .row) (m .mem)) z wl-some)
       (ap (λ (w : Waiting). leaves (Word i) (withWaiting (withRow v (unpackedWith which v (m .mem) f u i [] .row)) w) p used (lent (unpackedWith which v (m .mem) f u i [] .mem) (m .code) (m .log))) h)
 
 -- "22 remains for WL 0 only, in its old place.": with WL 0 the code is refused, whatever CL is; `unit-payload-part` and `unfed-taken` have all else
 pub wl-refused : (which : VifUnit) (v : Vif) (p : Path) (used : ℕ) (m : Lent) (n : Incoming) (f : Format) (u : UnpackCode) → v .waiting ≡ Nothing
     → decodeOf which (wordIn n) ≡ Known (Unpack f u) → v .wl ≡ 0 → vifStep which v p n used m ≡ refused cycleWrong v p used m
-unfolding beginUnpack cycleRefused if
+unfolding beginUnpack unpackRefusal cycleRefused if
 wl-refused which v p used m n f u h d e = code-taken which v p used m n h refl d refl ∙ rw e
 
 -- under CL 0 no UNPACK can wait

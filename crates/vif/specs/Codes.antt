@@ -1,12 +1,12 @@
 -- VIF codes: document 01's "Bits 0-15 IMM, 16-23 NUM, 24-30 CMD, 31 interrupt. Each word is decoded into one case of a closed list of codes, each case
 -- with its own numbers."
 use Prim.Native.Nat.{ℕ}
-use mathlib.Core.Bool.{Bool, true}
+use mathlib.Core.Bool.{Bool, true, not, _||_}
 use lib.Dec.{eqb, leb}
 use Rattle.fields.specs.Fields.{if, bits}
 use Rattle.fields.specs.Refusals.{cmdUnlisted, formatMissing}
 use Rattle.memories.specs.declared.VifUnit.{VifUnit}
-use Rattle.memories.specs.declared.VifUnit.the-variants.{Vif1}
+use Rattle.memories.specs.declared.VifUnit.the-variants.{Vif0, Vif1}
 use Rattle.unpack.specs.declared.NamedFormat.{NamedFormat}
 use Rattle.unpack.specs.declared.NamedFormat.the-variants.{Named, Missing}
 use Rattle.unpack.specs.Formats.{formatNamed}
@@ -79,11 +79,24 @@ unpackNumbers cmd num imm =
       tops = eqb (bits imm 15 15) 1;
     }
 
+-- request 10, of VIF0: "It has no codes 02, 03, 06, 11, 13, 15, 50, 51"
+unfoldable pub missingCode : ℕ → Bool
+missingCode cmd =
+    eqb cmd 0x02
+    || (eqb cmd 0x03
+    || (eqb cmd 0x06
+    || (eqb cmd 0x11
+    || (eqb cmd 0x13
+    || (eqb cmd 0x15
+    || (eqb cmd 0x50
+    || eqb cmd 0x51))))))
+
 -- which of the codes below 60h a unit has: VIF1 all of them
 abbrev pub codeListed : VifUnit → ℕ → Bool
+codeListed Vif0 cmd = not (missingCode cmd)
 codeListed Vif1 cmd = true
 
--- "60-7F UNPACK"; "CMD bits 0-1 vl, bits 2-3 vn", the number of the format; "20 CMD not listed"
+-- "60-7F UNPACK"; "CMD bits 0-1 vl, bits 2-3 vn", the number of the format; "20 CMD not listed", request 10: "20 for the codes named"
 unfoldable pub codeOf : VifUnit → ℕ → ℕ → ℕ → Decoded
 codeOf which cmd num imm =
     if (leb 0x60 cmd) (unpackCode (formatNamed (bits cmd 0 3)) (unpackNumbers cmd num imm))

@@ -4,10 +4,10 @@ use mathlib.Core.Bool.{Bool, false, not}
 use mathlib.Core.List.{List, [], _∷_}
 use lib.Dec.{eqb}
 use Rattle.fields.specs.Fields.{if}
-use Rattle.fields.specs.Refusals.{cycleWrong, modeWrong, logFull}
+use Rattle.fields.specs.Refusals.{cycleWrong, modeWrong, topsMissing, logFull}
 use Rattle.gif.specs.Log.{entry, logged, lacksRoom}
 use Rattle.memories.specs.declared.VifUnit.{VifUnit}
-use Rattle.memories.specs.declared.VifUnit.the-variants.{Vif1}
+use Rattle.memories.specs.declared.VifUnit.the-variants.{Vif0, Vif1}
 use Rattle.memories.specs.Units.{quadwords}
 use Rattle.unpack.specs.declared.Format.{Format}
 use Rattle.unpack.specs.declared.Unpacking.{Unpacking}
@@ -51,8 +51,10 @@ resultWith r mem log = executed (r .answer) (r .unit) (r .used) mem log
 unfoldable pub nextTops : Bool → Vif → ℕ
 nextTops dbf v = if dbf ((v .base + v .ofst) % addresses) (v .base)
 
--- "Then ITOP = ITOPS, TOP = TOPS, DBF flips, and TOPS = ...": in this order, so TOP takes the old TOPS
+-- "Then ITOP = ITOPS, TOP = TOPS, DBF flips, and TOPS = ...": in this order, so TOP takes the old TOPS; request 10, of VIF0: "MSCAL and MSCNT there change
+-- ITOP alone of the registers"
 abbrev pub started : VifUnit → Vif → Vif
+started Vif0 v = withStart v (v .itops) (v .top) (v .dbf) (v .tops)
 started Vif1 v = withStart v (v .itops) (v .tops) (not (v .dbf)) (nextTops (not (v .dbf)) v)
 
 -- "14 MSCAL, 15 MSCALF, 17 MSCNT: log entry 256, 257, 258 with value IMM, IMM, 0"; "31 log lacks room"
@@ -89,10 +91,21 @@ unfedWritten which f u v mem = unfedWrites (quadwords which) f u (writeRegisters
 abbrev pub unfedStep : Written → Vif → Bool → ℕ → List ℕ → Executed
 unfedStep x v i used log = executed (Word i) (withRow v (x .row)) used (x .mem) log
 
--- request 3: "22 remains for WL 0 only, in its old place."
+-- VIF0 has no TOPS that IMM bit 15 could add
+abbrev pub topsRefused : VifUnit → Bool → Bool
+topsRefused Vif0 tops = tops
+topsRefused Vif1 tops = false
+
+-- the refusal of an UNPACK, 0 for none: request 3's "22 remains for WL 0 only, in its old place.", request 10's "26 for UNPACK with IMM bit 15 on VIF0, after 22"
+unfoldable pub unpackRefusal : VifUnit → UnpackCode → Vif → ℕ
+unpackRefusal which u v =
+    if (cycleRefused (v .cl) (v .wl)) cycleWrong
+    (if (topsRefused which (u .tops)) topsMissing
+    0)
+
 unfoldable pub beginUnpack : VifUnit → Format → UnpackCode → Vif → Bool → ℕ → List ℕ → List ℕ → Executed
 beginUnpack which f u v i used mem log =
-    if (cycleRefused (v .cl) (v .wl)) (executed (Refused cycleWrong) v used mem log)
+    if (not (eqb (unpackRefusal which u v) 0)) (executed (Refused (unpackRefusal which u v)) v used mem log)
     (if (eqb (v .cl) 0) (unfedStep (unfedWritten which f (begunUnpack f u v i) v mem) v i used log)
     (resultWith (waitsFor v (UnpackDue f (begunUnpack f u v i)) used) mem log))
 

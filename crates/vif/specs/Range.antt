@@ -1,9 +1,11 @@
 -- The range of a unit: document 01's "A register is in range if it holds what its code can write (TOP, TOPS, ITOP 0-1,023); a waiting code ... if its
--- step would accept it under the held CL and WL, ... with one unit to all of its payload still due".
+-- step would accept it under the held CL and WL, ... with one unit to all of its payload still due". Request 10: "5 ... wants 0 in each VIF0 register that
+-- nothing there writes".
 use Prim.Native.Nat.{ℕ, _+_}
-use mathlib.Core.Bool.{Bool, true, _&&_}
+use mathlib.Core.Bool.{Bool, true, not, _&&_}
 use lib.Dec.{leb}
 use Rattle.memories.specs.declared.VifUnit.{VifUnit}
+use Rattle.memories.specs.declared.VifUnit.the-variants.{Vif0, Vif1}
 use Rattle.unpack.specs.Position.{addressMost}
 use Rattle.unpack.specs.Range.{cycleInRange, unpackingInRange}
 use Rattle.vif.specs.declared.Waiting.{Waiting}
@@ -15,25 +17,42 @@ use Rattle.vif.specs.Codes.{mpgAddressMost, codeListed}
 unfoldable pub upTo : ℕ → ℕ → Bool
 upTo n x = leb 1 x && leb x n
 
--- CL, WL 8 bits; OFST, BASE, TOPS, TOP, ITOPS, ITOP 10 bits; MODE 0 to 2; MARK 16 bits; the others hold any value
-unfoldable pub registersInRange : Vif → Bool
-registersInRange v =
+-- the most that OFST, BASE, TOPS and TOP hold: 10 bits, "0 in each VIF0 register that nothing there writes"
+abbrev pub topsMost : VifUnit → ℕ
+topsMost Vif0 = 0
+topsMost Vif1 = addressMost
+
+-- the same of DBF and MSKPATH3
+abbrev pub bitInRange : VifUnit → Bool → Bool
+bitInRange Vif0 b = not b
+bitInRange Vif1 b = true
+
+-- the registers that VIF1 alone writes
+abbrev pub vif1RegistersInRange : VifUnit → Vif → Bool
+vif1RegistersInRange which v =
+    leb (v .ofst) (topsMost which)
+    && (leb (v .base) (topsMost which)
+    && (leb (v .tops) (topsMost which)
+    && (leb (v .top) (topsMost which)
+    && (bitInRange which (v .dbf)
+    && bitInRange which (v .mskpath3)))))
+
+-- CL, WL 8 bits; ITOPS, ITOP 10 bits; MODE 0 to 2; MARK 16 bits; MASK, ROW and COL hold any value
+unfoldable pub registersInRange : VifUnit → Vif → Bool
+registersInRange which v =
     leb (v .cl) 255
     && (leb (v .wl) 255
-    && (leb (v .ofst) addressMost
-    && (leb (v .base) addressMost
-    && (leb (v .tops) addressMost
-    && (leb (v .top) addressMost
     && (leb (v .itops) addressMost
     && (leb (v .itop) addressMost
     && (leb (v .mode) 2
-    && leb (v .mark) 65535))))))))
+    && (leb (v .mark) 65535
+    && vif1RegistersInRange which v)))))
 
--- a DIRECT or DIRECTHL, by its CMD, where the unit has that code
+-- a DIRECT or DIRECTHL, by its CMD, where the unit has that code: none waits on VIF0
 unfoldable pub directInRange : VifUnit → ℕ → ℕ → Bool
 directInRange which cmd due = codeListed which cmd && upTo 65536 due
 
--- a unit is what a step takes: a word, for DIRECT a quadword
+-- a unit is what a step takes: a word, for DIRECT a quadword; addresses are those of the codes on either unit, and wrap where they are written
 unfoldable pub waitingInRange : VifUnit → Waiting → ℕ → ℕ → Bool
 waitingInRange which Nothing cl wl = true
 waitingInRange which (MaskDue i) cl wl = true
@@ -45,4 +64,4 @@ waitingInRange which (DirecthlDue due i) cl wl = directInRange which 0x51 due
 waitingInRange which (UnpackDue f u) cl wl = cycleInRange cl wl && unpackingInRange f cl wl u
 
 unfoldable pub unitInRange : VifUnit → Vif → Bool
-unitInRange which v = registersInRange v && waitingInRange which (v .waiting) (v .cl) (v .wl)
+unitInRange which v = registersInRange which v && waitingInRange which (v .waiting) (v .cl) (v .wl)

@@ -8,7 +8,7 @@ use memories::VifUnit;
 use unpack::ADDRESSES;
 use unpack::NamedFormat;
 ghost use mathlib.Core.Path.{_≡_};
-ghost use Rattle.vif.specs.Codes.{quadwordsOf, plainCode, unpackCode, unpackNumbers, codeListed, codeOf, decodeOf};
+ghost use Rattle.vif.specs.Codes.{quadwordsOf, plainCode, unpackCode, unpackNumbers, missingCode, codeListed, codeOf, decodeOf};
 
 fn quadwords_of(imm: u32) -> u32
     ensures { λ r. ⌜ r ≡ quadwordsOf imm ⌝ }
@@ -71,11 +71,29 @@ fn unpack_numbers(cmd: u32, num: u32, imm: u32) -> UnpackCode
     }
 }
 
+// The codes below 60h that VIF0 lacks.
+fn missing_code(cmd: u32) -> bool
+    ensures { λ r. ⌜ r ≡ missingCode cmd ⌝ }
+{
+    match cmd {
+        0x02 => true,
+        0x03 => true,
+        0x06 => true,
+        0x11 => true,
+        0x13 => true,
+        0x15 => true,
+        0x50 => true,
+        0x51 => true,
+        _ => false,
+    }
+}
+
 // Whether a unit has a code below 60h.
 pub(crate) fn code_listed(which: VifUnit, cmd: u32) -> bool
     ensures { λ r. ⌜ r ≡ codeListed which cmd ⌝ }
 {
     match which {
+        VifUnit::Vif0 => !missing_code(cmd),
         VifUnit::Vif1 => true,
     }
 }

@@ -34,7 +34,7 @@ ghost use Rattle.vif.specs.Codes.{interruptOf, decodeOf};
 ghost use Rattle.vif.specs.Setters.{withWaiting};
 ghost use Rattle.vif.specs.Payload.{writeRegisters};
 ghost use Rattle.vif.specs.Inner.{CodeReady};
-ghost use Rattle.vif.specs.Execute.{codeResult, resultWith, nextTops, started, startProgram, setMode, addressOf, beginMpg, begunUnpack, unfedWritten, unfedStep, beginUnpack, executeOf, decodedStep};
+ghost use Rattle.vif.specs.Execute.{codeResult, resultWith, nextTops, started, startProgram, setMode, addressOf, beginMpg, begunUnpack, topsRefused, unpackRefusal, unfedWritten, unfedStep, beginUnpack, executeOf, decodedStep};
 
 fn answered(answer: VifAnswer, unit: Vif, used: u64) -> CodeResult
     ensures { λ r. ⌜ r ≡ codeResult answer unit used ⌝ }
@@ -69,6 +69,7 @@ fn start(which: VifUnit, unit: Vif) -> Vif
     ensures { λ r. ⌜ r ≡ started which unit ⌝ }
 {
     match which {
+        VifUnit::Vif0 => with_start(unit, unit.itops, unit.top, unit.dbf, unit.tops),
         VifUnit::Vif1 => {
             let dbf = !unit.dbf;
             let tops = next_tops(dbf, unit);
@@ -157,6 +158,31 @@ fn unfed_unpack(
     done(with_row(unit, rows), interrupt, used)
 }
 
+// Whether an UNPACK wants a TOPS that the unit lacks.
+fn tops_refused(which: VifUnit, tops: bool) -> bool
+    ensures { λ r. ⌜ r ≡ topsRefused which tops ⌝ }
+{
+    match which {
+        VifUnit::Vif0 => tops,
+        VifUnit::Vif1 => false,
+    }
+}
+
+// The refusal of an UNPACK, 0 for none.
+fn unpack_refusal(which: VifUnit, u: UnpackCode, unit: Vif) -> u32
+    ensures { λ r. ⌜ r ≡ unpackRefusal which u unit ⌝ }
+{
+    let cycle = unpack::cycle_refused(unit.cl, unit.wl);
+    let tops = tops_refused(which, u.tops);
+    if cycle {
+        return refusals::CYCLE_WRONG;
+    }
+    if tops {
+        return refusals::TOPS_MISSING;
+    }
+    0
+}
+
 // UNPACK's own step. The log is any.
 fn begin_unpack(
     which: VifUnit,
@@ -171,8 +197,9 @@ fn begin_unpack(
     ensures { λ r. ⌜ ((log : List ℕ) → resultWith r (now («data» .exit)) log
         ≡ beginUnpack which f u unit interrupt used (now («data» .entry)) log) ⌝ }
 {
-    if unpack::cycle_refused(unit.cl, unit.wl) {
-        return answered(VifAnswer::Refused(refusals::CYCLE_WRONG), unit, used);
+    let refusal = unpack_refusal(which, u, unit);
+    if refusal != 0 {
+        return answered(VifAnswer::Refused(refusal), unit, used);
     }
     let begun = begun_unpack(f, u, unit, interrupt);
     if unit.cl == 0 {

@@ -11,7 +11,7 @@ ghost use Prim.Native.Nat.{_+_};
 ghost use lib.Dec.{leb};
 ghost use Rattle.unpack.specs.Range.{cycleInRange, unpackingInRange};
 ghost use Rattle.vif.specs.Codes.{mpgAddressMost};
-ghost use Rattle.vif.specs.Range.{upTo, registersInRange, directInRange, waitingInRange, unitInRange};
+ghost use Rattle.vif.specs.Range.{upTo, topsMost, bitInRange, vif1RegistersInRange, registersInRange, directInRange, waitingInRange, unitInRange};
 
 // A number from 1 to n.
 fn up_to(n: u32, x: u32) -> bool
@@ -23,25 +23,56 @@ fn up_to(n: u32, x: u32) -> bool
     x <= n
 }
 
-fn registers_in_range(unit: Vif) -> bool
-    ensures { λ r. ⌜ r ≡ registersInRange unit ⌝ }
+// The most that OFST, BASE, TOPS and TOP hold.
+fn tops_most(which: VifUnit) -> u32
+    ensures { λ r. ⌜ r ≡ topsMost which ⌝ }
+{
+    match which {
+        VifUnit::Vif0 => 0,
+        VifUnit::Vif1 => ADDRESS_MOST,
+    }
+}
+
+// DBF or MSKPATH3.
+fn bit_in_range(which: VifUnit, bit: bool) -> bool
+    ensures { λ r. ⌜ r ≡ bitInRange which bit ⌝ }
+{
+    match which {
+        VifUnit::Vif0 => !bit,
+        VifUnit::Vif1 => true,
+    }
+}
+
+// The registers that VIF1 alone writes.
+fn vif1_registers_in_range(which: VifUnit, unit: Vif) -> bool
+    ensures { λ r. ⌜ r ≡ vif1RegistersInRange which unit ⌝ }
+{
+    let most = tops_most(which);
+    if most < unit.ofst {
+        return false;
+    }
+    if most < unit.base {
+        return false;
+    }
+    if most < unit.tops {
+        return false;
+    }
+    if most < unit.top {
+        return false;
+    }
+    if bit_in_range(which, unit.dbf) {
+        return bit_in_range(which, unit.mskpath3);
+    }
+    false
+}
+
+fn registers_in_range(which: VifUnit, unit: Vif) -> bool
+    ensures { λ r. ⌜ r ≡ registersInRange which unit ⌝ }
 {
     if 255 < unit.cl {
         return false;
     }
     if 255 < unit.wl {
-        return false;
-    }
-    if ADDRESS_MOST < unit.ofst {
-        return false;
-    }
-    if ADDRESS_MOST < unit.base {
-        return false;
-    }
-    if ADDRESS_MOST < unit.tops {
-        return false;
-    }
-    if ADDRESS_MOST < unit.top {
         return false;
     }
     if ADDRESS_MOST < unit.itops {
@@ -53,7 +84,10 @@ fn registers_in_range(unit: Vif) -> bool
     if 2 < unit.mode {
         return false;
     }
-    unit.mark <= 65535
+    if 65535 < unit.mark {
+        return false;
+    }
+    vif1_registers_in_range(which, unit)
 }
 
 fn mpg_in_range(address: u32, count: u32, due: u32) -> bool
@@ -111,7 +145,7 @@ fn unpack_in_range(cl: u32, wl: u32, f: unpack::Format, u: unpack::Unpacking) ->
 pub fn unit_in_range(which: VifUnit, unit: Vif) -> bool
     ensures { λ r. ⌜ r ≡ unitInRange which unit ⌝ }
 {
-    if registers_in_range(unit) {
+    if registers_in_range(which, unit) {
         let waiting = unit.waiting;
         return waiting_in_range(which, waiting, unit.cl, unit.wl);
     }

@@ -1,5 +1,6 @@
 use mathlib.Core.Path.{sym, _∙_}
 use borrow.Author.Needs.{needs}
+use borrow.Author.Tests.{ne-eqb}
 use Rattle.fields.specs.Fields.{if}
 use Rattle.vif.specs.Execute.{beginUnpack}
 use Rattle.vif.proofs.CodeLaws.{unfed-accepted, unpack-unfed, unpack-begun}
@@ -11,7 +12,7 @@ unfolding beginUnpack if
 refused c =
     λ log.
     let tested = c .before .before in
-    rw (sym (tested .cycle-refused .ensures) ∙ c .before .if1 .taken, c .answered .ensures)
+    rw (sym (tested .unpack-refusal .ensures), ne-eqb _ 0 (c .before .if1 .taken), c .answered .ensures)
 
 unfed-unpack-requires : tie.Need-unfed-unpack-requires
 unfed-unpack-requires c κs =
@@ -20,7 +21,7 @@ unfed-unpack-requires c κs =
     let start = tested .before .before in
     let x = start .args in
     rw (begun .begun-unpack .ensures)
-    (unfed-accepted (x .which) (x .f) (x .u) (x .unit) (x .interrupt) _ (sym (tested .cycle-refused .ensures) ∙ begun .before .if1 .left) (start .pre) (c .before .if2 .taken))
+    (unfed-accepted (x .which) (x .f) (x .u) (x .unit) (x .interrupt) _ (sym (tested .unpack-refusal .ensures) ∙ begun .before .if1 .left) (start .pre) (c .before .if2 .taken))
 
 unfed : tie.Need-returns-2
 unfed c =
@@ -29,7 +30,7 @@ unfed c =
     let begun = wrote .before .before .before .before in
     let tested = begun .before .before in
     let x = tested .before .before .args in
-    unpack-unfed (x .which) (x .f) (x .u) (x .unit) (x .interrupt) _ (sym (tested .cycle-refused .ensures) ∙ begun .before .if1 .left) _ log (begun .begun-unpack .ensures) (wrote .before .before .if2 .taken) (wrote .unfed-unpack .ensures log)
+    unpack-unfed (x .which) (x .f) (x .u) (x .unit) (x .interrupt) _ (sym (tested .unpack-refusal .ensures) ∙ begun .before .if1 .left) _ log (begun .begun-unpack .ensures) (wrote .before .before .if2 .taken) (wrote .unfed-unpack .ensures log)
 
 waits : tie.Need-returns-3
 waits c =
@@ -37,7 +38,7 @@ waits c =
     let begun = c .before .before .before in
     let tested = begun .before .before in
     let x = tested .before .before .args in
-    unpack-begun (x .which) (x .f) (x .u) (x .unit) (x .interrupt) _ (sym (tested .cycle-refused .ensures) ∙ begun .before .if1 .left) _ log (begun .begun-unpack .ensures) (c .before .if2 .left) (c .waits .ensures)
+    unpack-begun (x .which) (x .f) (x .u) (x .unit) (x .interrupt) _ (sym (tested .unpack-refusal .ensures) ∙ begun .before .if1 .left) _ log (begun .begun-unpack .ensures) (c .before .if2 .left) (c .waits .ensures)
 
 pub begin-unpack-spec : {M : Type 1} → statement M
 begin-unpack-spec =
