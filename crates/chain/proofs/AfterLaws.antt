@@ -17,11 +17,14 @@ use Rattle.gif.specs.Step.{Left as GifLeft, gifStep}
 use Rattle.gif.proofs.LogLaws.{logged-length}
 use Rattle.gif.proofs.RangeLaws.{log-fits}
 use Rattle.gif.proofs.StepLaws.{step-ranged, step-wrote}
-use Rattle.memories.specs.declared.VifUnit.the-variants.{Vif1}
+use Rattle.memories.specs.declared.VifUnit.{VifUnit}
+use Rattle.memories.specs.declared.VifUnit.the-variants.{Vif0, Vif1}
 use Rattle.memories.specs.Lengths.{Lent}
+use Rattle.vif.specs.declared.Vif.{Vif}
 use Rattle.vif.specs.declared.VifAnswer.{VifAnswer}
 use Rattle.vif.specs.declared.VifAnswer.the-variants.{Word, Quadword, Refused as VifRefused}
-use Rattle.vif.specs.Step.{Left as VifLeft, vifStep}
+use Rattle.vif.specs.Range.{unitInRange}
+use Rattle.vif.specs.Step.{Left as VifLeft}
 use Rattle.vif.proofs.KeepLaws.{log-stays}
 use Rattle.vif.proofs.RangeKept.{step-ready}
 use Rattle.chain.specs.declared.Stack.{Stack}
@@ -34,13 +37,13 @@ use Rattle.chain.specs.declared.StepAnswer.the-variants.{Completed, Refu
 use Rattle.chain.specs.declared.StepResult.{StepResult}
 use Rattle.chain.specs.declared.State.{State}
 use Rattle.fields.specs.Memory.{longAt, quadwordAt}
-use Rattle.chain.specs.Setters.{withPending, withUnit}
+use Rattle.chain.specs.Setters.{pickUnit, withPending, withUnit}
 use Rattle.chain.specs.Tags.{qwcOf, idOf, addrOf, sprOf, usesAddr, payloadAt, afterPayload, returnTo, nextTadr, isFull, pushed, popped, nextStack, tagWordsOf, payloadOf, tagRefusal, tagState, tagRead, tagStep}
 use Rattle.vif.specs.Words.{incomingAt}
 use Rattle.chain.specs.Pending.{tagsAfter, payloadAfter}
 use Rattle.chain.specs.Range.{channelInRange, startInRange, entryInRange, stackInRange, tagWordInRange, tagsInRange, wordsInRange, payloadInRange, tagsInside, payloadInside}
 use Rattle.chain.specs.Inner.{Ready, PayloadInside}
-use Rattle.chain.specs.Step.{Stepped, stepped, steppedBy, afterVif, vifGiven, afterGif, gifGiven, payloadStep, payloadOrTag, pendingOrTag, stepOf}
+use Rattle.chain.specs.Step.{Stepped, stepped, steppedBy, fedUnit, heldBy, afterVif, vifTook, vifGiven, afterGif, gifGiven, payloadStep, payloadOrTag, pendingOrTag, stepOf}
 use Rattle.chain.proofs.ReadyLaws.{Facts, facts-of, ready-of, main-most, unit-ready, tadr-whole, payload-ready}
 
 -- ---- a tag
@@ -169,7 +172,7 @@ module _ (size tadr id addr qwc : ℕ) (k : Stack) (a : Accepted size tadr id ad
       if-ind-by (λ (p : Payload). payloadInRange p channel ≡ true) (eqb qwc 0) (λ e. refl)
       (λ e.
       let z = eqb-false qwc 0 e in
-      rw (ne-eqb (4 * qwc) 0 (λ n. z (omega arith)), eq-eqb (payloadAt id addr tadr % 4) 0 (omega arith), eq-eqb (payloadAt id addr tadr % 16) 0 w, or-true (eqb channel 1), le-leb (4 * qwc) 262140 (omega arith), eq-eqb ((payloadAt id addr tadr / 4 + 4 * qwc) % 4) 0 (omega arith)))
+      rw (ne-eqb (4 * qwc) 0 (λ n. z (omega arith)), eq-eqb (payloadAt id addr tadr % 4) 0 (omega arith), eq-eqb (payloadAt id addr tadr % 16) 0 w, or-true (not (eqb channel 2)), le-leb (4 * qwc) 262140 (omega arith), eq-eqb ((payloadAt id addr tadr / 4 + 4 * qwc) % 4) 0 (omega arith)))
 
   payload-in-held : payloadInside (payloadOf (payloadAt id addr tadr) qwc) size ≡ true
   unfolding payloadOf payloadInside
@@ -227,7 +230,8 @@ module _ {main : List ℕ} {s : State} {m : Lent} (r : Ready main s m) where
               stack = stack-held (length main) (s .tadr) (idOf tag) (addrOf tag) (qwcOf tag) (s .stack) a few tw ab sk;
               tags = tags-held (length main) (s .tadr) (idOf tag) (addrOf tag) (qwcOf tag) (s .stack) a few tw ab sk (s .tte);
               payload = payload-held (length main) (s .tadr) (idOf tag) (addrOf tag) (qwcOf tag) (s .stack) a few tw ab sk (s .channel) (omega arith);
-              unit = f .fields .unit;
+              unit0 = f .fields .unit0;
+              unit1 = f .fields .unit1;
               path2 = f .fields .path2;
               path3 = f .fields .path3;
             };
@@ -250,16 +254,25 @@ module _ {main : List ℕ} {s : State} {m : Lent} (r : Ready main s m) where
     tags-within : tagsInside t (length main) ≡ true
     payload-within : payloadInside p (length main) ≡ true
 
+  -- the unit that was given a word, and the other as it was
+  picked0 : (which : VifUnit) (v : Vif) → unitInRange which v ≡ true → unitInRange Vif0 (pickUnit which v (s .vif0)) ≡ true
+  picked0 Vif0 v h = h
+  picked0 Vif1 v h = f .fields .unit0
+
+  picked1 : (which : VifUnit) (v : Vif) → unitInRange which v ≡ true → unitInRange Vif1 (pickUnit which (s .vif1) v) ≡ true
+  picked1 Vif0 v h = f .fields .unit1
+  picked1 Vif1 v h = h
+
   vif-stays : (a : ℕ) (t : TagWords) (p : ℕ → Payload) → Pending t (p 1) → Pending t (p 4) → Stays main (vifGiven main a t p s m)
   unfolding vifGiven
-  vif-stays a t p one four = go (vifStep Vif1 (s .vif) (s .path2) (incomingAt main a) (s .used) m .answer)
+  vif-stays a t p one four = go (vifTook (fedUnit s) main a s m .answer)
     where
       o : VifLeft
-      o = vifStep Vif1 (s .vif) (s .path2) (incomingAt main a) (s .used) m
+      o = vifTook (fedUnit s) main a s m
 
-      again : (q : Payload) → Pending t q → Ready main (withPending (withUnit s (o .unit) (o .path2) (o .used)) t q) (o .memories)
+      again : (q : Payload) → Pending t q → Ready main (withPending (withUnit (fedUnit s) s (o .unit) (o .path2) (o .used)) t q) (o .memories)
       again q w =
-          let u = step-ready Vif1 (s .vif) (s .path2) (s .used) m (unit-ready r) (incomingAt main a) o refl in
+          let u = step-ready (fedUnit s) (heldBy (fedUnit s) s) (s .path2) (s .used) m (unit-ready r) (incomingAt main a) o refl in
           ready-of
           (record {
             size = f .size;
@@ -270,7 +283,8 @@ module _ {main : List ℕ} {s : State} {m : Lent} (r : Ready main s m) where
                   stack = f .fields .stack;
                   tags = w .tags-ranged;
                   payload = w .payload-ranged;
-                  unit = u .ranged;
+                  unit0 = picked0 (fedUnit s) (o .unit) (u .ranged);
+                  unit1 = picked1 (fedUnit s) (o .unit) (u .ranged);
                   path2 = u .path-ranged;
                   path3 = f .fields .path3;
                 };
@@ -278,7 +292,7 @@ module _ {main : List ℕ} {s : State} {m : Lent} (r : Ready main s m) where
             payload-in = w .payload-within;
           })
 
-      go : (b : VifAnswer) → Stays main (afterVif b o t p s m)
+      go : (b : VifAnswer) → Stays main (afterVif (fedUnit s) b o t p s m)
       go (Word i) = record { stays = λ j e. again (p 1) one }
       go (Quadword i) = record { stays = λ j e. again (p 4) four }
       go (VifRefused n) = refused-stays main n s m
@@ -307,7 +321,7 @@ module _ {main : List ℕ} {s : State} {m : Lent} (r : Ready main s m) where
       }
 
   -- the payload after k of its words
-  payload-pending : (at n k : ℕ) → PayloadInside main s at n → (eqb (s .channel) 1 || eqb ((at + 4 * k) % 16) 0) ≡ true → Pending (s .tags) (payloadAfter at n k)
+  payload-pending : (at n k : ℕ) → PayloadInside main s at n → (not (eqb (s .channel) 2) || eqb ((at + 4 * k) % 16) 0) ≡ true → Pending (s .tags) (payloadAfter at n k)
   unfolding payloadAfter payloadInRange wordsInRange payloadInside
   payload-pending at n k p c =
       let i = p .inside in
@@ -326,17 +340,6 @@ module _ {main : List ℕ} {s : State} {m : Lent} (r : Ready main s m) where
             if-ind-by (λ (x : Payload). payloadInside x (length main) ≡ true) (leb n k) (λ e. refl)
             (λ e. let z = leb-false n k e in rw (ne-eqb (n - k) 0 (λ y. omega arith), le-leb (at + 4 * k + 4 * (n - k)) (length main) (omega arith)));
       }
-
-  -- channel 1 or 2
-  channel-one : eqb (s .channel) 2 ≡ false → eqb (s .channel) 1 ≡ true
-  unfolding startInRange channelInRange
-  channel-one h =
-      let c : (eqb (s .channel) 1 || (eqb (s .channel) 2 && not (s .tte))) ≡ true = and-left _ _ (f .fields .start) in
-      go (eqb (s .channel) 1) (rw h at c)
-    where
-      go : (b : Bool) → (b || false) ≡ true → b ≡ true
-      go true e = refl
-      go false e = e
 
   gif-stays : (a : ℕ) (q : Payload) → Pending (s .tags) q → Stays main (gifGiven main a q s m)
   unfolding gifGiven
@@ -367,7 +370,8 @@ module _ {main : List ℕ} {s : State} {m : Lent} (r : Ready main s m) where
                         stack = f .fields .stack;
                         tags = w .tags-ranged;
                         payload = w .payload-ranged;
-                        unit = f .fields .unit;
+                        unit0 = f .fields .unit0;
+                        unit1 = f .fields .unit1;
                         path2 = f .fields .path2;
                         path3 = step-ranged (s .path3) (f .fields .path3) (s .used) (m .log) (quadwordAt main a);
                       };
@@ -384,10 +388,8 @@ module _ {main : List ℕ} {s : State} {m : Lent} (r : Ready main s m) where
       (λ e.
       let q = p .quadwords (eqb-true (s .channel) 2 e) in
       let z : eqb ((at + 4 * 4) % 16) 0 ≡ true = eq-eqb ((at + 4 * 4) % 16) 0 (omega arith) in
-      gif-stays at (payloadAfter at n 4) (payload-pending at n 4 p (rw (z, or-true (eqb (s .channel) 1)))))
-      (λ e.
-      let c = channel-one e in
-      vif-stays at (s .tags) (payloadAfter at n) (payload-pending at n 1 p (rw c)) (payload-pending at n 4 p (rw c)))
+      gif-stays at (payloadAfter at n 4) (payload-pending at n 4 p (rw (z, or-true (not (eqb (s .channel) 2))))))
+      (λ e. vif-stays at (s .tags) (payloadAfter at n) (payload-pending at n 1 p (rw e)) (payload-pending at n 4 p (rw e)))
 
   payload-or-tag-stays : (p : Payload) → s .payload ≡ p → Stays main (payloadOrTag p main s m)
   payload-or-tag-stays NoPayload q = tag-stays
@@ -421,9 +423,9 @@ module _ (main : List ℕ) (s : State) (m : Lent) where
 
   vif-given-same : (a : ℕ) (t : TagWords) (p : ℕ → Payload) → Same s m (vifGiven main a t p s m)
   unfolding vifGiven
-  vif-given-same a t p = go (vifStep Vif1 (s .vif) (s .path2) (incomingAt main a) (s .used) m .answer)
+  vif-given-same a t p = go (vifTook (fedUnit s) main a s m .answer)
     where
-      go : (b : VifAnswer) → Same s m (afterVif b (vifStep Vif1 (s .vif) (s .path2) (incomingAt main a) (s .used) m) t p s m)
+      go : (b : VifAnswer) → Same s m (afterVif (fedUnit s) b (vifTook (fedUnit s) main a s m) t p s m)
       go (Word i) = completed-same i _ _
       go (Quadword i) = completed-same i _ _
       go (VifRefused n) = refused-same n

@@ -17,8 +17,10 @@ use Rattle.gif.specs.declared.QuadwordsResult.{QuadwordsResult}
 use Rattle.gif.specs.Step.{Left as GifLeft, gifStep}
 use Rattle.gif.specs.Feed.{Fed as GifFed, fed as gifFed, fedBy, afterQuadword, feedsOf as gifFeedsOf, feedOf as gifFeedOf}
 use Rattle.gif.proofs.FeedLaws.{feed-few}
-use Rattle.memories.specs.declared.VifUnit.the-variants.{Vif1}
+use Rattle.memories.specs.declared.VifUnit.{VifUnit}
+use Rattle.memories.specs.declared.VifUnit.the-variants.{Vif0, Vif1}
 use Rattle.memories.specs.Lengths.{Lent, lent}
+use Rattle.vif.specs.declared.Vif.{Vif}
 use Rattle.vif.specs.declared.VifAnswer.{VifAnswer}
 use Rattle.vif.specs.declared.VifAnswer.the-variants.{Word, Quadword, Refused as VifRefused}
 use Rattle.vif.specs.declared.WordsResult.{WordsResult}
@@ -34,10 +36,10 @@ use Rattle.chain.specs.declared.StepAnswer.{StepAnswer}
 use Rattle.chain.specs.declared.StepAnswer.the-variants.{Completed, Refused}
 use Rattle.chain.specs.declared.StepResult.{StepResult}
 use Rattle.chain.specs.declared.State.{State}
-use Rattle.chain.specs.Setters.{withPending, withUnit, withPath3}
+use Rattle.chain.specs.Setters.{pickUnit, withPending, withUnit, withPath3}
 use Rattle.chain.specs.Pending.{noTags, payloadAfter}
 use Rattle.chain.specs.Inner.{Ready, PayloadInside, PayloadNext, Burst, Advance, completedBy}
-use Rattle.chain.specs.Step.{Machine, machine, Stepped, steppedBy, afterVif, givenVif, vifGiven, afterGif, givenGif, gifGiven, payloadStep, stepOf}
+use Rattle.chain.specs.Step.{Machine, machine, Stepped, steppedBy, fedUnit, heldBy, afterVif, givenVif, vifGiven, afterGif, givenGif, gifGiven, payloadStep, stepOf}
 use Rattle.chain.specs.Run.{Ran, ran, done, oneMore, stepsOf}
 use Rattle.chain.specs.Stops.{stepFrom, Reaches, here, step}
 use Rattle.chain.proofs.AfterLaws.{no-completed, step-same}
@@ -190,14 +192,31 @@ pending-going s a n e z = rw (e, ne-eqb n 0 z) (go (s .ended) (noTags (s .tags))
     go : (c t : Bool) → (c && (t && false)) ≡ false
     go c t = rw (and-false t) (and-false c)
 
--- ---- channel 1
+-- ---- channels 0 and 1
 
--- the machine that feeds VIF1, with payload pending
+-- a unit that was set
+picked : (which : VifUnit) (v a b : Vif) → pickUnit which (pickUnit which v a) (pickUnit which b v) ≡ v
+picked Vif0 v a b = refl
+picked Vif1 v a b = refl
+
+-- set again
+set-again : (which : VifUnit) (s : State) (x y : Fed) (q p : Payload)
+    → withPending (withUnit which (withPending (withUnit which s (x .unit) (x .path2) (x .used)) NoTagWords q) (y .unit) (y .path2) (y .used)) NoTagWords p
+    ≡ withPending (withUnit which s (y .unit) (y .path2) (y .used)) NoTagWords p
+set-again Vif0 s x y q p = refl
+set-again Vif1 s x y q p = refl
+
+-- set to what it was
+set-same : (which : VifUnit) (s : State) → s ≡ withUnit which s (heldBy which s) (s .path2) (s .used)
+set-same Vif0 s = refl
+set-same Vif1 s = refl
+
+-- the machine that feeds the channel's unit, with payload pending
 abbrev pub feeding : State → Fed → Payload → Machine
-feeding s x p = machine (withPending (withUnit s (x .unit) (x .path2) (x .used)) NoTagWords p) (x .memories)
+feeding s x p = machine (withPending (withUnit (fedUnit s) s (x .unit) (x .path2) (x .used)) NoTagWords p) (x .memories)
 
-abbrev givenWord : List ℕ → ℕ → Fed → VifLeft
-givenWord main a x = vifStep Vif1 (x .unit) (x .path2) (incomingAt main a) (x .used) (x .memories)
+abbrev givenWord : VifUnit → List ℕ → ℕ → Fed → VifLeft
+givenWord which main a x = vifStep which (x .unit) (x .path2) (incomingAt main a) (x .used) (x .memories)
 
 -- each step takes a word or a quadword, so they end within four times the words that were there
 record FewWords (count : ℕ) (r : FedOn) : Type 0 where
@@ -206,7 +225,7 @@ record FewWords (count : ℕ) (r : FedOn) : Type 0 where
 no-words : (count : ℕ) (x : Fed) → FewWords count (fedOn x 0 0 false)
 no-words count x = record { few-words = omega arith }
 
-module _ (main : List ℕ) where
+module _ (which : VifUnit) (main : List ℕ) where
   answer-few : (f : ℕ → ℕ → Fed → FedOn) → ((a count : ℕ) (x : Fed) → FewWords count (f a count x))
       → (b : VifAnswer) (o : VifLeft) (a count : ℕ) (x : Fed) → (count ≡ 0 → ⊥) → FewWords count (afterWord f b o a count x)
   answer-few f h (Word true) o a count x z = record { few-words = omega arith }
@@ -215,23 +234,23 @@ module _ (main : List ℕ) where
   answer-few f h (Quadword false) o a count x z = let i = h (a + 16) (count - 4) (fedTo o) .few-words in record { few-words = omega arith }
   answer-few f h (VifRefused c) o a count x z = no-words count x
 
-  feeds-few : (n a count : ℕ) (x : Fed) → FewWords count (feedsOf Vif1 main n a count x)
+  feeds-few : (n a count : ℕ) (x : Fed) → FewWords count (feedsOf which main n a count x)
   unfolding feedsOf
   feeds-few zero a count x = no-words count x
   feeds-few (suc n) a count x =
       if-ind-by (FewWords count) (eqb count 0) (λ e. no-words count x)
-      (λ e. answer-few (feedsOf Vif1 main n) (feeds-few n) (givenWord main a x .answer) (givenWord main a x) a count x (eqb-false count 0 e))
+      (λ e. answer-few (feedsOf which main n) (feeds-few n) (givenWord which main a x .answer) (givenWord which main a x) a count x (eqb-false count 0 e))
 
-  pub words-few : (n a count : ℕ) (x : Fed) {r : FedOn} → r ≡ feedOf Vif1 main n a count x → r .words ≤ 4 * count
+  pub words-few : (n a count : ℕ) (x : Fed) {r : FedOn} → r ≡ feedOf which main n a count x → r .words ≤ 4 * count
   unfolding feedOf
   words-few n a count x e = rw e (if-ind (FewWords count) _ (feeds-few n a count x) (no-words count x) .few-words)
 
 module _ (main : List ℕ) (s : State) (channel : s .channel ≡ 2 → ⊥) where
   -- one step
   pub fed-step : (x : Fed) (a n : ℕ) → (n ≡ 0 → ⊥)
-      → stepFrom main (feeding s x (Words a n)) ≡ givenVif (givenWord main a x) NoTagWords (payloadAfter a n) (feeding s x (Words a n) .state) (x .memories)
+      → stepFrom main (feeding s x (Words a n)) ≡ givenVif (fedUnit s) (givenWord (fedUnit s) main a x) NoTagWords (payloadAfter a n) (feeding s x (Words a n) .state) (x .memories)
   unfolding stepOf payloadStep vifGiven if
-  fed-step x a n z = rw (ne-eqb n 0 z, ne-eqb (s .channel) 2 channel)
+  fed-step x a n z = rw (ne-eqb n 0 z, ne-eqb (s .channel) 2 channel, picked (fedUnit s) (x .unit) (s .vif0) (s .vif1))
 
   -- the burst that words given to VIF1 are
   record FedBurst (n a count : ℕ) (x : Fed) (r : FedOn) : Type 0 where
@@ -241,16 +260,16 @@ module _ (main : List ℕ) (s : State) (channel : s .channel ≡ 2 → ⊥) wher
   none-fed n a count x = record { fed-burst = burst-none main n _ }
 
   -- a word or quadword, by the answer to it
-  word-fed : (n a count : ℕ) (x : Fed) → (count ≡ 0 → ⊥) → (b : VifAnswer) → givenWord main a x .answer ≡ b
-      → ((a′ count′ : ℕ) (y : Fed) → FedBurst n a′ count′ y (feedsOf Vif1 main n a′ count′ y))
-      → FedBurst (suc n) a count x (afterWord (feedsOf Vif1 main n) b (givenWord main a x) a count x)
+  word-fed : (n a count : ℕ) (x : Fed) → (count ≡ 0 → ⊥) → (b : VifAnswer) → givenWord (fedUnit s) main a x .answer ≡ b
+      → ((a′ count′ : ℕ) (y : Fed) → FedBurst n a′ count′ y (feedsOf (fedUnit s) main n a′ count′ y))
+      → FedBurst (suc n) a count x (afterWord (feedsOf (fedUnit s) main n) b (givenWord (fedUnit s) main a x) a count x)
   word-fed n a count x z b q f = go b q
     where
       o : VifLeft
-      o = givenWord main a x
+      o = givenWord (fedUnit s) main a x
 
       -- the step, where the answer is known
-      at-word : (b : VifAnswer) → o .answer ≡ b → stepFrom main (feeding s x (payloadAfter a count 0)) ≡ afterVif b o NoTagWords (payloadAfter a count) (feeding s x (Words a count) .state) (x .memories)
+      at-word : (b : VifAnswer) → o .answer ≡ b → stepFrom main (feeding s x (payloadAfter a count 0)) ≡ afterVif (fedUnit s) b o NoTagWords (payloadAfter a count) (feeding s x (Words a count) .state) (x .memories)
       at-word b q = rw (payload-whole a count z) (fed-step x a count z ∙ rw q)
 
       going : done (feeding s x (payloadAfter a count 0) .state) ≡ false
@@ -261,46 +280,54 @@ module _ (main : List ℕ) (s : State) (channel : s .channel ≡ 2 → ⊥) wher
       stop-after k e h w = record { fed-burst = rw (← w) (burst-stops main n _ going e h) }
 
       go-after : (k : ℕ) {y : Stepped} → stepFrom main (feeding s x (payloadAfter a count 0)) ≡ y → y .answer ≡ Completed false
-          → y .after ≡ feeding s (fedTo o) (payloadAfter a count k) → FedBurst (suc n) a count x (stepMore k (feedsOf Vif1 main n (a + 4 * k) (count - k) (fedTo o)))
+          → y .after ≡ feeding s (fedTo o) (payloadAfter a count k) → FedBurst (suc n) a count x (stepMore k (feedsOf (fedUnit s) main n (a + 4 * k) (count - k) (fedTo o)))
       go-after k e h w =
-          let r = feedsOf Vif1 main n (a + 4 * k) (count - k) (fedTo o) in
+          let r = feedsOf (fedUnit s) main n (a + 4 * k) (count - k) (fedTo o) in
           let i = f (a + 4 * k) (count - k) (fedTo o) .fed-burst in
           let p = payload-more a count k 0 ∙ ap (payloadAfter a count) (add-zero k) in
           record { fed-burst = burst-goes main n _ going e h (rw (w, ← payload-more a count k (r .words), ← p) i) }
 
-      go : (b : VifAnswer) → o .answer ≡ b → FedBurst (suc n) a count x (afterWord (feedsOf Vif1 main n) b o a count x)
-      go (Word true) q = stop-after 1 (at-word (Word true) q) refl refl
-      go (Word false) q = go-after 1 (at-word (Word false) q) refl refl
-      go (Quadword true) q = stop-after 4 (at-word (Quadword true) q) refl refl
-      go (Quadword false) q = go-after 4 (at-word (Quadword false) q) refl refl
+      again : (k : ℕ) → machine (withPending (withUnit (fedUnit s) (feeding s x (Words a count) .state) (o .unit) (o .path2) (o .used)) NoTagWords (payloadAfter a count k)) (o .memories)
+          ≡ feeding s (fedTo o) (payloadAfter a count k)
+      again k = ap (λ (t : State). machine t (o .memories)) (set-again (fedUnit s) s x (fedTo o) (Words a count) (payloadAfter a count k))
+
+      go : (b : VifAnswer) → o .answer ≡ b → FedBurst (suc n) a count x (afterWord (feedsOf (fedUnit s) main n) b o a count x)
+      go (Word true) q = stop-after 1 (at-word (Word true) q) refl (again 1)
+      go (Word false) q = go-after 1 (at-word (Word false) q) refl (again 1)
+      go (Quadword true) q = stop-after 4 (at-word (Quadword true) q) refl (again 4)
+      go (Quadword false) q = go-after 4 (at-word (Quadword false) q) refl (again 4)
       go (VifRefused c) q = none-fed (suc n) a count x
 
-  words-fed : (n a count : ℕ) (x : Fed) → FedBurst n a count x (feedsOf Vif1 main n a count x)
+  words-fed : (n a count : ℕ) (x : Fed) → FedBurst n a count x (feedsOf (fedUnit s) main n a count x)
   unfolding feedsOf
   words-fed zero a count x = none-fed 0 a count x
   words-fed (suc n) a count x =
       if-ind-by (FedBurst (suc n) a count x) (eqb count 0) (λ e. none-fed (suc n) a count x)
-      (λ e. word-fed n a count x (eqb-false count 0 e) (givenWord main a x .answer) refl (words-fed n))
+      (λ e. word-fed n a count x (eqb-false count 0 e) (givenWord (fedUnit s) main a x .answer) refl (words-fed n))
 
   -- whatever was tested
-  pub words-burst : (n a count : ℕ) (x : Fed) {r : FedOn} → r ≡ feedOf Vif1 main n a count x
+  pub words-burst : (n a count : ℕ) (x : Fed) {r : FedOn} → r ≡ feedOf (fedUnit s) main n a count x
       → Burst main n (feeding s x (payloadAfter a count 0)) (r .interrupt) (r .steps) (feeding s (r .after) (payloadAfter a count (r .words)))
   unfolding feedOf
   words-burst n a count x e = rw e (if-ind (FedBurst n a count x) _ (words-fed n a count x) (none-fed n a count x) .fed-burst)
 
 module _ {s : State} {a count : ℕ} (p : PayloadNext s a count) where
-  as-feeding : (m : Lent) → machine s m ≡ feeding s (fed (s .vif) (s .path2) (s .used) m) (payloadAfter a count 0)
-  as-feeding m = rw (payload-whole a count (p .some), ← p .payload, ← p .no-tags)
+  as-feeding : (m : Lent) → machine s m ≡ feeding s (fed (heldBy (fedUnit s) s) (s .path2) (s .used) m) (payloadAfter a count 0)
+  as-feeding m =
+      rw (payload-whole a count (p .some), ← p .payload, ← p .no-tags)
+      (ap (λ (t : State). machine (withPending t (s .tags) (s .payload)) m) (set-same (fedUnit s) s))
 
-  -- words that VIF1 tested and took
-  module _ (main : List ℕ) (n : ℕ) (m : Lent) {v : WordsResult} {m′ : Lent} (e : fedOnBy v m′ ≡ feedOf Vif1 main n a count (fed (s .vif) (s .path2) (s .used) m)) where
-    pub words-given : (s .channel ≡ 2 → ⊥) → {t : State} → t ≡ withPending (withUnit s (v .unit) (v .path2) (v .used)) NoTagWords (payloadAfter a count (v .words))
+  -- words that the channel's unit tested and took
+  module _ (main : List ℕ) (n : ℕ) (m : Lent) {which : VifUnit} {u : Vif} (ew : which ≡ fedUnit s) (eu : u ≡ heldBy which s) {v : WordsResult} {m′ : Lent}
+      (e : fedOnBy v m′ ≡ feedOf which main n a count (fed u (s .path2) (s .used) m)) where
+    pub words-given : (s .channel ≡ 2 → ⊥) → {t : State}
+        → t ≡ withPending (withUnit which s (v .unit) (v .path2) (v .used)) NoTagWords (payloadAfter a count (v .words))
         → Burst main n (machine s m) (v .interrupt) (v .steps) (machine t m′)
-    words-given c q = rw (q, as-feeding m) (words-burst main s c n a count _ e)
+    words-given c q = rw (q, ew, as-feeding m) (words-burst main s c n a count _ (rw (eu, ew) at e))
 
     pub words-fit : PayloadInside main s a count → a + 4 * v .words < 2 ^ 32
     words-fit i =
-        let w = words-few main n a count _ e in
+        let w = words-few which main n a count _ e in
         let l = i .inside in
         let h = i .most in
         omega arith

@@ -6,3 +6,4 @@ pub mod AfterLaws
 pub mod RunLaws
 pub mod Theorems
 pub mod BurstLaws
+pub mod UnitLaws

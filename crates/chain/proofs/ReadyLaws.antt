@@ -11,7 +11,8 @@ use Rattle.fields.specs.Fields.{if}
 use Rattle.fields.specs.Refusals.{mainLength, outOfRange, payloadOutside}
 use Rattle.fields.proofs.ChoiceLaws.{if-zero, and-left, and-right, or-left, or-right}
 use Rattle.gif.specs.Range.{pathInRange}
-use Rattle.memories.specs.declared.VifUnit.the-variants.{Vif1}
+use Rattle.memories.specs.declared.VifUnit.{VifUnit}
+use Rattle.memories.specs.declared.VifUnit.the-variants.{Vif0, Vif1}
 use Rattle.memories.specs.Lengths.{Lent, LengthsFit}
 use Rattle.memories.proofs.LengthLaws.{fit-lengths, fit-first}
 use Rattle.vif.specs.Range.{unitInRange}
@@ -21,6 +22,7 @@ use Rattle.chain.specs.declared.Payload.{Payload}
 use Rattle.chain.specs.declared.Payload.the-variants.{Words}
 use Rattle.chain.specs.declared.State.{State}
 use Rattle.chain.specs.Range.{channelInRange, startInRange, stackInRange, tagsInRange, wordsInRange, payloadInRange, stateInRange, mainRefused, tagsInside, payloadInside, entryRefusal}
+use Rattle.chain.specs.Step.{fedUnit, heldBy}
 use Rattle.chain.specs.Inner.{Ready, WordInside, PayloadInside, PayloadNext}
 
 -- the fields of a state in range
@@ -29,7 +31,8 @@ pub record Fields (s : State) : Type 0 where
   pub stack : stackInRange (s .stack) ≡ true
   pub tags : tagsInRange (s .tags) (s .tte) ≡ true
   pub payload : payloadInRange (s .payload) (s .channel) ≡ true
-  pub unit : unitInRange Vif1 (s .vif) ≡ true
+  pub unit0 : unitInRange Vif0 (s .vif0) ≡ true
+  pub unit1 : unitInRange Vif1 (s .vif1) ≡ true
   pub path2 : pathInRange (s .path2) ≡ true
   pub path3 : pathInRange (s .path3) ≡ true
 
@@ -40,25 +43,27 @@ fields-of s h =
     let h2 = and-right (stackInRange (s .stack)) _ h1 in
     let p : (tagsInRange (s .tags) (s .tte) && payloadInRange (s .payload) (s .channel)) ≡ true = and-left _ _ h2 in
     let d = and-right (tagsInRange (s .tags) (s .tte) && payloadInRange (s .payload) (s .channel)) _ h2 in
-    let e = and-right (unitInRange Vif1 (s .vif)) _ d in
+    let u : (unitInRange Vif0 (s .vif0) && unitInRange Vif1 (s .vif1)) ≡ true = and-left _ _ d in
+    let e = and-right (unitInRange Vif0 (s .vif0) && unitInRange Vif1 (s .vif1)) _ d in
     record {
       start = and-left _ _ h;
       stack = and-left _ _ h1;
       tags = and-left _ _ p;
       payload = and-right (tagsInRange (s .tags) (s .tte)) _ p;
-      unit = and-left _ _ d;
+      unit0 = and-left _ _ u;
+      unit1 = and-right (unitInRange Vif0 (s .vif0)) _ u;
       path2 = and-left _ _ e;
       path3 = and-right (pathInRange (s .path2)) _ e;
     }
 
 pub state-of : (s : State) → Fields s → stateInRange s ≡ true
 unfolding stateInRange
-state-of s f = rw (f .start, f .stack, f .tags, f .payload, f .unit, f .path2, f .path3)
+state-of s f = rw (f .start, f .stack, f .tags, f .payload, f .unit0, f .unit1, f .path2, f .path3)
 
 -- what the entry tests say
 pub record Facts (main : List ℕ) (s : State) (m : Lent) : Type 0 where
   pub size : mainRefused (length main) ≡ false
-  pub fit : LengthsFit Vif1 m (s .used)
+  pub fit : LengthsFit (fedUnit s) m (s .used)
   pub fields : Fields s
   pub tags-in : tagsInside (s .tags) (length main) ≡ true
   pub payload-in : payloadInside (s .payload) (length main) ≡ true
@@ -67,7 +72,7 @@ pub facts-of : {main : List ℕ} {s : State} {m : Lent} → Ready main s m → F
 unfolding entryRefusal
 facts-of {main} {s} {m} r =
     let e1 = if-zero (mainRefused (length main)) mainLength (omega arith) (r .passed) in
-    let e2 = fit-first Vif1 m (s .used) (e1 .1) in
+    let e2 = fit-first (fedUnit s) m (s .used) (e1 .1) in
     let e3 = if-zero (not (stateInRange s)) outOfRange (omega arith) (e2 .1) in
     let e4 = if-zero (not (tagsInside (s .tags) (length main) && payloadInside (s .payload) (length main))) payloadOutside (omega arith) (e3 .1) in
     let i = not-false (tagsInside (s .tags) (length main) && payloadInside (s .payload) (length main)) (e4 .0) in
@@ -82,7 +87,7 @@ facts-of {main} {s} {m} r =
 pub ready-of : {main : List ℕ} {s : State} {m : Lent} → Facts main s m → Ready main s m
 unfolding entryRefusal if
 ready-of {main} {s} {m} f =
-    record { passed = rw (f .size, fit-lengths Vif1 m (s .used) (f .fit), state-of s (f .fields), f .tags-in, f .payload-in) }
+    record { passed = rw (f .size, fit-lengths (fedUnit s) m (s .used) (f .fit), state-of s (f .fields), f .tags-in, f .payload-in) }
 
 module _ {main : List ℕ} {s : State} {m : Lent} (r : Ready main s m) where
   facts : Facts main s m
@@ -100,8 +105,13 @@ module _ {main : List ℕ} {s : State} {m : Lent} (r : Ready main s m) where
       let a = or-right (eqb (length main) 0) _ (facts .size) in
       eqb-true (length main % 16) 0 (not-false (eqb (length main % 16) 0) (or-left _ _ a))
 
-  pub unit-ready : StepReady Vif1 (s .vif) (s .path2) (s .used) m
-  unit-ready = record { fit = facts .fit; path-ranged = facts .fields .path2; ranged = facts .fields .unit }
+  -- either unit is in range
+  pub held-ranged : (which : VifUnit) → unitInRange which (heldBy which s) ≡ true
+  held-ranged Vif0 = facts .fields .unit0
+  held-ranged Vif1 = facts .fields .unit1
+
+  pub unit-ready : StepReady (fedUnit s) (heldBy (fedUnit s) s) (s .path2) (s .used) m
+  unit-ready = record { fit = facts .fit; path-ranged = facts .fields .path2; ranged = held-ranged (fedUnit s) }
 
   pub tadr-below : s .tadr < 2 ^ 31
   unfolding startInRange
@@ -127,8 +137,8 @@ module _ {main : List ℕ} {s : State} {m : Lent} (r : Ready main s m) where
       let i = rw (q, ne-eqb n 0 z) at (facts .payload-in) in
       let w = rw (q, ne-eqb n 0 z) at (facts .fields .payload) in
       let w1 = and-right (eqb (at % 4) 0) _ w in
-      let c : (eqb (s .channel) 1 || eqb (at % 16) 0) ≡ true = and-left _ _ w1 in
-      let w2 = and-right (eqb (s .channel) 1 || eqb (at % 16) 0) _ w1 in
+      let c : (not (eqb (s .channel) 2) || eqb (at % 16) 0) ≡ true = and-left _ _ w1 in
+      let w2 = and-right (not (eqb (s .channel) 2) || eqb (at % 16) 0) _ w1 in
       record {
         some = omega arith;
         few = leb-true n 262140 (and-left _ _ w2);

@@ -10,13 +10,14 @@ use Rattle.gif.specs.declared.GifResult.{GifResult}
 use Rattle.gif.specs.Step.{Left as GifLeft, left as gifLeft, gifStep, takeOf as gifTakeOf}
 use Rattle.gif.proofs.RangeLaws.{log-fits}
 use Rattle.gif.proofs.StepLaws.{tested, step-wrote}
-use Rattle.memories.specs.declared.VifUnit.the-variants.{Vif1}
+use Rattle.memories.specs.declared.VifUnit.{VifUnit}
 use Rattle.memories.specs.Lengths.{Lent, lent}
 use Rattle.vif.specs.declared.Incoming.{Incoming}
+use Rattle.vif.specs.declared.Vif.{Vif}
 use Rattle.vif.specs.declared.VifAnswer.{VifAnswer}
 use Rattle.vif.specs.declared.VifAnswer.the-variants.{Word, Quadword, Refused as VifRefused}
 use Rattle.vif.specs.declared.VifResult.{VifResult}
-use Rattle.vif.specs.Step.{Left as VifLeft, left as vifLeft, vifStep, takeOf as vifTakeOf}
+use Rattle.vif.specs.Step.{Left as VifLeft, left as vifLeft, takeOf as vifTakeOf}
 use Rattle.vif.proofs.StepLaws.{vif-tested}
 use Rattle.vif.proofs.KeepLaws.{step-kept}
 use Rattle.chain.specs.declared.TagWords.{TagWords}
@@ -28,13 +29,13 @@ use Rattle.fields.specs.Memory.{longAt}
 use Rattle.chain.specs.Tags.{stepResult}
 use Rattle.vif.specs.Words.{incomingAt}
 use Rattle.chain.specs.Inner.{Ready, WordInside, PayloadInside, QuadwordReady, byTaken}
-use Rattle.chain.specs.Step.{Stepped, stepped, steppedBy, afterVif, givenVif, vifGiven, afterGif, givenGif, gifGiven, payloadOrTag, pendingOrTag}
+use Rattle.chain.specs.Step.{Stepped, stepped, steppedBy, fedUnit, heldBy, afterVif, givenVif, vifTook, vifGiven, afterGif, givenGif, gifGiven, payloadOrTag, pendingOrTag}
 use Rattle.chain.proofs.ReadyLaws.{unit-ready, facts-of}
 
 -- what holds at the case that an arm knows holds at the value itself
-pub by-vif : {a b : VifAnswer} → a ≡ b → (o : VifLeft) (t : TagWords) (p : ℕ → Payload) (s : State) (m : Lent) {x : Stepped}
-    → x ≡ afterVif b o t p s m → x ≡ afterVif a o t p s m
-by-vif q o t p s m h = rw q h
+pub by-vif : {a b : VifAnswer} → a ≡ b → (which : VifUnit) (o : VifLeft) (t : TagWords) (p : ℕ → Payload) (s : State) (m : Lent) {x : Stepped}
+    → x ≡ afterVif which b o t p s m → x ≡ afterVif which a o t p s m
+by-vif q which o t p s m h = rw q h
 
 pub by-gif : {a b : GifAnswer} → a ≡ b → (o : GifLeft) (p : Payload) (s : State) (m : Lent) {x : Stepped} → x ≡ afterGif b o p s m
     → x ≡ afterGif a o p s m
@@ -51,28 +52,34 @@ by-tags e p main s m h = rw e h
 pub same-pending : (main : List ℕ) (a : ℕ) (t : TagWords) (p : ℕ → Payload) (s : State) (m : Lent)
     → vifGiven main a t (byTaken (p 1) (p 4)) s m ≡ vifGiven main a t p s m
 unfolding vifGiven if
-same-pending main a t p s m = go (vifStep Vif1 (s .vif) (s .path2) (incomingAt main a) (s .used) m .answer)
+same-pending main a t p s m = go (vifTook (fedUnit s) main a s m .answer)
   where
-    go : (b : VifAnswer) → afterVif b (vifStep Vif1 (s .vif) (s .path2) (incomingAt main a) (s .used) m) t (byTaken (p 1) (p 4)) s m ≡ afterVif b (vifStep Vif1 (s .vif) (s .path2) (incomingAt main a) (s .used) m) t p s m
+    go : (b : VifAnswer) → afterVif (fedUnit s) b (vifTook (fedUnit s) main a s m) t (byTaken (p 1) (p 4)) s m ≡ afterVif (fedUnit s) b (vifTook (fedUnit s) main a s m) t p s m
     go (Word i) = refl
     go (Quadword i) = refl
     go (VifRefused n) = refl
 
--- a word that VIF1 tested
+-- a word that the channel's unit tested
 module _ {main : List ℕ} {s : State} {m : Lent} (r : Ready main s m) (a : ℕ) (t : TagWords) (p : ℕ → Payload) {n : Incoming} (en : n ≡ incomingAt main a)
-    {v : VifResult} {m′ : Lent} (e : vifLeft v m′ ≡ vifTakeOf Vif1 (s .vif) (s .path2) n (s .used) m) where
-  taken-as : vifLeft v m′ ≡ vifStep Vif1 (s .vif) (s .path2) (incomingAt main a) (s .used) m
-  taken-as = rw en at e ∙ vif-tested Vif1 (s .vif) (s .path2) (incomingAt main a) (s .used) m (unit-ready r)
+    {which : VifUnit} {u : Vif} (ew : which ≡ fedUnit s) (eu : u ≡ heldBy which s) {v : VifResult} {m′ : Lent}
+    (e : vifLeft v m′ ≡ vifTakeOf which u (s .path2) n (s .used) m) where
+  taken-as : vifLeft v m′ ≡ vifTook (fedUnit s) main a s m
+  taken-as =
+      rw (en, eu, ew) at e ∙ vif-tested (fedUnit s) (heldBy (fedUnit s) s) (s .path2) (incomingAt main a) (s .used) m (unit-ready r)
 
-  pub vif-gave : {x : Stepped} → x ≡ givenVif (vifLeft v m′) t p s m → x ≡ vifGiven main a t p s m
+  pub vif-gave : {x : Stepped} → x ≡ givenVif which (vifLeft v m′) t p s m → x ≡ vifGiven main a t p s m
   unfolding vifGiven
-  vif-gave h = h ∙ ap (λ (o : VifLeft). givenVif o t p s m) taken-as
+  vif-gave h = h ∙ rw ew (ap (λ (o : VifLeft). givenVif (fedUnit s) o t p s m) taken-as)
 
   -- a refused word left the memories as they were
   pub vif-same : {k : ℕ} → v .answer ≡ VifRefused k → m′ ≡ m
   vif-same {k} q =
-      let w = step-kept Vif1 (s .vif) (s .path2) (s .used) m (log-fits (m .log) (s .used) (unit-ready r .fit .logged) .holds) (incomingAt main a) in
+      let w = step-kept (fedUnit s) (heldBy (fedUnit s) s) (s .path2) (s .used) m (log-fits (m .log) (s .used) (unit-ready r .fit .logged) .holds) (incomingAt main a) in
       ap (λ (o : VifLeft). o .memories) (taken-as ∙ w .same k (ap (λ (o : VifLeft). o .answer) (sym taken-as) ∙ q))
+
+  -- and the step is refused
+  pub vif-refuses : {k : ℕ} → v .answer ≡ VifRefused k → {x : StepResult} → x ≡ stepResult (Refused k) s → steppedBy x m′ ≡ vifGiven main a t p s m
+  vif-refuses {k} q er = vif-gave (by-vif q which (vifLeft v m′) t p s m (rw er (ap (λ (x : Lent). stepped (Refused k) s x) (vif-same q))))
 
 -- a quadword that the GIF tested
 module _ {main : List ℕ} {s : State} {log : List ℕ} {a : ℕ} (r : QuadwordReady main a s log) (p : Payload) (mem code : List ℕ) {x y : ℕ} (ex : x ≡ longAt main a)
@@ -109,11 +116,3 @@ word-inside p =
     let a = p .aligned in
     let k = p .some in
     record { inside = omega arith; most = p .most }
-
--- a word that VIF1 refused
-pub vif-refuses : {main : List ℕ} {s : State} {m : Lent} → Ready main s m → (a : ℕ) (t : TagWords) (p : ℕ → Payload) {n : Incoming} → n ≡ incomingAt main a
-    → {v : VifResult} {m′ : Lent} → vifLeft v m′ ≡ vifTakeOf Vif1 (s .vif) (s .path2) n (s .used) m → {k : ℕ} → v .answer ≡ VifRefused k
-    → {r : StepResult} → r ≡ stepResult (Refused k) s → steppedBy r m′ ≡ vifGiven main a t p s m
-vif-refuses {main} {s} {m} r a t p en {v} {m′} e {k} q er =
-    vif-gave r a t p en e
-    (by-vif q (vifLeft v m′) t p s m (rw er (ap (λ (x : Lent). stepped (Refused k) s x) (vif-same r a t p en e q))))

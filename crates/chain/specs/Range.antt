@@ -7,7 +7,8 @@ use lib.Dec.{eqb, leb, ltb}
 use Rattle.fields.specs.Fields.{if}
 use Rattle.fields.specs.Refusals.{mainLength, outOfRange, payloadOutside}
 use Rattle.gif.specs.Range.{pathInRange}
-use Rattle.memories.specs.declared.VifUnit.the-variants.{Vif1}
+use Rattle.memories.specs.declared.VifUnit.{VifUnit}
+use Rattle.memories.specs.declared.VifUnit.the-variants.{Vif0, Vif1}
 use Rattle.memories.specs.Lengths.{Lent, lengthsRefusal}
 use Rattle.vif.specs.Range.{unitInRange}
 use Rattle.chain.specs.declared.Stack.{Stack}
@@ -18,9 +19,15 @@ use Rattle.chain.specs.declared.Payload.{Payload}
 use Rattle.chain.specs.declared.Payload.the-variants.{Nothing as NoPayload, Words}
 use Rattle.chain.specs.declared.State.{State}
 
--- "5 a state or start value outside the range of its field (TADR a multiple of 16 below 2^31, channel 1 or 2, TTE on channel 2)": TTE is off on channel 2
+-- Request 10: "On channel 0 tag words go to VIF0"; "2 and 3 test VIF0's sizes on channel 0, else VIF1's": the unit by the channel, also by one that is out of
+-- its range
+unfoldable pub unitOf : ℕ → VifUnit
+unitOf channel = if (eqb channel 0) Vif0 Vif1
+
+-- "5 a state or start value outside the range of its field (TADR a multiple of 16 below 2^31, channel 1 or 2, TTE on channel 2)": TTE is off on channel 2.
+-- Request 10: "5 admits channel 0".
 unfoldable pub channelInRange : ℕ → Bool → Bool
-channelInRange channel tte = eqb channel 1 || (eqb channel 2 && not tte)
+channelInRange channel tte = eqb channel 0 || (eqb channel 1 || (eqb channel 2 && not tte))
 
 unfoldable pub startInRange : ℕ → ℕ → Bool → Bool
 startInRange channel tadr tte = channelInRange channel tte && (eqb (tadr % 16) 0 && ltb tadr (2 ^ 31))
@@ -47,18 +54,19 @@ tagsInRange (From a) tte = tagWordInRange a tte
 unfoldable pub wordsInRange : ℕ → ℕ → ℕ → Bool
 wordsInRange channel at n =
     eqb n 0
-    || (eqb (at % 4) 0 && ((eqb channel 1 || eqb (at % 16) 0) && (leb n 262140 && eqb ((at / 4 + n) % 4) 0)))
+    || (eqb (at % 4) 0 && ((not (eqb channel 2) || eqb (at % 16) 0) && (leb n 262140 && eqb ((at / 4 + n) % 4) 0)))
 
 unfoldable pub payloadInRange : Payload → ℕ → Bool
 payloadInRange NoPayload channel = true
 payloadInRange (Words at n) channel = wordsInRange channel at n
 
+-- request 10: "The state keeps its registers and waiting code apart from VIF1's"; both are tested on every channel
 unfoldable pub stateInRange : State → Bool
 stateInRange s =
     startInRange (s .channel) (s .tadr) (s .tte)
     && (stackInRange (s .stack)
     && ((tagsInRange (s .tags) (s .tte) && payloadInRange (s .payload) (s .channel))
-    && (unitInRange Vif1 (s .vif) && (pathInRange (s .path2) && pathInRange (s .path3)))))
+    && ((unitInRange Vif0 (s .vif0) && unitInRange Vif1 (s .vif1)) && (pathInRange (s .path2) && pathInRange (s .path3)))))
 
 -- "1 main memory length 0, not a multiple of 16 or above 1,048,576"
 unfoldable pub mainRefused : ℕ → Bool
@@ -77,7 +85,7 @@ payloadInside (Words at n) size = eqb n 0 || leb (at + 4 * n) size
 unfoldable pub entryRefusal : List ℕ → Lent → State → ℕ
 entryRefusal main m s =
     if (mainRefused (length main)) mainLength
-    (if (not (eqb (lengthsRefusal Vif1 m (s .used)) 0)) (lengthsRefusal Vif1 m (s .used))
+    (if (not (eqb (lengthsRefusal (unitOf (s .channel)) m (s .used)) 0)) (lengthsRefusal (unitOf (s .channel)) m (s .used))
     (if (not (stateInRange s)) outOfRange
     (if (not (tagsInside (s .tags) (length main) && payloadInside (s .payload) (length main))) payloadOutside
     0)))

@@ -2,6 +2,8 @@
 use Prim.Native.Nat.{ℕ}
 use mathlib.Core.Bool.{Bool}
 use Rattle.gif.specs.declared.Path.{Path}
+use Rattle.memories.specs.declared.VifUnit.{VifUnit}
+use Rattle.memories.specs.declared.VifUnit.the-variants.{Vif0, Vif1}
 use Rattle.vif.specs.declared.Vif.{Vif}
 use Rattle.chain.specs.declared.Stack.{Stack}
 use Rattle.chain.specs.declared.TagWords.{TagWords}
@@ -20,7 +22,8 @@ withTag s a e k t p =
       tags = t;
       payload = p;
       used = s .used;
-      vif = s .vif;
+      vif0 = s .vif0;
+      vif1 = s .vif1;
       path2 = s .path2;
       path3 = s .path3;
     }
@@ -37,14 +40,20 @@ withPending s t p =
       tags = t;
       payload = p;
       used = s .used;
-      vif = s .vif;
+      vif0 = s .vif0;
+      vif1 = s .vif1;
       path2 = s .path2;
       path3 = s .path3;
     }
 
--- VIF1, path 2 and the entries used
-abbrev pub withUnit : State → Vif → Path → ℕ → State
-withUnit s v p n =
+-- one of two, by the unit
+abbrev pub pickUnit : VifUnit → Vif → Vif → Vif
+pickUnit Vif0 a b = a
+pickUnit Vif1 a b = b
+
+-- a unit, path 2 and the entries used
+abbrev pub withUnit : VifUnit → State → Vif → Path → ℕ → State
+withUnit which s v p n =
     record {
       channel = s .channel;
       tadr = s .tadr;
@@ -54,7 +63,8 @@ withUnit s v p n =
       tags = s .tags;
       payload = s .payload;
       used = n;
-      vif = v;
+      vif0 = pickUnit which v (s .vif0);
+      vif1 = pickUnit which (s .vif1) v;
       path2 = p;
       path3 = s .path3;
     }
@@ -71,7 +81,8 @@ withPath3 s p n =
       tags = s .tags;
       payload = s .payload;
       used = n;
-      vif = s .vif;
+      vif0 = s .vif0;
+      vif1 = s .vif1;
       path2 = s .path2;
       path3 = p;
     }
@@ -88,7 +99,8 @@ withStart s c a b e k t p =
       tags = t;
       payload = p;
       used = s .used;
-      vif = s .vif;
+      vif0 = s .vif0;
+      vif1 = s .vif1;
       path2 = s .path2;
       path3 = s .path3;
     }

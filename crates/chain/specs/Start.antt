@@ -58,7 +58,8 @@ resetState =
       tags = NoTagWords;
       payload = NoPayload;
       used = 0;
-      vif = resetUnit;
+      vif0 = resetUnit;
+      vif1 = resetUnit;
       path2 = resetPath;
       path3 = resetPath;
     }

@@ -7,8 +7,9 @@ use Rattle.fields.specs.Fields.{if}
 use Rattle.gif.specs.declared.GifAnswer.{GifAnswer}
 use Rattle.gif.specs.declared.GifAnswer.the-variants.{Taken, Refused as GifRefused}
 use Rattle.gif.specs.Step.{Left as GifLeft, gifStep}
-use Rattle.memories.specs.declared.VifUnit.the-variants.{Vif1}
+use Rattle.memories.specs.declared.VifUnit.{VifUnit}
 use Rattle.memories.specs.Lengths.{Lent, lent}
+use Rattle.vif.specs.declared.Vif.{Vif}
 use Rattle.vif.specs.declared.VifAnswer.{VifAnswer}
 use Rattle.vif.specs.declared.VifAnswer.the-variants.{Word, Quadword, Refused as VifRefused}
 use Rattle.vif.specs.Step.{Left as VifLeft, vifStep}
@@ -21,7 +22,8 @@ use Rattle.chain.specs.declared.StepAnswer.the-variants.{Completed, Refu
 use Rattle.chain.specs.declared.StepResult.{StepResult}
 use Rattle.chain.specs.declared.State.{State}
 use Rattle.fields.specs.Memory.{quadwordAt}
-use Rattle.chain.specs.Setters.{withPending, withUnit, withPath3}
+use Rattle.chain.specs.Setters.{pickUnit, withPending, withUnit, withPath3}
+use Rattle.chain.specs.Range.{unitOf}
 use Rattle.chain.specs.Tags.{tagStep}
 use Rattle.vif.specs.Words.{incomingAt}
 use Rattle.chain.specs.Pending.{tagsAfter, payloadAfter}
@@ -45,17 +47,29 @@ stepped a s m = record { answer = a; after = machine s m }
 abbrev pub steppedBy : StepResult → Lent → Stepped
 steppedBy r m = stepped (r .answer) (r .state) m
 
--- a word or quadword that VIF1 was given, by what it made of it; t and p are what is then pending, p by the number of words taken
-abbrev pub afterVif : VifAnswer → VifLeft → TagWords → (ℕ → Payload) → State → Lent → Stepped
-afterVif (Word i) o t p s m = stepped (Completed i) (withPending (withUnit s (o .unit) (o .path2) (o .used)) t (p 1)) (o .memories)
-afterVif (Quadword i) o t p s m = stepped (Completed i) (withPending (withUnit s (o .unit) (o .path2) (o .used)) t (p 4)) (o .memories)
-afterVif (VifRefused n) o t p s m = stepped (Refused n) s m
+-- the unit that the chain's words go to, by the channel
+abbrev pub fedUnit : State → VifUnit
+fedUnit s = unitOf (s .channel)
 
-abbrev pub givenVif : VifLeft → TagWords → (ℕ → Payload) → State → Lent → Stepped
-givenVif o t p s m = afterVif (o .answer) o t p s m
+-- a unit's registers and waiting code, of which the state has two
+abbrev pub heldBy : VifUnit → State → Vif
+heldBy which s = pickUnit which (s .vif0) (s .vif1)
+
+-- a word or quadword that a unit was given, by what it made of it; t and p are what is then pending, p by the number of words taken
+abbrev pub afterVif : VifUnit → VifAnswer → VifLeft → TagWords → (ℕ → Payload) → State → Lent → Stepped
+afterVif which (Word i) o t p s m = stepped (Completed i) (withPending (withUnit which s (o .unit) (o .path2) (o .used)) t (p 1)) (o .memories)
+afterVif which (Quadword i) o t p s m = stepped (Completed i) (withPending (withUnit which s (o .unit) (o .path2) (o .used)) t (p 4)) (o .memories)
+afterVif which (VifRefused n) o t p s m = stepped (Refused n) s m
+
+abbrev pub givenVif : VifUnit → VifLeft → TagWords → (ℕ → Payload) → State → Lent → Stepped
+givenVif which o t p s m = afterVif which (o .answer) o t p s m
+
+-- the step of a unit with the word at an address
+abbrev pub vifTook : VifUnit → List ℕ → ℕ → State → Lent → VifLeft
+vifTook which main a s m = vifStep which (heldBy which s) (s .path2) (incomingAt main a) (s .used) m
 
 unfoldable pub vifGiven : List ℕ → ℕ → TagWords → (ℕ → Payload) → State → Lent → Stepped
-vifGiven main a t p s m = givenVif (vifStep Vif1 (s .vif) (s .path2) (incomingAt main a) (s .used) m) t p s m
+vifGiven main a t p s m = givenVif (fedUnit s) (vifTook (fedUnit s) main a s m) t p s m
 
 -- a quadword that path 3 was given
 abbrev pub afterGif : GifAnswer → GifLeft → Payload → State → Lent → Stepped
@@ -78,7 +92,7 @@ abbrev pub payloadOrTag : Payload → List ℕ → State → Lent → Stepped
 payloadOrTag NoPayload main s m = steppedBy (tagStep main s) m
 payloadOrTag (Words at n) main s m = if (eqb n 0) (steppedBy (tagStep main s) m) (payloadStep main at n s m)
 
--- "words 2 and 3 of the tag go to VIF1 before the payload"
+-- "words 2 and 3 of the tag go to VIF1 before the payload"; request 10: "On channel 0 tag words go to VIF0."
 abbrev pub pendingOrTag : TagWords → Payload → List ℕ → State → Lent → Stepped
 pendingOrTag NoTagWords p main s m = payloadOrTag p main s m
 pendingOrTag (From a) p main s m = vifGiven main a (tagsAfter a) (λ k. s .payload) s m

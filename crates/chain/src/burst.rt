@@ -1,13 +1,14 @@
-// Many steps in one call: payload given to VIF1 or to path 3.
+// Many steps in one call: payload given to a unit or to path 3.
 use super::BurstResult;
 use super::Payload;
 use super::State;
 use super::TagWords;
 use super::pending::payload_after;
+use super::range::unit_of;
+use super::setters::held_by;
 use super::setters::with_path3;
 use super::setters::with_pending;
 use super::setters::with_unit;
-use memories::VifUnit;
 ghost use mathlib.Core.Path.{_≡_};
 ghost use mathlib.Core.Bool.{false};
 ghost use mathlib.Core.List.{List};
@@ -17,7 +18,7 @@ ghost use Rattle.chain.specs.declared.TagWords.the-variants.{Nothing};
 ghost use Rattle.chain.specs.Inner.{Ready, PayloadNext, PayloadInside, Burst, burstResult};
 ghost use Rattle.chain.specs.Step.{machine};
 
-// The payload's words, given to VIF1.
+// The payload's words, given to the channel's unit.
 fn give_words(
     main: &[u8],
     at: u32,
@@ -32,10 +33,11 @@ fn give_words(
     ensures { λ r. ⌜ Burst (now (main .entry)) limit (machine s (lent (now («data» .entry)) (now (code .entry)) (now (log .entry))))
         (r .interrupt) (r .steps) (machine (r .state) (lent (now («data» .exit)) (now (code .exit)) (now (log .exit)))) ⌝ }
 {
-    let unit = s.vif;
+    let which = unit_of(s.channel);
+    let unit = held_by(which, s);
     let path2 = s.path2;
     let r = vif::take_words(
-        VifUnit::Vif1,
+        which,
         unit,
         path2,
         main,
@@ -51,7 +53,11 @@ fn give_words(
     let path = r.path2;
     let rest = payload_after(at, count, r.words);
     BurstResult {
-        state: with_pending(with_unit(s, after, path, r.used), TagWords::Nothing, rest),
+        state: with_pending(
+            with_unit(which, s, after, path, r.used),
+            TagWords::Nothing,
+            rest,
+        ),
         steps: r.steps,
         interrupt: r.interrupt,
     }

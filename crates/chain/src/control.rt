@@ -54,7 +54,8 @@ fn reset_unit() -> Vif
 pub fn reset() -> State
     ensures { λ r. ⌜ r ≡ resetState ⌝ }
 {
-    let vif = reset_unit();
+    let vif0 = reset_unit();
+    let vif1 = reset_unit();
     let path2 = reset_path();
     let path3 = reset_path();
     State {
@@ -66,7 +67,8 @@ pub fn reset() -> State
         tags: TagWords::Nothing,
         payload: Payload::Nothing,
         used: 0,
-        vif,
+        vif0,
+        vif1,
         path2,
         path3,
     }

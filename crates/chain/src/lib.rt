@@ -1,4 +1,4 @@
-// The DMA chain on channel 1 (VIF1) or 2 (GIF): state, start and run. What each function means is said by the definitions of specs/.
+// The DMA chain on channel 0 (VIF0), 1 (VIF1) or 2 (GIF): state, start and run. What each function means is said by the definitions of specs/.
 mod burst;
 mod control;
 mod execution;
@@ -40,7 +40,8 @@ pub struct State {
     pub tags: TagWords,
     pub payload: Payload,
     pub used: u64,
-    pub vif: vif::Vif,
+    pub vif0: vif::Vif,
+    pub vif1: vif::Vif,
     pub path2: gif::Path,
     pub path3: gif::Path,
 }

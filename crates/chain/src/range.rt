@@ -7,18 +7,31 @@ use fields::refusals;
 use memories::VifUnit;
 use memories::lengths_refusal;
 ghost use mathlib.Core.Path.{_≡_};
-ghost use mathlib.Core.Bool.{_&&_, _||_};
+ghost use mathlib.Core.Bool.{not, _&&_, _||_};
 ghost use Prim.Native.Nat.{_+_, _*_, _%_};
 ghost use lib.Dec.{eqb, leb};
 ghost use Rattle.gif.specs.Range.{pathInRange};
-ghost use Rattle.memories.specs.declared.VifUnit.the-variants.{Vif1};
+ghost use Rattle.memories.specs.declared.VifUnit.the-variants.{Vif0, Vif1};
 ghost use Rattle.memories.specs.Lengths.{lent};
 ghost use Rattle.vif.specs.Range.{unitInRange};
-ghost use Rattle.chain.specs.Range.{channelInRange, startInRange, entryInRange, stackInRange, tagWordInRange, tagsInRange, wordsInRange, payloadInRange, stateInRange, mainRefused, tagsInside, payloadInside, entryRefusal};
+ghost use Rattle.chain.specs.Range.{unitOf, channelInRange, startInRange, entryInRange, stackInRange, tagWordInRange, tagsInRange, wordsInRange, payloadInRange, stateInRange, mainRefused, tagsInside, payloadInside, entryRefusal};
+
+// The unit by the channel.
+pub(crate) fn unit_of(channel: u32) -> VifUnit
+    ensures { λ r. ⌜ r ≡ unitOf channel ⌝ }
+{
+    if channel == 0 {
+        return VifUnit::Vif0;
+    }
+    VifUnit::Vif1
+}
 
 fn channel_in_range(channel: u32, tte: bool) -> bool
     ensures { λ r. ⌜ r ≡ channelInRange channel tte ⌝ }
 {
+    if channel == 0 {
+        return true;
+    }
     if channel == 1 {
         return true;
     }
@@ -89,9 +102,9 @@ fn tags_in_range(tags: TagWords, tte: bool) -> bool
 }
 
 fn aligned(channel: u32, at: u32) -> bool
-    ensures { λ r. ⌜ r ≡ (eqb channel 1 || eqb (at % 16) 0) ⌝ }
+    ensures { λ r. ⌜ r ≡ (not (eqb channel 2) || eqb (at % 16) 0) ⌝ }
 {
-    if channel == 1 {
+    if channel != 2 {
         return true;
     }
     at % 16 == 0
@@ -123,13 +136,23 @@ fn payload_in_range(payload: Payload, channel: u32) -> bool
     }
 }
 
-fn devices_in_range(s: State) -> bool
-    ensures { λ r. ⌜ r ≡ (unitInRange Vif1 (s .vif) && (pathInRange (s .path2) && pathInRange (s .path3))) ⌝ }
+fn units_in_range(s: State) -> bool
+    ensures { λ r. ⌜ r ≡ (unitInRange Vif0 (s .vif0) && unitInRange Vif1 (s .vif1)) ⌝ }
 {
-    let unit = s.vif;
+    let vif0 = s.vif0;
+    let vif1 = s.vif1;
+    if vif::unit_in_range(VifUnit::Vif0, vif0) {
+        return vif::unit_in_range(VifUnit::Vif1, vif1);
+    }
+    false
+}
+
+fn devices_in_range(s: State) -> bool
+    ensures { λ r. ⌜ r ≡ ((unitInRange Vif0 (s .vif0) && unitInRange Vif1 (s .vif1)) && (pathInRange (s .path2) && pathInRange (s .path3))) ⌝ }
+{
     let path2 = s.path2;
     let path3 = s.path3;
-    if vif::unit_in_range(VifUnit::Vif1, unit) {
+    if units_in_range(s) {
         if gif::path_in_range(path2) {
             return gif::path_in_range(path3);
         }
@@ -221,7 +244,7 @@ pub(crate) fn entry_refusal(main: &[u8], data: &[u32], code: &[u8], log: &[u64],
     if main_refused(main.len()) {
         return refusals::MAIN_LENGTH;
     }
-    let refusal = lengths_refusal(VifUnit::Vif1, data, code, log, s.used);
+    let refusal = lengths_refusal(unit_of(s.channel), data, code, log, s.used);
     if refusal != 0 {
         return refusal;
     }

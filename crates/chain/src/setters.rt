@@ -4,9 +4,11 @@ use super::Stack;
 use super::State;
 use super::TagWords;
 use gif::Path;
+use memories::VifUnit;
 use vif::Vif;
 ghost use mathlib.Core.Path.{_≡_};
 ghost use Rattle.chain.specs.Setters.{withTag, withPending, withUnit, withPath3, withStart};
+ghost use Rattle.chain.specs.Step.{heldBy};
 
 pub(crate) fn with_tag(
     s: State,
@@ -34,14 +36,34 @@ pub(crate) fn with_pending(s: State, tags: TagWords, payload: Payload) -> State
     State { tags, payload, ..s }
 }
 
-pub(crate) fn with_unit(s: State, vif: Vif, path2: Path, used: u64) -> State
-    ensures { λ r. ⌜ r ≡ withUnit s vif path2 used ⌝ }
+// A unit's registers and waiting code.
+pub(crate) fn held_by(which: VifUnit, s: State) -> Vif
+    ensures { λ r. ⌜ r ≡ heldBy which s ⌝ }
 {
-    State {
-        vif,
-        path2,
-        used,
-        ..s
+    let vif0 = s.vif0;
+    let vif1 = s.vif1;
+    match which {
+        VifUnit::Vif0 => vif0,
+        VifUnit::Vif1 => vif1,
+    }
+}
+
+pub(crate) fn with_unit(which: VifUnit, s: State, unit: Vif, path2: Path, used: u64) -> State
+    ensures { λ r. ⌜ r ≡ withUnit which s unit path2 used ⌝ }
+{
+    match which {
+        VifUnit::Vif0 => State {
+            vif0: unit,
+            path2,
+            used,
+            ..s
+        },
+        VifUnit::Vif1 => State {
+            vif1: unit,
+            path2,
+            used,
+            ..s
+        },
     }
 }
 

@@ -6,6 +6,8 @@ use super::StepResult;
 use super::TagWords;
 use super::pending::payload_after;
 use super::pending::tags_after;
+use super::range::unit_of;
+use super::setters::held_by;
 use super::setters::with_path3;
 use super::setters::with_pending;
 use super::setters::with_unit;
@@ -13,7 +15,6 @@ use super::tags::answered;
 use super::tags::take_tag;
 use fields::long_at;
 use gif::GifAnswer;
-use memories::VifUnit;
 use vif::VifAnswer;
 use vif::incoming_at;
 ghost use mathlib.Core.Path.{_≡_};
@@ -23,7 +24,7 @@ ghost use Rattle.memories.specs.Lengths.{lent};
 ghost use Rattle.chain.specs.Step.{steppedBy, vifGiven, gifGiven, payloadStep, payloadOrTag, stepOf};
 ghost use Rattle.chain.specs.Inner.{Ready, WordInside, PayloadInside, QuadwordReady, byTaken};
 
-// The word at an address given to VIF1; then `tags` is pending, and of the payload `one` or, where a quadword was taken, `four`.
+// The word at an address given to the channel's unit; then `tags` is pending, and of the payload `one` or, where a quadword was taken, `four`.
 fn give_vif(
     main: &[u8],
     a: u32,
@@ -39,21 +40,22 @@ fn give_vif(
     ensures { λ r. ⌜ steppedBy r (lent (now («data» .exit)) (now (code .exit)) (now (log .exit)))
         ≡ vifGiven (now (main .entry)) a tags (byTaken one four) s (lent (now («data» .entry)) (now (code .entry)) (now (log .entry))) ⌝ }
 {
-    let unit = s.vif;
+    let which = unit_of(s.channel);
+    let unit = held_by(which, s);
     let path2 = s.path2;
     let next = incoming_at(main, a);
-    let r = vif::take(VifUnit::Vif1, unit, path2, next, data, code, log, s.used);
+    let r = vif::take(which, unit, path2, next, data, code, log, s.used);
     let answer = r.answer;
     let after = r.unit;
     let path = r.path2;
     match answer {
         VifAnswer::Word(i) => answered(
             StepAnswer::Completed(i),
-            with_pending(with_unit(s, after, path, r.used), tags, one),
+            with_pending(with_unit(which, s, after, path, r.used), tags, one),
         ),
         VifAnswer::Quadword(i) => answered(
             StepAnswer::Completed(i),
-            with_pending(with_unit(s, after, path, r.used), tags, four),
+            with_pending(with_unit(which, s, after, path, r.used), tags, four),
         ),
         VifAnswer::Refused(n) => answered(StepAnswer::Refused(n), s),
     }

@@ -1,16 +1,12 @@
 use borrow.Author.Tests.{eq-eqb, ne-eqb}
 use Rattle.chain.proofs.range.aligned.Statement.{statement}
 use Rattle.chain.proofs.range.aligned.Tie as tie
-use Rattle.chain.proofs.range.aligned.Reads as reads
-use Rattle.chain.proofs.range.aligned.Lts as lts
 
--- src/range.rt:91:9
 returns : tie.Need-returns
-returns c = rw (eq-eqb _ _ (c .if1 .taken))
+returns c = rw (ne-eqb _ _ (c .if1 .taken))
 
--- src/range.rt:87:1
 returns-2 : tie.Need-returns-2
-returns-2 c = rw (ne-eqb _ _ (c .if1 .left))
+returns-2 c = rw (eq-eqb _ _ (c .if1 .left))
 
 pub aligned-spec : {M : Type 1} → statement M
 aligned-spec = tie.close (tie.spec returns returns-2)

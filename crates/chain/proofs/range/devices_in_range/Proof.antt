@@ -4,13 +4,13 @@ use Rattle.chain.proofs.range.devices_in_range.Statement.{statement}
 use Rattle.chain.proofs.range.devices_in_range.Tie as tie
 
 returns : tie.Need-returns
-returns c = rw (sym (c .before .before .before .before .unit-in-range .ensures) ∙ c .before .before .before .if1 .taken, sym (c .before .before .path-in-range .ensures) ∙ c .before .if2 .taken) (c .path-in-range2 .ensures)
+returns c = rw (sym (c .before .before .before .before .units-in-range .ensures) ∙ c .before .before .before .if1 .taken, sym (c .before .before .path-in-range .ensures) ∙ c .before .if2 .taken) (c .path-in-range2 .ensures)
 
 returns-2 : tie.Need-returns-2
-returns-2 c = rw (sym (c .before .before .before .unit-in-range .ensures) ∙ c .before .before .if1 .taken, sym (c .before .path-in-range .ensures) ∙ c .if2 .left)
+returns-2 c = rw (sym (c .before .before .before .units-in-range .ensures) ∙ c .before .before .if1 .taken, sym (c .before .path-in-range .ensures) ∙ c .if2 .left)
 
 returns-3 : tie.Need-returns-3
-returns-3 c = rw (sym (c .before .unit-in-range .ensures) ∙ c .if1 .left)
+returns-3 c = rw (sym (c .before .units-in-range .ensures) ∙ c .if1 .left)
 
 pub devices-in-range-spec : {M : Type 1} → statement M
 devices-in-range-spec =

@@ -11,10 +11,11 @@ unfolding if
 word c =
     let took = c .before .before .before .before .before .before .before .before .before .before .before .before .before .before in
     let came = took .before .before .before .before in
-    let start = came .before .before .before .before .before .before .before in
+    let held = came .before .before in
+    let start = held .before .before .before .before .before .before in
     let a = start .args in
-    vif-gave (start .pre .0) (a .a) (a .tags) (byTaken (a .one) (a .four)) (came .incoming-at .ensures) (took .take .ensures)
-    (by-vif (c .before .before .before .before .answer .given .1) _ _ _ _ _
+    vif-gave (start .pre .0) (a .a) (a .tags) (byTaken (a .one) (a .four)) (came .incoming-at .ensures) (held .before .unit-of .ensures) (held .held-by .ensures) (took .take .ensures)
+    (by-vif (c .before .before .before .before .answer .given .1) _ _ _ _ _ _
     (rw (c .answered .ensures, c .before .with-pending .ensures, c .before .before .with-unit .ensures)))
 
 quadword : tie.Need-returns-2
@@ -22,22 +23,27 @@ unfolding if
 quadword c =
     let took = c .before .before .before .before .before .before .before .before .before .before .before .before .before .before in
     let came = took .before .before .before .before in
-    let start = came .before .before .before .before .before .before .before in
+    let held = came .before .before in
+    let start = held .before .before .before .before .before .before in
     let a = start .args in
-    vif-gave (start .pre .0) (a .a) (a .tags) (byTaken (a .one) (a .four)) (came .incoming-at .ensures) (took .take .ensures)
-    (by-vif (c .before .before .before .before .answer2 .given .1) _ _ _ _ _
+    vif-gave (start .pre .0) (a .a) (a .tags) (byTaken (a .one) (a .four)) (came .incoming-at .ensures) (held .before .unit-of .ensures) (held .held-by .ensures) (took .take .ensures)
+    (by-vif (c .before .before .before .before .answer2 .given .1) _ _ _ _ _ _
     (rw (c .answered2 .ensures, c .before .with-pending2 .ensures, c .before .before .with-unit2 .ensures)))
 
 refused : tie.Need-returns-3
 refused c =
     let took = c .before .before .before .before .before .before .before .before .before .before .before .before in
     let came = took .before .before .before .before in
-    vif-refuses (came .before .before .before .before .before .before .before .pre .0) _ _ _ (came .incoming-at .ensures) (took .take .ensures) (c .before .before .answer3 .given .1) (c .answered3 .ensures)
+    let held = came .before .before in
+    let start = held .before .before .before .before .before .before in
+    vif-refuses (start .pre .0) _ _ _ (came .incoming-at .ensures) (held .before .unit-of .ensures) (held .held-by .ensures) (took .take .ensures) (c .before .before .answer3 .given .1) (c .answered3 .ensures)
 
 pub give-vif-spec : {M : Type 1} → statement M
 give-vif-spec =
     tie.close
     (tie.spec
+    (λ c κs. search needs)
+    (λ c κs. search needs)
     (λ c κs. search needs)
     (λ c κs. search needs)
     (λ c. search needs)
