@@ -20,7 +20,7 @@ use Rattle.chain.specs.declared.State.{State}
 use Rattle.state_block.specs.declared.ReadPath.{ReadPath}
 use Rattle.state_block.specs.declared.ReadUnit.{ReadUnit}
 use Rattle.state_block.specs.declared.ReadState.{ReadState}
-use Rattle.state_block.specs.Sizes.{pathSize, unitSize, chainSize, unitAt, path2At, path3At, stateSize, part}
+use Rattle.state_block.specs.Sizes.{pathSize, unitSize, chainSize, vif1At, path2At, path3At, vif0At, stateSize, part}
 use Rattle.state_block.specs.PathBlock.{pathBlock, pathInBlock}
 use Rattle.state_block.specs.UnitBlock.{unitBlock, unitInBlock}
 use Rattle.state_block.specs.StateBlock.{stackWords, tagWords, payloadWords, chainWords, stateBlock, chainExists, stackInBlock, tagsInBlock, payloadInBlock, usedInBlock, heldState, noState, readState, stateWith, stateInBlock}
@@ -32,13 +32,14 @@ use Rattle.state_block.proofs.UnitLaws.{unit-length, unit-back}
 -- ---- the parts of a block
 
 -- the parts that lie in a block
-pub record Parts (block u p q : List ℕ) : Type 0 where
+pub record Parts (block u p q v : List ℕ) : Type 0 where
   pub all : length block ≡ stateSize
-  pub unit : part unitAt unitSize block ≡ u
+  pub vif1 : part vif1At unitSize block ≡ u
   pub path2 : part path2At pathSize block ≡ p
   pub path3 : part path3At pathSize block ≡ q
+  pub vif0 : part vif0At unitSize block ≡ v
 
-module _ (c u p q : List ℕ) (hc : length c ≡ chainSize) (hu : length u ≡ unitSize) (hp : length p ≡ pathSize) (hq : length q ≡ pathSize) where
+module _ (c u p q v : List ℕ) (hc : length c ≡ chainSize) (hu : length u ≡ unitSize) (hp : length p ≡ pathSize) (hq : length q ≡ pathSize) (hv : length v ≡ unitSize) where
   -- the words before each part
   to-path2 : length (c ++ u) ≡ path2At
   to-path2 = rw (length-append c u, hc, hu)
@@ -46,50 +47,62 @@ module _ (c u p q : List ℕ) (hc : length c ≡ chainSize) (hu : length u ≡ u
   to-path3 : length (c ++ u ++ p) ≡ path3At
   to-path3 = rw (length-append (c ++ u) p, to-path2, hp)
 
-  all-words : length (c ++ u ++ p ++ q) ≡ stateSize
-  all-words = rw (length-append (c ++ u ++ p) q, to-path3, hq)
+  to-vif0 : length (c ++ u ++ p ++ q) ≡ vif0At
+  to-vif0 = rw (length-append (c ++ u ++ p) q, to-path3, hq)
 
-  taken-apart : Parts (c ++ u ++ p ++ q) u p q
+  all-words : length (c ++ u ++ p ++ q ++ v) ≡ stateSize
+  all-words = rw (length-append (c ++ u ++ p ++ q) v, to-vif0, hv)
+
+  taken-apart : Parts (c ++ u ++ p ++ q ++ v) u p q v
   taken-apart =
       record {
         all = all-words;
-        unit =
-            part-kept (c ++ u ++ p) q unitAt unitSize (omega (arith, to-path3))
-            ∙ part-kept (c ++ u) p unitAt unitSize (omega (arith, to-path2))
-            ∙ part-last c u unitAt unitSize hc hu;
-        path2 = part-kept (c ++ u ++ p) q path2At pathSize (omega (arith, to-path3)) ∙ part-last (c ++ u) p path2At pathSize to-path2 hp;
-        path3 = part-last (c ++ u ++ p) q path3At pathSize to-path3 hq;
+        vif1 =
+            part-kept (c ++ u ++ p ++ q) v vif1At unitSize (omega (arith, to-vif0))
+            ∙ part-kept (c ++ u ++ p) q vif1At unitSize (omega (arith, to-path3))
+            ∙ part-kept (c ++ u) p vif1At unitSize (omega (arith, to-path2))
+            ∙ part-last c u vif1At unitSize hc hu;
+        path2 =
+            part-kept (c ++ u ++ p ++ q) v path2At pathSize (omega (arith, to-vif0))
+            ∙ part-kept (c ++ u ++ p) q path2At pathSize (omega (arith, to-path3))
+            ∙ part-last (c ++ u) p path2At pathSize to-path2 hp;
+        path3 = part-kept (c ++ u ++ p ++ q) v path3At pathSize (omega (arith, to-vif0)) ∙ part-last (c ++ u ++ p) q path3At pathSize to-path3 hq;
+        vif0 = part-last (c ++ u ++ p ++ q) v vif0At unitSize to-vif0 hv;
       }
 
   -- stored one after another
-  stored : (z : List ℕ) {b b′ b″ b‴ : List ℕ} → length z ≡ stateSize
-      → b ≡ withWords z 0 c
-      → b′ ≡ withWords b unitAt u
-      → b″ ≡ withWords b′ path2At p
-      → b‴ ≡ withWords b″ path3At q
-      → b‴ ≡ c ++ u ++ p ++ q
-  stored z n e f g h =
-      let b = begins-more (begins-none z n) c 0 chainSize refl hc (omega arith) e in
-      let b′ = begins-more b u unitAt unitSize hc hu (omega arith) f in
-      let b″ = begins-more b′ p path2At pathSize to-path2 hp (omega arith) g in
-      let b‴ = begins-more b″ q path3At pathSize to-path3 hq (omega arith) h in
-      begins-all b‴ all-words
+  stored : (z : List ℕ) {b1 b2 b3 b4 b5 : List ℕ} → length z ≡ stateSize
+      → b1 ≡ withWords z 0 c
+      → b2 ≡ withWords b1 vif1At u
+      → b3 ≡ withWords b2 path2At p
+      → b4 ≡ withWords b3 path3At q
+      → b5 ≡ withWords b4 vif0At v
+      → b5 ≡ c ++ u ++ p ++ q ++ v
+  stored z n e f g h i =
+      let b1 = begins-more (begins-none z n) c 0 chainSize refl hc (omega arith) e in
+      let b2 = begins-more b1 u vif1At unitSize hc hu (omega arith) f in
+      let b3 = begins-more b2 p path2At pathSize to-path2 hp (omega arith) g in
+      let b4 = begins-more b3 q path3At pathSize to-path3 hq (omega arith) h in
+      let b5 = begins-more b4 v vif0At unitSize to-vif0 hv (omega arith) i in
+      begins-all b5 all-words
 
 -- the words of a state, stored part by part
-pub state-stored : (s : State) (z : List ℕ) {c u p q b b′ b″ b‴ : List ℕ} → length z ≡ stateSize
+pub state-stored : (s : State) (z : List ℕ) {c u p q v b1 b2 b3 b4 b5 : List ℕ} → length z ≡ stateSize
     → c ≡ chainWords s
-    → u ≡ unitBlock (s .vif)
+    → u ≡ unitBlock (s .vif1)
     → p ≡ pathBlock (s .path2)
     → q ≡ pathBlock (s .path3)
-    → b ≡ withWords z 0 c
-    → b′ ≡ withWords b unitAt u
-    → b″ ≡ withWords b′ path2At p
-    → b‴ ≡ withWords b″ path3At q
-    → b‴ ≡ stateBlock s
+    → v ≡ unitBlock (s .vif0)
+    → b1 ≡ withWords z 0 c
+    → b2 ≡ withWords b1 vif1At u
+    → b3 ≡ withWords b2 path2At p
+    → b4 ≡ withWords b3 path3At q
+    → b5 ≡ withWords b4 vif0At v
+    → b5 ≡ stateBlock s
 unfolding stateBlock chainWords
-state-stored s z {c} {u} {p} {q} n e f g h i j k l =
-    stored c u p q (rw e) (rw f (unit-length (s .vif))) (rw g (path-length (s .path2))) (rw h (path-length (s .path3))) z n i j k l
-    ∙ rw (e, f, g, h)
+state-stored s z {c} {u} {p} {q} {v} n e f g h w i j k l m =
+    stored c u p q v (rw e) (rw f (unit-length (s .vif1))) (rw g (path-length (s .path2))) (rw h (path-length (s .path3))) (rw w (unit-length (s .vif0))) z n i j k l m
+    ∙ rw (e, f, g, h, w)
 
 -- ---- the chain's own words
 
@@ -143,7 +156,7 @@ chain-is : (s : State) → chainExists (stateBlock s) ≡ true
 unfolding chainExists stateBlock chainWords
 chain-is s = rw (bit-is (s .tte), bit-is (s .ended), depth-is (s .stack), tags-is (s .tags))
 
-held-back : (s : State) → emptyWords (s .payload) ≡ false → heldState (stateBlock s) (s .vif) (s .path2) (s .path3) ≡ s
+held-back : (s : State) → emptyWords (s .payload) ≡ false → heldState (stateBlock s) (s .vif1) (s .path2) (s .path3) (s .vif0) ≡ s
 unfolding heldState stateBlock chainWords
 held-back s h =
     rw (
@@ -157,52 +170,57 @@ held-back s h =
 
 -- ---- states
 
-pub state-parts : (s : State) → Parts (stateBlock s) (unitBlock (s .vif)) (pathBlock (s .path2)) (pathBlock (s .path3))
+pub state-parts : (s : State) → Parts (stateBlock s) (unitBlock (s .vif1)) (pathBlock (s .path2)) (pathBlock (s .path3)) (unitBlock (s .vif0))
 unfolding stateBlock chainWords
 state-parts s =
-    taken-apart (chainWords s) _ _ _ refl (unit-length (s .vif)) (path-length (s .path2)) (path-length (s .path3))
+    taken-apart (chainWords s) _ _ _ _ refl (unit-length (s .vif1)) (path-length (s .path2)) (path-length (s .path3)) (unit-length (s .vif0))
 
 -- the state of parts that were read
 whole-read : (b : List ℕ) → length b ≡ stateSize
     → stateInBlock b
-    ≡ stateWith (unitInBlock (part unitAt unitSize b)) (pathInBlock (part path2At pathSize b)) (pathInBlock (part path3At pathSize b)) b
+    ≡ stateWith (unitInBlock (part vif1At unitSize b)) (pathInBlock (part path2At pathSize b)) (pathInBlock (part path3At pathSize b))
+    (unitInBlock (part vif0At unitSize b)) b
 unfolding stateInBlock if
 whole-read b h = rw (eq-eqb (length b) stateSize h)
 
-pub state-read : (b : List ℕ) {u : ReadUnit} {p q : ReadPath} {r : ReadState} → length b ≡ stateSize
-    → u ≡ unitInBlock (part unitAt unitSize b)
+pub state-read : (b : List ℕ) {u v : ReadUnit} {p q : ReadPath} {r : ReadState} → length b ≡ stateSize
+    → u ≡ unitInBlock (part vif1At unitSize b)
     → p ≡ pathInBlock (part path2At pathSize b)
     → q ≡ pathInBlock (part path3At pathSize b)
-    → r ≡ stateWith u p q b
+    → v ≡ unitInBlock (part vif0At unitSize b)
+    → r ≡ stateWith u p q v b
     → r ≡ stateInBlock b
-state-read b h e f g k = rw (whole-read b h, ← e, ← f, ← g, k)
+state-read b h e f g i k = rw (whole-read b h, ← e, ← f, ← g, ← i, k)
 
 -- where there is none
-none-with : (u : ReadUnit) (p q : ReadPath) (b : List ℕ) → stateWith u p q b .known ≡ false
-    → stateWith u p q b ≡ readState false (noState (usedInBlock b))
+none-with : (u : ReadUnit) (p q : ReadPath) (v : ReadUnit) (b : List ℕ) → stateWith u p q v b .known ≡ false
+    → stateWith u p q v b ≡ readState false (noState (getD b 0 0) (usedInBlock b))
 unfolding stateWith
-none-with u p q b =
-    if-ind (λ (r : ReadState). r .known ≡ false → r ≡ readState false (noState (usedInBlock b))) _
+none-with u p q v b =
+    if-ind (λ (r : ReadState). r .known ≡ false → r ≡ readState false (noState (getD b 0 0) (usedInBlock b))) _
     (λ h. absurd (let z : _≡_ {A = ℕ} 0 1 = cc in omega arith))
     (λ h. refl)
 
 pub none-read : (b : List ℕ) → length b ≡ stateSize → stateInBlock b .known ≡ false
-    → stateInBlock b ≡ readState false (noState (usedInBlock b))
-none-read b h e = rw (whole-read b h) (none-with _ _ _ b (rw (whole-read b h) at e))
+    → stateInBlock b ≡ readState false (noState (getD b 0 0) (usedInBlock b))
+none-read b h e = rw (whole-read b h) (none-with _ _ _ _ b (rw (whole-read b h) at e))
 
 -- writing a state and reading the block gives the state back; ROW and COL are four words in every unit, and a payload of no words, which is read back as none,
 -- is left out
-pub state-back : (s : State) → length (s .vif .row) ≡ 4 → length (s .vif .col) ≡ 4 → emptyWords (s .payload) ≡ false
+pub state-back : (s : State) → length (s .vif1 .row) ≡ 4 → length (s .vif1 .col) ≡ 4 → length (s .vif0 .row) ≡ 4 → length (s .vif0 .col) ≡ 4
+    → emptyWords (s .payload) ≡ false
     → stateInBlock (stateBlock s) ≡ readState true s
 unfolding stateInBlock stateWith if
-state-back s h k e =
+state-back s h k h0 k0 e =
     let a = state-parts s in
     rw (
       a .all,
-      a .unit,
+      a .vif1,
       a .path2,
       a .path3,
-      unit-back (s .vif) h k,
+      a .vif0,
+      unit-back (s .vif1) h k,
+      unit-back (s .vif0) h0 k0,
       path-back (s .path2),
       path-back (s .path3),
       chain-is s,

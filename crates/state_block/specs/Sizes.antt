@@ -16,22 +16,25 @@ waitingSize = 11
 abbrev pub unitSize : ℕ
 unitSize = registerSize + waitingSize
 
--- what a state has besides its unit and its paths
+-- what a state has besides its units and its paths
 abbrev pub chainSize : ℕ
 chainSize = 13
 
 -- a state's parts lie one after another
-abbrev pub unitAt : ℕ
-unitAt = chainSize
+abbrev pub vif1At : ℕ
+vif1At = chainSize
 
 abbrev pub path2At : ℕ
-path2At = unitAt + unitSize
+path2At = vif1At + unitSize
 
 abbrev pub path3At : ℕ
 path3At = path2At + pathSize
 
+abbrev pub vif0At : ℕ
+vif0At = path3At + pathSize
+
 abbrev pub stateSize : ℕ
-stateSize = path3At + pathSize
+stateSize = vif0At + unitSize
 
 -- so many words of a block from a place on
 abbrev pub part : ℕ → ℕ → List ℕ → List ℕ

@@ -1,4 +1,4 @@
--- The state block: a saved state as 63 words, the chain's own and then the blocks of its unit and its paths.
+-- The state block: a saved state as 95 words, the chain's own and then the blocks of VIF1, its paths and VIF0.
 use Prim.Native.Nat.{ℕ, _/_, _%_, _^_}
 use mathlib.Core.Bool.{Bool, true, false, _&&_}
 use mathlib.Core.List.{List, [], _∷_, _++_}
@@ -18,7 +18,7 @@ use Rattle.chain.specs.Start.{resetPath, resetUnit}
 use Rattle.state_block.specs.declared.ReadPath.{ReadPath}
 use Rattle.state_block.specs.declared.ReadUnit.{ReadUnit}
 use Rattle.state_block.specs.declared.ReadState.{ReadState}
-use Rattle.state_block.specs.Sizes.{pathSize, unitSize, unitAt, path2At, path3At, stateSize, part}
+use Rattle.state_block.specs.Sizes.{pathSize, unitSize, vif1At, path2At, path3At, vif0At, stateSize, part}
 use Rattle.state_block.specs.Words.{bitOf, isBit, bitAt, longOf}
 use Rattle.state_block.specs.PathBlock.{pathBlock, pathInBlock}
 use Rattle.state_block.specs.UnitBlock.{unitBlock, unitInBlock}
@@ -61,7 +61,7 @@ chainWords s =
 
 -- the words of a state
 unfoldable pub stateBlock : State → List ℕ
-stateBlock s = chainWords s ++ unitBlock (s .vif) ++ pathBlock (s .path2) ++ pathBlock (s .path3)
+stateBlock s = chainWords s ++ unitBlock (s .vif1) ++ pathBlock (s .path2) ++ pathBlock (s .path3) ++ unitBlock (s .vif0)
 
 -- ---- read
 
@@ -84,9 +84,9 @@ payloadInBlock b = if (eqb (getD b 9 0) 0) NoPayload (Words (getD b 10 0) (getD 
 abbrev pub usedInBlock : List ℕ → ℕ
 usedInBlock b = longOf (getD b 11 0) (getD b 12 0)
 
--- the state of a block and of its unit and paths
-unfoldable pub heldState : List ℕ → Vif → Path → Path → State
-heldState b v p q =
+-- the state of a block and of its units and paths
+unfoldable pub heldState : List ℕ → Vif → Path → Path → Vif → State
+heldState b u p q v =
     record {
       channel = getD b 0 0;
       tadr = getD b 1 0;
@@ -96,25 +96,27 @@ heldState b v p q =
       tags = tagsInBlock b;
       payload = payloadInBlock b;
       used = usedInBlock b;
-      vif = v;
+      vif0 = v;
+      vif1 = u;
       path2 = p;
       path3 = q;
     }
 
--- stands for the state of words that are no state's: the reset state on channel 3, so out of range, with the entries used that the words say (refusal 4
--- is tested before 5)
-unfoldable pub noState : ℕ → State
-noState used =
+-- stands for the state of words that are no state's: the reset state with TADR 1, so out of range, with the channel and the entries used that the words say
+-- (refusals 2, 3 and 4 are tested before 5, 2 and 3 by the channel)
+unfoldable pub noState : ℕ → ℕ → State
+noState channel used =
     record {
-      channel = 3;
-      tadr = 0;
+      channel = channel;
+      tadr = 1;
       tte = false;
       ended = false;
       stack = Empty;
       tags = NoTagWords;
       payload = NoPayload;
       used = used;
-      vif = resetUnit;
+      vif0 = resetUnit;
+      vif1 = resetUnit;
       path2 = resetPath;
       path3 = resetPath;
     }
@@ -123,14 +125,15 @@ abbrev pub readState : Bool → State → ReadState
 readState known state = record { known = known; state = state }
 
 -- the state of a block whose parts were read
-unfoldable pub stateWith : ReadUnit → ReadPath → ReadPath → List ℕ → ReadState
-stateWith u p q b =
-    if (chainExists b && (u .known && (p .known && q .known))) (readState true (heldState b (u .unit) (p .path) (q .path)))
-    (readState false (noState (usedInBlock b)))
+unfoldable pub stateWith : ReadUnit → ReadPath → ReadPath → ReadUnit → List ℕ → ReadState
+stateWith u p q v b =
+    if (chainExists b && ((u .known && v .known) && (p .known && q .known))) (readState true (heldState b (u .unit) (p .path) (q .path) (v .unit)))
+    (readState false (noState (getD b 0 0) (usedInBlock b)))
 
 -- the state of a block, if it is a state's
 unfoldable pub stateInBlock : List ℕ → ReadState
 stateInBlock b =
     if (eqb (length b) stateSize)
-    (stateWith (unitInBlock (part unitAt unitSize b)) (pathInBlock (part path2At pathSize b)) (pathInBlock (part path3At pathSize b)) b)
-    (readState false (noState 0))
+    (stateWith (unitInBlock (part vif1At unitSize b)) (pathInBlock (part path2At pathSize b)) (pathInBlock (part path3At pathSize b))
+    (unitInBlock (part vif0At unitSize b)) b)
+    (readState false (noState 1 0))

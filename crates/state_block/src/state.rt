@@ -1,4 +1,4 @@
-// The state block: a saved state as 63 words.
+// The state block: a saved state as 95 words.
 use super::CHAIN_WORDS;
 use super::PATH2_AT;
 use super::PATH3_AT;
@@ -6,7 +6,8 @@ use super::ReadPath;
 use super::ReadState;
 use super::ReadUnit;
 use super::STATE_WORDS;
-use super::UNIT_AT;
+use super::VIF0_AT;
+use super::VIF1_AT;
 use super::path::path_block;
 use super::path::path_in_block;
 use super::unit::unit_block;
@@ -93,18 +94,21 @@ fn chain_words(state: State) -> [u32; CHAIN_WORDS]
 pub fn state_block(state: State) -> [u32; STATE_WORDS]
     ensures { λ r. ⌜ r ≡ stateBlock state ⌝ }
 {
-    let unit = state.vif;
+    let vif1 = state.vif1;
+    let vif0 = state.vif0;
     let path2 = state.path2;
     let path3 = state.path3;
     let c = chain_words(state);
-    let u = unit_block(unit);
+    let u = unit_block(vif1);
     let p = path_block(path2);
     let q = path_block(path3);
+    let v = unit_block(vif0);
     let mut block = [0; STATE_WORDS];
     fields::put_words(&mut block, 0, &c);
-    fields::put_words(&mut block, UNIT_AT, &u);
+    fields::put_words(&mut block, VIF1_AT, &u);
     fields::put_words(&mut block, PATH2_AT, &p);
     fields::put_words(&mut block, PATH3_AT, &q);
+    fields::put_words(&mut block, VIF0_AT, &v);
     block
 }
 
@@ -159,9 +163,9 @@ fn used_in_block(block: &[u32]) -> u64
     joined(block[11], block[12])
 }
 
-fn held_state(block: &[u32], vif: Vif, path2: Path, path3: Path) -> State
+fn held_state(block: &[u32], vif1: Vif, path2: Path, path3: Path, vif0: Vif) -> State
     requires { ⌜ length (now block) ≡ stateSize ⌝ }
-    ensures { λ r. ⌜ r ≡ heldState (now (block .entry)) vif path2 path3 ⌝ }
+    ensures { λ r. ⌜ r ≡ heldState (now (block .entry)) vif1 path2 path3 vif0 ⌝ }
 {
     let stack = stack_in_block(block);
     let tags = tags_in_block(block);
@@ -175,46 +179,55 @@ fn held_state(block: &[u32], vif: Vif, path2: Path, path3: Path) -> State
         tags,
         payload,
         used: used_in_block(block),
-        vif,
+        vif0,
+        vif1,
         path2,
         path3,
     }
 }
 
-fn no_state(used: u64) -> ReadState
-    ensures { λ r. ⌜ r ≡ readState false (noState used) ⌝ }
+fn no_state(channel: u32, used: u64) -> ReadState
+    ensures { λ r. ⌜ r ≡ readState false (noState channel used) ⌝ }
 {
     let reset = chain::reset();
     ReadState {
         known: false,
         state: State {
-            channel: 3,
+            channel,
+            tadr: 1,
             used,
             ..reset
         },
     }
 }
 
-fn parts_known(unit: ReadUnit, path2: ReadPath, path3: ReadPath) -> bool
-    ensures { λ r. ⌜ r ≡ (unit .known && (path2 .known && path3 .known)) ⌝ }
+fn parts_known(vif1: ReadUnit, path2: ReadPath, path3: ReadPath, vif0: ReadUnit) -> bool
+    ensures { λ r. ⌜ r ≡ ((vif1 .known && vif0 .known) && (path2 .known && path3 .known)) ⌝ }
 {
-    both(unit.known, both(path2.known, path3.known))
+    both(both(vif1.known, vif0.known), both(path2.known, path3.known))
 }
 
-fn state_with(unit: ReadUnit, path2: ReadPath, path3: ReadPath, block: &[u32]) -> ReadState
+fn state_with(
+    vif1: ReadUnit,
+    path2: ReadPath,
+    path3: ReadPath,
+    vif0: ReadUnit,
+    block: &[u32],
+) -> ReadState
     requires { ⌜ length (now block) ≡ stateSize ⌝ }
-    ensures { λ r. ⌜ r ≡ stateWith unit path2 path3 (now (block .entry)) ⌝ }
+    ensures { λ r. ⌜ r ≡ stateWith vif1 path2 path3 vif0 (now (block .entry)) ⌝ }
 {
-    let v = unit.unit;
+    let u = vif1.unit;
     let p = path2.path;
     let q = path3.path;
-    if both(chain_exists(block), parts_known(unit, path2, path3)) {
+    let v = vif0.unit;
+    if both(chain_exists(block), parts_known(vif1, path2, path3, vif0)) {
         return ReadState {
             known: true,
-            state: held_state(block, v, p, q),
+            state: held_state(block, u, p, q, v),
         };
     }
-    no_state(used_in_block(block))
+    no_state(block[0], used_in_block(block))
 }
 
 // The state of a block, where there is one.
@@ -222,10 +235,11 @@ pub fn state_in_block(block: &[u32]) -> ReadState
     ensures { λ r. ⌜ r ≡ stateInBlock (now (block .entry)) ⌝ }
 {
     if block.len() != STATE_WORDS {
-        return no_state(0);
+        return no_state(1, 0);
     }
-    let unit = unit_in_block(&block[UNIT_AT..PATH2_AT]);
+    let vif1 = unit_in_block(&block[VIF1_AT..PATH2_AT]);
     let path2 = path_in_block(&block[PATH2_AT..PATH3_AT]);
-    let path3 = path_in_block(&block[PATH3_AT..STATE_WORDS]);
-    state_with(unit, path2, path3, block)
+    let path3 = path_in_block(&block[PATH3_AT..VIF0_AT]);
+    let vif0 = unit_in_block(&block[VIF0_AT..STATE_WORDS]);
+    state_with(vif1, path2, path3, vif0, block)
 }

@@ -236,7 +236,7 @@ fn no_unit() -> ReadUnit
     ensures { λ r. ⌜ r ≡ readUnit false noUnit ⌝ }
 {
     let reset = chain::reset();
-    let unit = reset.vif;
+    let unit = reset.vif1;
     let waiting = Waiting::RowDue {
         due: 0,
         interrupt: false,

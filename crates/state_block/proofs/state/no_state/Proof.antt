@@ -10,4 +10,4 @@ no-state-spec =
     tie.close
     (tie.spec
     (λ c κs. search needs)
-    (λ c. rw (c .before .before .before .reset .ensures)))
+    (λ c. rw (c .before .before .before .before .reset .ensures)))

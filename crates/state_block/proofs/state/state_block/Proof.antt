@@ -6,22 +6,25 @@ use Rattle.state_block.proofs.state.state_block.Tie as tie
 
 returns : tie.Need-returns
 returns c =
-    let third = c .before .before .before .before .before in
+    let fourth = c .before .before .before .before .before in
+    let third = fourth .before .before .before .before in
     let second = third .before .before .before .before in
     let first = second .before .before .before .before in
     let parts = first .before .before .before in
     state-stored
-    (parts .before .before .before .before .before .before .before .args .state)
+    (parts .before .before .before .before .before .before .before .before .before .args .state)
     _
     refl
-    (parts .before .before .before .chain-words .ensures)
-    (parts .before .before .unit-block .ensures)
-    (parts .before .path-block .ensures)
-    (parts .path-block2 .ensures)
+    (parts .before .before .before .before .chain-words .ensures)
+    (parts .before .before .before .unit-block .ensures)
+    (parts .before .before .path-block .ensures)
+    (parts .before .path-block2 .ensures)
+    (parts .unit-block2 .ensures)
     (first .put-words .ensures)
     (second .put-words2 .ensures)
     (third .put-words3 .ensures)
-    (c .before .put-words4 .ensures)
+    (fourth .put-words4 .ensures)
+    (c .before .put-words5 .ensures)
 
 pub state-block-spec : {M : Type 1} → statement M
 state-block-spec =
@@ -30,6 +33,10 @@ state-block-spec =
     (λ c κs. search needs)
     (λ c κs. search needs)
     (λ c κs. search needs)
+    (λ c κs. search needs)
+    (λ c κs. search needs)
+    (λ c. search needs)
+    (λ c. search needs)
     (λ c κs. search needs)
     (λ c. search needs)
     (λ c. search needs)

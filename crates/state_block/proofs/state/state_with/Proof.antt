@@ -14,7 +14,8 @@ returns c =
 returns-2 : tie.Need-returns-2
 unfolding stateWith if
 returns-2 c =
-    let tests = c .before .before .before in
+    let left = c .before .before .before in
+    let tests = left .before in
     let known = tests .before in
     rw (
       c .no-state .ensures,
@@ -22,7 +23,7 @@ returns-2 c =
       ← known .before .chain-exists .ensures,
       ← known .parts-known .ensures,
       ← tests .both .ensures,
-      c .before .before .if1 .left,
+      left .if1 .left,
     )
 
 pub state-with-spec : {M : Type 1} → statement M
@@ -34,6 +35,7 @@ state-with-spec =
     (λ c κs. search needs)
     (λ c κs. search needs)
     returns
+    (λ c. search needs)
     (λ c κs. search needs)
     (λ c κs. search needs)
     returns-2)
