@@ -26,6 +26,7 @@ use Rattle.chain.specs.Pending.{payloadAfter}
 use Rattle.chain.specs.Step.{stepped, givenVif}
 use Rattle.chain.specs.Stops.{stepFrom, Reaches, here}
 use Rattle.chain.proofs.BurstLaws.{step-by, pending-going, feeding, fed-step}
+use Rattle.chain.proofs.UnitLaws.{channel-vif1}
 
 -- payload words pending
 abbrev pub pending : ℕ → ℕ → Payload
@@ -53,7 +54,7 @@ incomings w main a (suc j) = incomingAt main a ∷ incomings w main (a + 4 * w) 
 pub record Takes (b : VifAnswer) (w : ℕ) : Type 0 where
   pub some : 1 ≤ w
   pub given : (v : Vif) (q : Path) (used : ℕ) (m′ : Lent) (p : ℕ → Payload) (s : State) (m : Lent)
-      → givenVif (leaves b v q used m′) NoTagWords p s m ≡ stepped (Completed false) (withPending (withUnit s v q used) NoTagWords (p w)) m′
+      → givenVif Vif1 (leaves b v q used m′) NoTagWords p s m ≡ stepped (Completed false) (withPending (withUnit Vif1 s v q used) NoTagWords (p w)) m′
 
 pub word-takes : Takes aWord 1
 word-takes = record { some = omega arith; given = λ v q used m′ p s m. refl }
@@ -69,7 +70,7 @@ module _ (main : List ℕ) (s : State) (channel : s .channel ≡ 1) {b : VifAnsw
   taken-step x y a n e =
       let h : 1 ≤ w = t .some in
       fed-step main s (λ z. omega arith) x a (w + n) (λ z. omega arith)
-      ∙ rw e
+      ∙ rw (channel-vif1 (s .channel) (λ z. omega arith), e)
       (t .given (y .unit) (y .path2) (y .used) (y .memories) (payloadAfter a (w + n)) _ (x .memories) ∙ rw (payload-next a n w))
 
   -- steps of VIF1 are steps of the chain

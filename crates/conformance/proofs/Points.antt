@@ -1,5 +1,5 @@
 -- Document 01: "Points marked (P) are proved as one table under one statement." By computation.
-use mathlib.Core.Path.{refl}
+use mathlib.Core.Path.{_≡_, refl}
 use lib.ListN.{drop}
 use Rattle.fields.specs.Fields.{if, bits, quadword}
 use Rattle.gif.specs.Log.{logged, lacksRoom, logRefused}
@@ -15,18 +15,18 @@ use Rattle.unpack.specs.Vector.{extended, element, fieldsOf, fiveFields, vector
 use Rattle.unpack.specs.Write.{added, rowOf, dataOf, fieldOf, rowsAfter, putField, writtenAt, writeVector, registersAt, writeAt, writesFrom}
 use Rattle.unpack.specs.Step.{countOf, unpackingOf, takenWords, acting, heldVector, doneAfter, wordOf, unfedWrites, unpackWord}
 use Rattle.memories.specs.Lengths.{lengthsRefusal}
-use Rattle.vif.specs.Codes.{quadwordsOf as directQuadwordsOf, plainCode, unpackNumbers, codeOf, decodeOf}
-use Rattle.vif.specs.Execute.{startProgram, setMode, beginMpg, addressOf, beginUnpack}
+use Rattle.vif.specs.Codes.{quadwordsOf as directQuadwordsOf, missingCode, plainCode, unpackNumbers, codeOf, decodeOf}
+use Rattle.vif.specs.Execute.{nextTops, startProgram, setMode, beginMpg, addressOf, unpackRefusal, beginUnpack}
 use Rattle.vif.specs.Payload.{completes, orNothing, wordPlace, mpgStored}
 use Rattle.vif.specs.Range.{registersInRange, waitingInRange, unitInRange}
 use Rattle.vif.specs.Step.{codeStep, giveQuadword, unpackStep, vifStep}
 use Rattle.fields.specs.Memory.{wordAt, longAt}
 use Rattle.vif.specs.Words.{incomingAt}
 use Rattle.chain.specs.Pending.{payloadAfter}
-use Rattle.chain.specs.Range.{channelInRange, startInRange, stackInRange, tagsInRange, payloadInRange, stateInRange, mainRefused, tagsInside, payloadInside, entryRefusal}
-use Rattle.chain.specs.Tags.{usesAddr, payloadAt, nextTadr, endsChain, tagWordsOf, payloadOf, tagRefusal, tagState, tagRead}
+use Rattle.chain.specs.Range.{unitOf, channelInRange, startInRange, stackInRange, tagsInRange, payloadInRange, stateInRange, mainRefused, tagsInside, payloadInside, entryRefusal}
+use Rattle.chain.specs.Tags.{nextStack, usesAddr, payloadAt, nextTadr, endsChain, tagWordsOf, payloadOf, tagRefusal, tagState, tagRead}
 use Rattle.chain.specs.Start.{resetState, startOf}
-use Rattle.chain.specs.Step.{vifGiven, payloadStep, stepOf}
+use Rattle.chain.specs.Step.{vifGiven, gifGiven, payloadStep, stepOf}
 use Rattle.chain.specs.Run.{done, stepsOf, runOf}
 use Rattle.sheet.specs.Records.{zerosAt, padsZero}
 use Rattle.sheet.specs.Reader.{marked, kindOf, rowRefusal, recordRefusal, readingAt, recordsFrom, contentsFrom, contentsOf}
@@ -34,7 +34,8 @@ use Rattle.sheet.specs.Sizes.{sheetSteps}
 use Rattle.sheet.specs.Layout.{laidOut, chainOf}
 use Rattle.sheet.specs.Build.{buildOf}
 use Rattle.conformance.specs.Demand.{recordsOf}
-use Rattle.conformance.specs.Points.{AllHold, runIn, runOfWords, builtFrom, sizeOf, chainBytes, wordsAt, chainWords, runOfSheet, stepsFor, loggedIn, quadwordIn, instructionIn, allZero, partsWritten, quadwordsFrom, instructionsFrom, dueIn, rowIn, answerIn, points, requestPoints}
+use Rattle.conformance.specs.Points.{AllHold, runIn, runOfWords, builtFrom, sizeOf, chainBytes, wordsAt, chainWords, runOfSheet, stepsFor, loggedIn, quadwordIn, instructionIn, allZero, partsWritten, quadwordsFrom, instructionsFrom, dueIn, rowIn, answerIn, runOfVif0, answersTo, programStart, startedIn, left0, left1, runFrom, second, third, playedFrom0, points, requestPoints}
+use Rattle.conformance.specs.Play.{playRefusal, playOf}
 
 -- ---- the definitions that the table computes through
 
@@ -47,11 +48,11 @@ unfolding rowOfCycle codeAt maskOf vectorBits payloadWords wholeVectors fills ve
 unpackOpen = tt
 
 vifOpen : Unit {0}
-unfolding directQuadwordsOf plainCode namedIn unpackNumbers codeOf decodeOf startProgram setMode beginMpg addressOf cycleRefused beginUnpack completes orNothing wordPlace mpgStored registersInRange waitingInRange unitInRange codeStep giveQuadword unpackStep vifStep
+unfolding directQuadwordsOf missingCode plainCode namedIn unpackNumbers codeOf decodeOf startProgram setMode beginMpg addressOf cycleRefused unpackRefusal beginUnpack completes orNothing wordPlace mpgStored registersInRange waitingInRange unitInRange codeStep giveQuadword unpackStep vifStep
 vifOpen = tt
 
 chainOpen : Unit {0}
-unfolding wordAt longAt incomingAt payloadAfter channelInRange startInRange stackInRange tagsInRange payloadInRange stateInRange mainRefused tagsInside payloadInside lengthsRefusal entryRefusal usesAddr payloadAt nextTadr endsChain tagWordsOf payloadOf tagRefusal tagState tagRead resetState startOf vifGiven payloadStep stepOf done stepsOf runOf
+unfolding wordAt longAt incomingAt payloadAfter unitOf channelInRange startInRange stackInRange tagsInRange payloadInRange stateInRange mainRefused tagsInside payloadInside lengthsRefusal entryRefusal usesAddr payloadAt nextTadr endsChain tagWordsOf payloadOf tagRefusal tagState tagRead resetState startOf vifGiven gifGiven payloadStep stepOf done stepsOf runOf
 chainOpen = tt
 
 sheetOpen : Unit {0}
@@ -59,7 +60,7 @@ unfolding zerosAt padsZero marked kindOf rowRefusal recordRefusal readingAt reco
 sheetOpen = tt
 
 benchOpen : Unit {0}
-unfolding recordsOf runIn runOfWords builtFrom sizeOf chainBytes wordsAt chainWords runOfSheet stepsFor loggedIn quadwordIn instructionIn allZero partsWritten quadwordsFrom instructionsFrom dueIn rowIn answerIn
+unfolding recordsOf runIn runOfWords builtFrom sizeOf chainBytes wordsAt chainWords runOfSheet stepsFor loggedIn quadwordIn instructionIn allZero partsWritten quadwordsFrom instructionsFrom dueIn rowIn answerIn runOfVif0 answersTo startedIn runFrom second third playRefusal playOf playedFrom0
 benchOpen = tt
 
 opened : Unit {0}
@@ -124,7 +125,17 @@ requestsOpened : Unit {0}
 unfolding opened requestPoints
 requestsOpened = tt
 
+-- request 10
+vif0 : AllHold (drop 12 requestPoints)
+unfolding requestsOpened
+vif0 = (refl, (refl, (refl, (refl, (refl, (refl, (refl, (refl, (refl, tt)))))))))
+
+-- channels 0, 1 and 2 in turn: each run ends in the state in which the next begins
+pub capture-states : (runOfVif0 1 programStart .after .state ≡ left0) × (second .after .state ≡ left1)
+unfolding requestsOpened nextStack nextTops
+capture-states = (refl, refl)
+
 -- every point of a request holds
 pub request-points-hold : AllHold requestPoints
 unfolding requestsOpened
-request-points-hold = (refl, (refl, (refl, (refl, (refl, (refl, (refl, (refl, (refl, (refl, (refl, (refl, tt))))))))))))
+request-points-hold = (refl, (refl, (refl, (refl, (refl, (refl, (refl, (refl, (refl, (refl, (refl, (refl, vif0))))))))))))

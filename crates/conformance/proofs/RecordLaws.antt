@@ -35,7 +35,9 @@ use Rattle.vif.specs.Words.{incomingAt}
 use Rattle.chain.specs.Step.{Machine, machine}
 use Rattle.chain.specs.Stops.{Reaches}
 use Rattle.chain.proofs.Theorems.{reaches-join}
+use Rattle.chain.specs.Range.{unitOf}
 use Rattle.chain.proofs.BurstLaws.{step-by, feeding}
+use Rattle.chain.proofs.UnitLaws.{channel-vif1}
 use Rattle.sheet.specs.Records.{recordOf, bytesAt, number}
 use Rattle.sheet.specs.declared.Kind.{Kind}
 use Rattle.sheet.specs.declared.Kind.the-variants.{Data, Code, Gs, Start}
@@ -98,10 +100,14 @@ module _ (main : List ℕ) (a : ℕ) (s : State) (m : Lent) (i : IdleAt a s) (q 
   tagged = withTag s (a + 16 + 16 * q) false (s .stack) NoTagWords NoPayload
 
   abbrev pub unitFed : Fed
-  unitFed = fed (s .vif) (s .path2) (s .used) m
+  unitFed = fed (s .vif1) (s .path2) (s .used) m
+
+  -- channel 1 feeds VIF1
+  fed-vif1 : unitOf (s .channel) ≡ Vif1
+  fed-vif1 = let c = i .channel in channel-vif1 (s .channel) (λ z. omega arith)
 
   after-tag : {k : ℕ} {z : Machine} → Reaches main k (feeding tagged unitFed (pending (a + 16) (4 * q))) z → Reaches main (suc k) (machine s m) z
-  after-tag r = step-by (idle-going main a s m i) (cnt-step main a s m i q some few tag room) refl r
+  after-tag r = step-by (idle-going main a s m i) (cnt-step main a s m i q some few tag room) refl (rw fed-vif1 at r)
 
   -- a payload of words
   pub words-reach : {y : Fed} → Feeds Vif1 aWord unitFed (incomings 1 main (a + 16) (4 * q)) y → Reaches main (1 + 4 * q) (machine s m) (feeding tagged y NoPayload)
@@ -127,7 +133,8 @@ module _ (main : List ℕ) (a : ℕ) (s : State) (m : Lent) (i : IdleAt a s) (q 
   pub idle-after : (y : Fed) → y .unit .waiting ≡ Nothing → length (y .unit .row) ≡ 4 → y .path2 .place ≡ Idle
       → IdleAt (a + 16 + 16 * q) (feeding tagged y NoPayload .state)
   idle-after y w r p =
-      record {
+      rw fed-vif1
+      (record {
         channel = i .channel;
         tadr = refl;
         tte = i .tte;
@@ -137,7 +144,7 @@ module _ (main : List ℕ) (a : ℕ) (s : State) (m : Lent) (i : IdleAt a s) (q 
         waiting = w;
         row = r;
         path-idle = p;
-      }
+      })
 
 -- ---- a record's bytes in main memory
 
@@ -279,7 +286,7 @@ module _ (main : List ℕ) (a : ℕ) (s : State) (m : Lent) (i : IdleAt a s) whe
       let inner = placed-inside main (a + 32) body rest (d .after) (omega arith) in
       let room : a + 16 + 16 * (n + 1) ≤ length main = omega arith in
       let k : 1 + 4 * (n + 1) ≡ 5 + 4 * n = omega arith in
-      let f = feeds-data Vif1 (s .vif) (s .path2) (s .used) m n b (wordsOf (4 * n) body) (incomings 1 main (a + 16) (4 * (n + 1))) (i .waiting) (i .row) some few inside (rw c (d .words (4 * n) ∙ rw ws)) (words-small (4 * n) bytes (omega arith)) (words-length (4 * n) body) in
+      let f = feeds-data Vif1 (s .vif1) (s .path2) (s .used) m n b (wordsOf (4 * n) body) (incomings 1 main (a + 16) (4 * (n + 1))) (i .waiting) (i .row) some few inside (rw c (d .words (4 * n) ∙ rw ws)) (words-small (4 * n) bytes (omega arith)) (words-length (4 * n) body) in
       arrived (omega arith) (omega arith) (d .tag) room _ (rw k at (words-reach main a s m i (n + 1) (omega arith) (omega arith) (d .tag) room f)) (i .waiting)
       (i .row)
       (i .path-idle)
@@ -300,7 +307,7 @@ module _ (main : List ℕ) (a : ℕ) (s : State) (m : Lent) (i : IdleAt a s) whe
       let d = lead-placed main a 1 0 0 0 (335544320 + b) rest (omega arith) r (rw g at p) in
       let inner = placed-inside main a (wordsBytes (tagWords 1 1) ++ wordsBytes (0 ∷ 0 ∷ 0 ∷ (335544320 + b) ∷ [])) rest (rw g at p) (omega arith) in
       let within : a + 16 + 16 * 1 ≤ length main = omega arith in
-      let f = feeds-start Vif1 (s .vif) (s .path2) (s .used) m b (incomings 1 main (a + 16) (4 * 1)) (i .waiting) (omega arith) room (d .words 0) in
+      let f = feeds-start Vif1 (s .vif1) (s .path2) (s .used) m b (incomings 1 main (a + 16) (4 * 1)) (i .waiting) (omega arith) room (d .words 0) in
       arrived {q = 1} (omega arith) (omega arith) (d .tag) within _ (words-reach main a s m i 1 (omega arith) (omega arith) (d .tag) within f) (i .waiting)
       (i .row)
       (i .path-idle)
@@ -332,7 +339,7 @@ module _ (main : List ℕ) (a : ℕ) (s : State) (m : Lent) (i : IdleAt a s) whe
       let lower = inner (omega arith) in
       let room : a + 16 + 16 * (h + 1) ≤ length main = omega arith in
       let k : 1 + 4 * (h + 1) ≡ 5 + 4 * h = omega arith in
-      let f = feeds-code Vif1 (s .vif) (s .path2) (s .used) m n b (wordsOf (2 * n) body) pad (incomings 1 main (a + 16) (4 * (h + 1))) (i .waiting) some few inside (rw c (d .words (2 * n + length pad) ∙ rw (words-join main (2 * n) (length pad) (a + 32), ws, ps))) (words-length (2 * n) body) (padding-zeros (n % 2)) in
+      let f = feeds-code Vif1 (s .vif1) (s .path2) (s .used) m n b (wordsOf (2 * n) body) pad (incomings 1 main (a + 16) (4 * (h + 1))) (i .waiting) some few inside (rw c (d .words (2 * n + length pad) ∙ rw (words-join main (2 * n) (length pad) (a + 32), ws, ps))) (words-length (2 * n) body) (padding-zeros (n % 2)) in
       arrived (omega arith) (omega arith) (d .tag) room _ (rw k at (words-reach main a s m i (h + 1) (omega arith) (omega arith) (d .tag) room f)) (i .waiting)
       (i .row)
       (i .path-idle)
@@ -360,9 +367,9 @@ module _ (main : List ℕ) (a : ℕ) (s : State) (m : Lent) (i : IdleAt a s) whe
       let inner = placed-inside main (a + 48) body rest after (omega arith) in
       let within : a + 16 + 16 * (n + 2) ≤ length main = omega arith in
       let idle : s .path2 ≡ pathOf (s .path2 .q) Idle = ap (pathOf (s .path2 .q)) (i .path-idle) in
-      let f = feeds-direct Vif1 refl (s .vif) (s .path2) (s .used) m n (incomings 1 main (a + 16) 4) (i .waiting) few (d .words 0) in
+      let f = feeds-direct Vif1 refl (s .vif1) (s .path2) (s .used) m n (incomings 1 main (a + 16) 4) (i .waiting) few (d .words 0) in
       let in-place : QuadwordsIn (incomings 4 main (a + 32) (suc n)) (sheetTag n ∷ bodyQuadwords body n 0) = rw (t, c, qs) at (incoming-quadwords main (suc n) (a + 32) (omega arith)) in
-      let h = feeds-from (ap (λ (x : Path). fed (withWaiting (s .vif) (directWaits (suc n))) x (s .used) m) idle) (feeds-entries Vif1 (s .vif) (s .path2 .q) (s .used) m n (bodyQuadwords body n 0) (incomings 4 main (a + 32) (suc n)) (i .waiting) (quadwords-length body n 0) some few room in-place) in
+      let h = feeds-from (ap (λ (x : Path). fed (withWaiting (s .vif1) (directWaits (suc n))) x (s .used) m) idle) (feeds-entries Vif1 (s .vif1) (s .path2 .q) (s .used) m n (bodyQuadwords body n 0) (incomings 4 main (a + 32) (suc n)) (i .waiting) (quadwords-length body n 0) some few room in-place) in
       let k : 5 + suc n ≡ 6 + n = omega arith in
       arrived (omega arith) (omega arith) (d .tag) within _ (rw k at (quadwords-reach main a s m i (n + 2) (omega arith) (omega arith) (d .tag) within (suc n) (omega arith) f h)) (i .waiting)
       (i .row)

@@ -32,8 +32,8 @@ pub record IdleAt (a : ℕ) (s : State) : Type 0 where
   pub ended : s .ended ≡ false
   pub tags : s .tags ≡ NoTagWords
   pub payload : s .payload ≡ NoPayload
-  pub waiting : s .vif .waiting ≡ Nothing
-  pub row : length (s .vif .row) ≡ 4
+  pub waiting : s .vif1 .waiting ≡ Nothing
+  pub row : length (s .vif1 .row) ≡ 4
   pub path-idle : s .path2 .place ≡ Idle
 
 -- the fields of a tag with an ID and QWC, the rest 0

@@ -42,7 +42,7 @@ meansFrom sheet s m = meaningOf (recordsOf sheet) (plain (m .mem) (m .code) (ent
 -- what Rattle's types give: the sheet's bytes are below 256, and ROW has four words
 pub record Typed (sheet : List ℕ) (s : State) : Type 0 where
   pub bytes : Bytes sheet
-  pub row : length (s .vif .row) ≡ 4
+  pub row : length (s .vif1 .row) ≡ 4
 
 -- the premises of demand 3, these and no others
 pub record Premises (sheet output main : List ℕ) (a size allowance : ℕ) (s : State) (m : Lent) : Type 0 where
@@ -56,7 +56,7 @@ pub record Premises (sheet output main : List ℕ) (a size allowance : ℕ) (s :
   pub started : startOf s 1 a false .answer ≡ Started
   pub entered : entryRefusal main m (startOf s 1 a false .state) ≡ 0
   -- nothing waits in VIF1, and path 2 is idle
-  pub idle : s .vif .waiting ≡ Nothing
+  pub idle : s .vif1 .waiting ≡ Nothing
   pub path-idle : s .path2 .place ≡ Idle
   -- the log has room for every entry of the meaning
   pub room : 2 * length (meansFrom sheet s m .entries) ≤ length (m .log)

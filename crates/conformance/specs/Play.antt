@@ -78,7 +78,7 @@ pub record PlayPremises (sheet main : List ℕ) (a allowance : ℕ) (s : State) 
   pub size : ℕ
   pub built : buildOf sheet (drop a main) .answer ≡ Built size
   -- nothing waits in VIF1, and path 2 is idle
-  pub idle : s .vif .waiting ≡ Nothing
+  pub idle : s .vif1 .waiting ≡ Nothing
   pub path-idle : s .path2 .place ≡ Idle
   -- the log has room for every entry of the meaning
   pub room : 2 * length (meansFrom sheet s m .entries) ≤ length (m .log)

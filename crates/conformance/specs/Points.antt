@@ -7,17 +7,24 @@ use mathlib.Core.Path.{_≡_}
 use lib.ListN.{take, drop, replicate}
 use lib.Dec.{eqb}
 use Rattle.fields.specs.Fields.{if}
-use Rattle.memories.specs.declared.VifUnit.the-variants.{Vif1}
+use Rattle.memories.specs.declared.VifUnit.the-variants.{Vif0, Vif1}
 use Rattle.memories.specs.Units.{quadwords, instructions, dataWords, codeBytes}
 use Rattle.memories.specs.Lengths.{Lent, lent}
 use Rattle.vif.specs.declared.Waiting.{Waiting}
 use Rattle.vif.specs.declared.Waiting.the-variants.{Nothing, MaskDue, RowDue, ColDue, MpgDue, DirectDue, DirecthlDue, UnpackDue}
 use Rattle.fields.specs.Memory.{wordAt}
-use Rattle.chain.specs.Start.{resetState, startOf}
+use Rattle.vif.specs.declared.Vif.{Vif}
+use Rattle.vif.specs.Setters.{withItops, withStart}
+use Rattle.chain.specs.declared.Stack.the-variants.{Empty}
+use Rattle.chain.specs.declared.TagWords.the-variants.{Nothing as NoTagWords}
+use Rattle.chain.specs.declared.Payload.the-variants.{Nothing as NoPayload}
+use Rattle.chain.specs.declared.State.{State}
+use Rattle.chain.specs.Start.{resetPath, resetUnit, resetState, startOf}
 use Rattle.chain.specs.Run.{Ran, numberOf, runOf}
 use Rattle.sheet.specs.Layout.{wordsBytes, tagWords}
 use Rattle.sheet.specs.Build.{Left, buildOf, exportedNumber}
 use Rattle.conformance.specs.Demand.{stepsMeant}
+use Rattle.conformance.specs.Play.{Played, playOf, playNumber}
 
 -- a point: the numbers that the definitions give, and those that document 01 states
 pub record Point : Type 0 where
@@ -120,10 +127,10 @@ wordsDue (DirecthlDue due i) = 4 * due
 wordsDue (UnpackDue f u) = u .due
 
 unfoldable pub dueIn : Ran → List ℕ
-dueIn r = wordsDue (r .after .state .vif .waiting) ∷ []
+dueIn r = wordsDue (r .after .state .vif1 .waiting) ∷ []
 
 unfoldable pub rowIn : Ran → List ℕ
-rowIn r = r .after .state .vif .row
+rowIn r = r .after .state .vif1 .row
 
 unfoldable pub answerIn : Ran → List ℕ
 answerIn r = numberOf (r .answer) ∷ []
@@ -253,6 +260,91 @@ fillOfRow = 0x20000000 ∷ 0x00005500 ∷ 0x30000000 ∷ 10 ∷ 20 ∷ 30 ∷ 40
 abbrev pub fillAcross : List ℕ
 fillAcross = 0x01000201 ∷ 0 ∷ 0 ∷ 0x600203ff ∷ 5 ∷ 0 ∷ 0 ∷ 0 ∷ []
 
+-- VIF0's memories and a log of four entries, all zeros
+abbrev pub blank0 : Lent
+blank0 = lent (replicate (dataWords Vif0) 0) (replicate (codeBytes Vif0) 0) (replicate 8 0)
+
+-- VIF0's words by a chain, as VIF1's, on channel 0
+unfoldable pub runOfVif0 : ℕ → List ℕ → Ran
+runOfVif0 n words = runOf (wordsBytes (tagWords 1 n ++ words ++ tagWords 7 0)) 100 (startOf resetState 0 0 false .state) blank0
+
+-- STCYCL 1, 1; two NOPs; UNPACK S-32, NUM 2, A 255; its words; two NOPs
+abbrev pub dataAcross : List ℕ
+dataAcross = 0x01000101 ∷ 0 ∷ 0 ∷ 0x600200ff ∷ 5 ∷ 6 ∷ 0 ∷ 0 ∷ []
+
+-- three NOPs; MPG at 511, NUM 2; its words
+abbrev pub codeAcross : List ℕ
+codeAcross = 0 ∷ 0 ∷ 0 ∷ 0x4a0201ff ∷ 1 ∷ 2 ∷ 3 ∷ 4 ∷ []
+
+-- a code alone, and three NOPs
+abbrev pub codeAlone : ℕ → List ℕ
+codeAlone code = code ∷ 0 ∷ 0 ∷ 0 ∷ []
+
+-- the answers to a code alone, by its CMD
+unfoldable pub answersTo : List ℕ → List ℕ
+answersTo [] = []
+answersTo (cmd ∷ cmds) = answerIn (runOfVif0 1 (codeAlone (cmd * 0x1000000))) ++ answersTo cmds
+
+-- STCYCL 1, 1; UNPACK V4-32 with IMM bit 15; two NOPs
+abbrev pub topsAdded : List ℕ
+topsAdded = 0x01000101 ∷ 0x6c018000 ∷ 0 ∷ 0 ∷ []
+
+-- ITOP 5; MSCAL 9; two NOPs
+abbrev pub programStart : List ℕ
+programStart = 0x04000005 ∷ 0x14000009 ∷ 0 ∷ 0 ∷ []
+
+-- ITOP, TOP, TOPS and DBF of VIF0
+unfoldable pub startedIn : Ran → List ℕ
+startedIn r = r .after .state .vif0 .itop ∷ r .after .state .vif0 .top ∷ r .after .state .vif0 .tops ∷ if (r .after .state .vif0 .dbf) 1 0 ∷ []
+
+-- a state on a channel, at an end tag at 32, with so many entries used and these units; nothing waits in either path
+abbrev pub leftOn : ℕ → ℕ → Vif → Vif → State
+leftOn channel used v u =
+    record {
+      channel = channel;
+      tadr = 32;
+      tte = false;
+      ended = true;
+      stack = Empty;
+      tags = NoTagWords;
+      payload = NoPayload;
+      used = used;
+      vif0 = v;
+      vif1 = u;
+      path2 = resetPath;
+      path3 = resetPath;
+    }
+
+-- VIF0 and VIF1 after a program start from reset, VIF0 with ITOP 5 before it
+abbrev pub started0 : Vif
+started0 = withStart (withItops resetUnit 5) 5 0 false 0
+
+abbrev pub started1 : Vif
+started1 = withStart resetUnit 0 0 true 0
+
+-- what channel 0 leaves of the program start above, and what channel 1 leaves after it of MSCAL 2
+abbrev pub left0 : State
+left0 = leftOn 0 1 started0 resetUnit
+
+abbrev pub left1 : State
+left1 = leftOn 1 2 started0 started1
+
+-- a chain of one payload, started on a channel from a state, with VIF1's memories and a log
+unfoldable pub runFrom : State → ℕ → List ℕ → ℕ → List ℕ → Ran
+runFrom s channel log n words =
+    runOf (wordsBytes (tagWords 1 n ++ words ++ tagWords 7 0)) 100 (startOf s channel 0 false .state) (lent (blank .mem) (blank .code) log)
+
+-- channel 1 with MSCAL 2; channel 2 with a GIF tag of one A+D and value 7 to register 42h
+unfoldable pub second : Ran
+second = runFrom left0 1 (256 ∷ 9 ∷ 0 ∷ 0 ∷ 0 ∷ 0 ∷ 0 ∷ 0 ∷ []) 1 (codeAlone 0x14000002)
+
+unfoldable pub third : Ran
+third = runFrom left1 2 (256 ∷ 9 ∷ 256 ∷ 2 ∷ 0 ∷ 0 ∷ 0 ∷ 0 ∷ []) 2 (0x00008001 ∷ 0x10000000 ∷ 0x0000000e ∷ 0 ∷ 7 ∷ 0 ∷ 0x42 ∷ 0 ∷ [])
+
+-- a sheet built and run on VIF1's memories, from the state that channel 0 left
+unfoldable pub playedFrom0 : List ℕ → Played
+playedFrom0 sheet = playOf sheet (replicate 64 0) 0 left0 blank 100
+
 unfoldable pub requestPoints : List Point
 requestPoints =
     -- request 2: "in MODE 2 a field's ROW is replaced only where that field's mask code is 0." Only X has code 0: 10 + 1, then 11 + 2.
@@ -272,4 +364,19 @@ requestPoints =
     -- "Addresses run on by one each write.", across the memory's end
     ∷ point (quadwordsFrom (runOfWords 2 fillAcross) 1023) (1023 ∷ 0 ∷ [])
     ∷ point (quadwordIn (runOfWords 2 fillAcross) 1023 ++ quadwordIn (runOfWords 2 fillAcross) 0) (5 ∷ 5 ∷ 5 ∷ 5 ∷ 5 ∷ 5 ∷ 5 ∷ 5 ∷ [])
+    -- request 10, VIF0: "256 quadwords of data, 512 instructions ... Addresses wrap at those sizes."
+    ∷ point (quadwordIn (runOfVif0 2 dataAcross) 255 ++ quadwordIn (runOfVif0 2 dataAcross) 0) (5 ∷ 5 ∷ 5 ∷ 5 ∷ 6 ∷ 6 ∷ 6 ∷ 6 ∷ [])
+    ∷ point (instructionIn (runOfVif0 2 codeAcross) 511 ++ instructionIn (runOfVif0 2 codeAcross) 0) (1 ∷ 0 ∷ 0 ∷ 0 ∷ 2 ∷ 0 ∷ 0 ∷ 0 ∷ 3 ∷ 0 ∷ 0 ∷ 0 ∷ 4 ∷ 0 ∷ 0 ∷ 0 ∷ [])
+    -- "It has no codes 02, 03, 06, 11, 13, 15, 50, 51": 20; it has 04, 07, 10 and 17
+    ∷ point (answersTo (0x02 ∷ 0x03 ∷ 0x06 ∷ 0x11 ∷ 0x13 ∷ 0x15 ∷ 0x50 ∷ 0x51 ∷ [])) (20 ∷ 20 ∷ 20 ∷ 20 ∷ 20 ∷ 20 ∷ 20 ∷ 20 ∷ [])
+    ∷ point (answersTo (0x04 ∷ 0x07 ∷ 0x10 ∷ 0x17 ∷ [])) (0 ∷ 0 ∷ 0 ∷ 0 ∷ [])
+    -- "26 for UNPACK with IMM bit 15 on VIF0, after 22": 22 while WL is 0
+    ∷ point (answerIn (runOfVif0 1 (codeAlone 0x6c018000)) ++ answerIn (runOfVif0 1 topsAdded)) (22 ∷ 26 ∷ [])
+    -- "MSCAL and MSCNT there change ITOP alone of the registers"
+    ∷ point (startedIn (runOfVif0 1 programStart) ++ loggedIn (runOfVif0 1 programStart)) (5 ∷ 0 ∷ 0 ∷ 0 ∷ 256 ∷ 9 ∷ [])
+    -- channels 0, 1 and 2 in turn over one log; `capture-states` says that each begins where the one before ended
+    ∷ point (answerIn second ++ loggedIn second) (0 ∷ 256 ∷ 9 ∷ 256 ∷ 2 ∷ [])
+    ∷ point (answerIn third ++ loggedIn third ++ startedIn third) (0 ∷ 256 ∷ 9 ∷ 256 ∷ 2 ∷ 0x42 ∷ 7 ∷ 5 ∷ 0 ∷ 0 ∷ 0 ∷ [])
+    -- "its entry tests are made with VIF1's sizes, whatever channel the state held before the start"
+    ∷ point (playNumber (playedFrom0 startSheet .answer) ∷ playedFrom0 startSheet .steps ∷ playedFrom0 startSheet .state .used ∷ []) (0 ∷ 6 ∷ 2 ∷ [])
     ∷ []
