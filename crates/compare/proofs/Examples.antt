@@ -1,7 +1,11 @@
 -- Worked examples, computed.
 use mathlib.Core.Path.{_≡_, refl}
+use mathlib.Core.Bool.{true, false}
 use mathlib.Core.List.{[], _∷_}
 use Rattle.fields.specs.Fields.{if}
+use Rattle.memories.specs.declared.VifUnit.{VifUnit}
+use Rattle.memories.specs.declared.VifUnit.the-variants.{Vif0, Vif1}
+use Rattle.compare.specs.Parts.{dataPart, codePart, logPart, asks}
 use Rattle.compare.specs.Tests.{holdsOfSome, howMany, firstOf}
 use Rattle.compare.specs.Elements.{numberDiffers, differs, found, foundIn}
 
@@ -19,3 +23,18 @@ none-differs = refl
 pub last-word : foundIn 4 (1 ∷ 2 ∷ 3 ∷ 4 ∷ []) (1 ∷ 2 ∷ 3 ∷ 5 ∷ []) 1 ≡ found 0 1
 unfolding foundIn firstOf howMany differs numberDiffers holdsOfSome if
 last-word = refl
+
+-- 13 asks for VIF1's data memory, the log and VIF0's data memory
+pub thirteen-data : (u : VifUnit) → asks 13 (dataPart u) ≡ true
+unfolding asks
+thirteen-data Vif1 = refl
+thirteen-data Vif0 = refl
+
+pub thirteen-code : (u : VifUnit) → asks 13 (codePart u) ≡ false
+unfolding asks
+thirteen-code Vif1 = refl
+thirteen-code Vif0 = refl
+
+pub thirteen-log : asks 13 logPart ≡ true
+unfolding asks
+thirteen-log = refl

@@ -1,8 +1,9 @@
--- Laws of the definitions, by subject; what the comparison says is in Verdict.
+-- Laws of the definitions, by subject; what the comparison says is in Verdict and Unasked.
 pub mod TestLaws
 pub mod ElementLaws
 pub mod LengthLaws
 pub mod CompareLaws
 pub mod ListLaws
 pub mod Verdict
+pub mod Unasked
 pub mod Examples

@@ -1,87 +1,234 @@
--- What the comparison says of two boards; the verdict "same" holds exactly if their memories and their lists of entries are equal.
+-- What the comparison says of two boards; the verdict "same" holds exactly if the parts that are asked for are equal, with all parts exactly if the whole
+-- boards are.
 use mathlib.Core.Path.{_≡_, refl, sym, ap, _∙_}
-use mathlib.Core.Bool.{true}
+use mathlib.Core.Bool.{Bool, true, false, _&&_}
 use mathlib.Core.Logic.{_↔_}
-use Prim.Native.Nat.{ℕ, _*_}
+use mathlib.Core.List.{List}
+use Prim.Native.Nat.{ℕ, _*_, _<_}
+use native.Mathlib.Nat.{mul-zero}
 use native.Mathlib.Omega.{arith}
-use lib.Dec.{eqb}
-use lib.ListN.{take}
+use lib.Dec.{eqb, ltb}
+use lib.ListN.{length, take}
 use lib.Seq.{take-all}
-use borrow.Author.Tests.{eq-eqb, eqb-true}
+use borrow.Author.Tests.{eq-eqb, ne-eqb, eqb-true, lt-ltb}
 use Rattle.fields.specs.Fields.{if}
+use Rattle.fields.specs.Refusals.{outOfRange}
 use Rattle.fields.proofs.ChoiceLaws.{if-ind-by, and-left, and-right}
 use Rattle.gif.specs.Log.{entrySize}
-use Rattle.memories.specs.declared.VifUnit.the-variants.{Vif1}
-use Rattle.memories.specs.Units.{quadwords, instructions, dataWords, codeBytes}
+use Rattle.memories.specs.declared.VifUnit.{VifUnit}
+use Rattle.memories.specs.declared.VifUnit.the-variants.{Vif0, Vif1}
+use Rattle.memories.specs.Units.{quadwords, instructions}
+use Rattle.compare.specs.declared.UnitFound.{UnitFound}
 use Rattle.compare.specs.declared.Comparison.{Comparison}
 use Rattle.compare.specs.declared.CompareAnswer.{CompareAnswer}
-use Rattle.compare.specs.declared.CompareAnswer.the-variants.{Compared}
-use Rattle.compare.specs.Boards.{Board, refusal, smaller, comparisonOf, compareOf, sameOf}
-use Rattle.compare.specs.Equal.{Whole, Equal, Says}
-use Rattle.compare.proofs.LengthLaws.{boards-whole, whole-boards}
-use Rattle.compare.proofs.CompareLaws.{smaller-same, quadwords-inside, instructions-inside, entries-inside}
+use Rattle.compare.specs.declared.CompareAnswer.the-variants.{Compared, Refused}
+use Rattle.compare.specs.Tests.{howMany, firstOf}
+use Rattle.compare.specs.Elements.{found, foundIn}
+use Rattle.compare.specs.Parts.{dataPart, codePart, logPart, allParts, asks, lookedAt, Asked}
+use Rattle.compare.specs.Boards.{Memories, memories, Board, memoriesOf, otherLength, dataRefused, codeRefused, refusal, compareOf}
+use Rattle.compare.specs.Boards.{smaller, unitFound, entriesAsked, comparisonOf, foundOf, unitSame, sameOf}
+use Rattle.compare.specs.Equal.{InRange, Whole, EqualEntries, EqualIn, Equal, EqualTo, Says}
+use Rattle.compare.proofs.TestLaws.{never}
+use Rattle.compare.proofs.LengthLaws.{lengths-right, accepted, boards-whole, whole-boards}
+use Rattle.compare.proofs.CompareLaws.{smaller-same, quadwords-inside, instructions-inside, entries-in-logs}
 use Rattle.compare.proofs.ListLaws.{found-says}
 
--- ---- which boards are compared: those that are whole, and no others
+-- ---- which boards are compared: with a sum of parts those that are whole in them, and no others
 
-pub whole-compared : (a b : Board) → Whole a → Whole b → compareOf a b ≡ Compared (comparisonOf a b)
+pub whole-compared : (parts : ℕ) (a b : Board) → InRange parts → Whole parts a → Whole parts b → compareOf parts a b ≡ Compared (comparisonOf parts a b)
 unfolding compareOf if
-whole-compared a b v w = rw (whole-boards a b v w)
+whole-compared parts a b r v w = rw (whole-boards parts a b r v w)
 
-module _ (a b : Board) (c : Comparison) (e : compareOf a b ≡ Compared c) where
-  compared : (refusal a b ≡ 0) × (c ≡ comparisonOf a b)
+pub none-asked : (a b : Board) → compareOf 0 a b ≡ Refused outOfRange
+unfolding compareOf refusal if
+none-asked a b = refl
+
+pub more-asked : (parts : ℕ) (a b : Board) → allParts < parts → compareOf parts a b ≡ Refused outOfRange
+unfolding compareOf refusal if
+more-asked parts a b h =
+    let z : parts ≡ 0 → ⊥ = λ z. omega (arith, h, z) in
+    rw (ne-eqb parts 0 z, lt-ltb allParts parts h)
+
+-- ---- one part
+
+-- nothing is found in no elements
+pub none-found : (size : ℕ) (a b : List ℕ) → foundIn size a b 0 ≡ found 0 0
+unfolding foundIn firstOf howMany
+none-found size a b = refl
+
+-- the elements that are looked at are equal exactly if the memories are, where they are asked for
+memory-equal : (asked : Bool) (size n : ℕ) (a b : List ℕ) → (asked && otherLength (size * n) (length a) (length b)) ≡ false
+    → EqualTo size a b (lookedAt asked n) ↔ (asked ≡ true → a ≡ b)
+unfolding lookedAt if
+memory-equal true size n a b p =
+    let l : (length a ≡ size * n) × (length b ≡ size * n) = lengths-right p in
+    (λ m t. sym (take-all (size * n) a (omega arith)) ∙ m ∙ take-all (size * n) b (omega arith), λ h. ap (take (size * n)) (h refl))
+memory-equal false size n a b p = (λ m t. absurd (never t refl), λ h. rw (mul-zero size))
+
+-- the same of the entries and how many there are
+entries-equal : (asked : Bool) (a b : Board)
+    → (EqualTo entrySize (a .log) (b .log) (smaller (lookedAt asked (a .used)) (lookedAt asked (b .used)))
+    × (lookedAt asked (a .used) ≡ lookedAt asked (b .used)))
+    ↔ (asked ≡ true → EqualEntries a b)
+unfolding lookedAt if
+entries-equal true a b = (
+  λ h t. record { used = h .1; entries = rw (h .1) (rw (h .1, smaller-same (b .used)) at (h .0)) },
+  λ h.
+      let q = h refl in
+      (rw (q .used, smaller-same (b .used)) (rw (q .used) at (q .entries)), q .used),
+)
+entries-equal false a b = (λ h t. absurd (never t refl), λ h. (rw (smaller-same 0), refl))
+
+-- a unit's test, by the counts
+unit-same : (f : UnitFound) → (unitSame f ≡ true) ↔ ((f .quadwords .count ≡ 0) × (f .instructions .count ≡ 0))
+unfolding unitSame
+unit-same f = (
+  λ h. (eqb-true _ _ (and-left _ _ h), eqb-true _ _ (and-right (eqb (f .quadwords .count) 0) _ h)),
+  λ h. rw (h .0, h .1),
+)
+
+module _ (parts : ℕ) (a b : Board) (c : Comparison) (e : compareOf parts a b ≡ Compared c) where
+  compared : (refusal parts a b ≡ 0) × (c ≡ comparisonOf parts a b)
   unfolding compareOf
   compared =
-      if-ind-by (λ (r : CompareAnswer). r ≡ Compared c → (refusal a b ≡ 0) × (c ≡ comparisonOf a b)) (eqb (refusal a b) 0)
+      if-ind-by (λ (r : CompareAnswer). r ≡ Compared c → (refusal parts a b ≡ 0) × (c ≡ comparisonOf parts a b)) (eqb (refusal parts a b) 0)
       (λ t q. (eqb-true _ _ t, cc)) (λ f q. absurd (let z : _≡_ {A = ℕ} 0 1 = cc in omega arith))
       e
 
-  pub compared-whole : Whole a × Whole b
-  compared-whole = boards-whole a b (compared .0)
+  pub compared-in-range : InRange parts
+  compared-in-range = accepted parts a b (compared .0) .range
+
+  pub compared-whole : Whole parts a × Whole parts b
+  compared-whole = boards-whole parts a b (compared .0)
 
   -- ---- what is found
 
-  pub quadwords-say : Says 4 (a .mem) (b .mem) (quadwords Vif1) (c .quadwords)
+  unit-found : (u : VifUnit) → foundOf u c ≡ unitFound parts u (memoriesOf u a) (memoriesOf u b)
   unfolding comparisonOf
-  quadwords-say = rw (compared .1) (found-says 4 (a .mem) (b .mem) (quadwords Vif1) (omega arith) (quadwords-inside a b (compared .0)))
+  unit-found Vif1 = ap (foundOf Vif1) (compared .1)
+  unit-found Vif0 = ap (foundOf Vif0) (compared .1)
 
-  pub instructions-say : Says 8 (a .code) (b .code) (instructions Vif1) (c .instructions)
-  unfolding comparisonOf
-  instructions-say =
-      rw (compared .1) (found-says 8 (a .code) (b .code) (instructions Vif1) (omega arith) (instructions-inside a b (compared .0)))
+  module _ (u : VifUnit) where
+    pub quadwords-say : Says 4 (memoriesOf u a .mem) (memoriesOf u b .mem) (lookedAt (asks parts (dataPart u)) (quadwords u)) (foundOf u c .quadwords)
+    unfolding unitFound
+    quadwords-say =
+        rw (unit-found u)
+        (found-says 4 (memoriesOf u a .mem) (memoriesOf u b .mem) (lookedAt (asks parts (dataPart u)) (quadwords u)) (omega arith)
+        (quadwords-inside parts u (accepted parts a b (compared .0) .units u .mem) refl))
 
-  pub entries-say : Says entrySize (a .log) (b .log) (smaller (a .used) (b .used)) (c .entries)
+    pub instructions-say : Says 8 (memoriesOf u a .code) (memoriesOf u b .code) (lookedAt (asks parts (codePart u)) (instructions u)) (foundOf u c .instructions)
+    unfolding unitFound
+    instructions-say =
+        rw (unit-found u)
+        (found-says 8 (memoriesOf u a .code) (memoriesOf u b .code) (lookedAt (asks parts (codePart u)) (instructions u)) (omega arith)
+        (instructions-inside parts u (accepted parts a b (compared .0) .units u .code) refl))
+
+  pub entries-say : Says entrySize (a .log) (b .log) (smaller (entriesAsked parts a) (entriesAsked parts b)) (c .entries)
   unfolding comparisonOf
   entries-say =
       rw (compared .1)
-      (found-says entrySize (a .log) (b .log) (smaller (a .used) (b .used)) (omega arith) (entries-inside a b (compared .0) refl))
+      (found-says entrySize (a .log) (b .log) (smaller (entriesAsked parts a) (entriesAsked parts b)) (omega arith) (entries-in-logs parts a b (compared .0)))
+
+  used-is : (c .used .first ≡ entriesAsked parts a) × (c .used .second ≡ entriesAsked parts b)
+  unfolding comparisonOf
+  used-is = rw (compared .1) (refl, refl)
+
+  -- ---- a part that is not asked for: all its numbers are 0
+
+  pub data-not-asked : (u : VifUnit) → asks parts (dataPart u) ≡ false → foundOf u c .quadwords ≡ found 0 0
+  unfolding unitFound lookedAt if
+  data-not-asked u h = rw (unit-found u, h) (none-found 4 (memoriesOf u a .mem) (memoriesOf u b .mem))
+
+  pub code-not-asked : (u : VifUnit) → asks parts (codePart u) ≡ false → foundOf u c .instructions ≡ found 0 0
+  unfolding unitFound lookedAt if
+  code-not-asked u h = rw (unit-found u, h) (none-found 8 (memoriesOf u a .code) (memoriesOf u b .code))
+
+  pub log-not-asked : asks parts logPart ≡ false → c .entries ≡ found 0 0
+  unfolding comparisonOf lookedAt if
+  log-not-asked h = rw (compared .1, h, smaller-same 0) (none-found entrySize (a .log) (b .log))
 
   -- ---- the verdict
 
-  same-equal : sameOf c ≡ true → Equal a b
-  unfolding sameOf comparisonOf
+  module _ (u : VifUnit) where
+    data-equal : (foundOf u c .quadwords .count ≡ 0) ↔ (Asked parts (dataPart u) → memoriesOf u a .mem ≡ memoriesOf u b .mem)
+    unfolding dataRefused
+    data-equal =
+        let s = quadwords-say u .none in
+        let m =
+        memory-equal (asks parts (dataPart u)) 4 (quadwords u) (memoriesOf u a .mem) (memoriesOf u b .mem) (accepted parts a b (compared .0) .units u .mem) in
+        (λ z. m .0 (s .0 z), λ h. s .1 (m .1 h))
+
+    code-equal : (foundOf u c .instructions .count ≡ 0) ↔ (Asked parts (codePart u) → memoriesOf u a .code ≡ memoriesOf u b .code)
+    unfolding codeRefused
+    code-equal =
+        let s = instructions-say u .none in
+        let m =
+        memory-equal (asks parts (codePart u)) 8 (instructions u) (memoriesOf u a .code) (memoriesOf u b .code) (accepted parts a b (compared .0) .units u .code) in
+        (λ z. m .0 (s .0 z), λ h. s .1 (m .1 h))
+
+  units-same : (unitSame (c .vif1) && unitSame (c .vif0)) ≡ true → (u : VifUnit) → unitSame (foundOf u c) ≡ true
+  units-same h Vif1 = and-left _ _ h
+  units-same h Vif0 = and-right (unitSame (c .vif1)) _ h
+
+  same-equal : sameOf c ≡ true → EqualIn parts a b
+  unfolding sameOf
   same-equal h =
-      let w = compared-whole in
-      let i = and-right (eqb (c .quadwords .count) 0) _ h in
-      let j = and-right (eqb (c .instructions .count) 0) _ i in
-      let u : a .used ≡ b .used = rw (compared .1) at (eqb-true (c .used .first) (c .used .second) (and-right (eqb (c .entries .count) 0) _ j)) in
-      let m = quadwords-say .none .0 (eqb-true _ _ (and-left _ _ h)) in
-      let k = instructions-say .none .0 (eqb-true _ _ (and-left _ _ i)) in
-      let l = entries-say .none .0 (eqb-true _ _ (and-left _ _ j)) in
+      let m = unitSame (c .vif1) && unitSame (c .vif0) in
+      let l = and-left (m && eqb (c .entries .count) 0) _ h in
+      let n = eqb-true (c .used .first) (c .used .second) (and-right (m && eqb (c .entries .count) 0) _ h) in
+      let k : (u : VifUnit) → unitSame (foundOf u c) ≡ true = units-same (and-left m _ l) in
       record {
-        mem = sym (take-all (dataWords Vif1) (a .mem) (omega arith)) ∙ m ∙ take-all (dataWords Vif1) (b .mem) (omega arith);
-        code = sym (take-all (codeBytes Vif1) (a .code) (omega arith)) ∙ k ∙ take-all (codeBytes Vif1) (b .code) (omega arith);
-        used = u;
-        entries = rw u (rw (u, smaller-same (b .used)) at l);
+        mem = λ u. data-equal u .0 (unit-same (foundOf u c) .0 (k u) .0);
+        code = λ u. code-equal u .0 (unit-same (foundOf u c) .0 (k u) .1);
+        log =
+            entries-equal (asks parts logPart) a b .0 (entries-say .none .0 (eqb-true _ _ (and-right m _ l)), sym (used-is .0) ∙ n ∙ used-is .1);
       }
 
-  equal-same : Equal a b → sameOf c ≡ true
-  unfolding sameOf comparisonOf
+  equal-same : EqualIn parts a b → sameOf c ≡ true
+  unfolding sameOf
   equal-same h =
-      let l : take (entrySize * smaller (a .used) (b .used)) (a .log) ≡ take (entrySize * smaller (a .used) (b .used)) (b .log) = rw (h .used, smaller-same (b .used)) (rw (h .used) at (h .entries)) in
-      let n : c .used .first ≡ c .used .second = rw (compared .1) (h .used) in
-      simp
-      (quadwords-say .none .1 (ap (take (dataWords Vif1)) (h .mem)), instructions-say .none .1 (ap (take (codeBytes Vif1)) (h .code)), entries-say .none .1 l, eq-eqb (c .used .first) (c .used .second) n)
+      let u : (u : VifUnit) → unitSame (foundOf u c) ≡ true = λ u. unit-same (foundOf u c) .1 (data-equal u .1 (h .mem u), code-equal u .1 (h .code u)) in
+      let l = entries-equal (asks parts logPart) a b .1 (h .log) in
+      let n : c .used .first ≡ c .used .second = used-is .0 ∙ l .1 ∙ sym (used-is .1) in
+      rw (u Vif1, u Vif0, entries-say .none .1 (l .0), eq-eqb (c .used .first) (c .used .second) n)
 
-  pub verdict : (sameOf c ≡ true) ↔ Equal a b
+  pub verdict : (sameOf c ≡ true) ↔ EqualIn parts a b
   verdict = (same-equal, equal-same)
+
+-- ---- all parts
+
+memories-equal : {m n k l : List ℕ} → m ≡ n → k ≡ l → memories m k ≡ memories n l
+memories-equal p q = rw (p, q)
+
+all-data : (u : VifUnit) → Asked allParts (dataPart u)
+unfolding asks
+all-data Vif1 = refl
+all-data Vif0 = refl
+
+all-code : (u : VifUnit) → Asked allParts (codePart u)
+unfolding asks
+all-code Vif1 = refl
+all-code Vif0 = refl
+
+all-log : Asked allParts logPart
+unfolding asks
+all-log = refl
+
+all-equal : (a b : Board) → EqualIn allParts a b ↔ Equal a b
+all-equal a b = (
+  λ h.
+      let m : (u : VifUnit) → memoriesOf u a ≡ memoriesOf u b = λ u. memories-equal (h .mem u (all-data u)) (h .code u (all-code u)) in
+      record { vif1 = m Vif1; vif0 = m Vif0; log = h .log all-log },
+  λ h. record { mem = λ u t. ap (λ (m : Memories). m .mem) (both h u); code = λ u t. ap (λ (m : Memories). m .code) (both h u); log = λ t. h .log },
+)
+  where
+    both : Equal a b → (u : VifUnit) → memoriesOf u a ≡ memoriesOf u b
+    both h Vif1 = h .vif1
+    both h Vif0 = h .vif0
+
+-- with all parts, "same" is the equality of the whole boards
+pub verdict-all : (a b : Board) (c : Comparison) → compareOf allParts a b ≡ Compared c → (sameOf c ≡ true) ↔ Equal a b
+verdict-all a b c e =
+    let v = verdict allParts a b c e in
+    let w = all-equal a b in
+    (λ h. w .0 (v .0 h), λ h. v .1 (w .1 h))

@@ -5,25 +5,57 @@ use mathlib.Core.Logic.{_↔_}
 use mathlib.Core.List.{List}
 use lib.ListN.{length, take, drop}
 use Rattle.gif.specs.Log.{entrySize, logMost}
-use Rattle.memories.specs.declared.VifUnit.the-variants.{Vif1}
+use Rattle.memories.specs.declared.VifUnit.{VifUnit}
 use Rattle.memories.specs.Units.{dataWords, codeBytes}
 use Rattle.compare.specs.declared.Found.{Found}
-use Rattle.compare.specs.Boards.{Board}
+use Rattle.compare.specs.Parts.{dataPart, codePart, logPart, allParts, Asked}
+use Rattle.compare.specs.Boards.{Board, memoriesOf}
 
--- a board that is not refused
-pub record Whole (a : Board) : Type 0 where
-  pub words : length (a .mem) ≡ dataWords Vif1
-  pub bytes : length (a .code) ≡ codeBytes Vif1
-  pub whole : length (a .log) % entrySize ≡ 0
-  pub most : length (a .log) ≤ logMost
-  pub room : entrySize * a .used ≤ length (a .log)
+-- ---- boards that are not refused
 
--- the memories are equal, and so are the lists of entries: as many, with the same numbers
-pub record Equal (a b : Board) : Type 0 where
-  pub mem : a .mem ≡ b .mem
-  pub code : a .code ≡ b .code
+-- numbers that are sums of parts
+pub record InRange (parts : ℕ) : Type 0 where
+  pub some : 1 ≤ parts
+  pub most : parts ≤ allParts
+
+-- a log that is not refused
+pub record WholeLog (log : List ℕ) (used : ℕ) : Type 0 where
+  pub whole : length log % entrySize ≡ 0
+  pub most : length log ≤ logMost
+  pub room : entrySize * used ≤ length log
+
+-- a board whose parts that are asked for are not refused
+pub record Whole (parts : ℕ) (a : Board) : Type 0 where
+  pub words : (u : VifUnit) → Asked parts (dataPart u) → length (memoriesOf u a .mem) ≡ dataWords u
+  pub bytes : (u : VifUnit) → Asked parts (codePart u) → length (memoriesOf u a .code) ≡ codeBytes u
+  pub log : Asked parts logPart → WholeLog (a .log) (a .used)
+
+-- ---- boards that are equal
+
+-- the lists of entries are equal: as many, with the same numbers
+pub record EqualEntries (a b : Board) : Type 0 where
   pub used : a .used ≡ b .used
   pub entries : take (entrySize * a .used) (a .log) ≡ take (entrySize * b .used) (b .log)
+
+-- the parts that are asked for are equal
+pub record EqualIn (parts : ℕ) (a b : Board) : Type 0 where
+  pub mem : (u : VifUnit) → Asked parts (dataPart u) → memoriesOf u a .mem ≡ memoriesOf u b .mem
+  pub code : (u : VifUnit) → Asked parts (codePart u) → memoriesOf u a .code ≡ memoriesOf u b .code
+  pub log : Asked parts logPart → EqualEntries a b
+
+-- the whole boards are equal
+pub record Equal (a b : Board) : Type 0 where
+  pub vif1 : a .vif1 ≡ b .vif1
+  pub vif0 : a .vif0 ≡ b .vif0
+  pub log : EqualEntries a b
+
+-- the same lists lie in the parts that are asked for, the log's numbers beyond its entries included
+pub record Alike (parts : ℕ) (a b : Board) : Type 0 where
+  pub mem : (u : VifUnit) → Asked parts (dataPart u) → memoriesOf u a .mem ≡ memoriesOf u b .mem
+  pub code : (u : VifUnit) → Asked parts (codePart u) → memoriesOf u a .code ≡ memoriesOf u b .code
+  pub log : Asked parts logPart → (a .log ≡ b .log) × (a .used ≡ b .used)
+
+-- ---- elements
 
 -- the first n elements of two lists are equal
 abbrev pub EqualTo : ℕ → List ℕ → List ℕ → ℕ → Type 0

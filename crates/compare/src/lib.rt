@@ -1,17 +1,38 @@
-// The comparison of two boards: their data memories by quadwords, their code memories by instructions, their logs by entries.
+// The comparison of two boards in the parts that are asked for: data memories by quadwords, code memories by instructions, logs by entries.
 // What each function means is said by the definitions of specs/.
+mod boards;
+mod elements;
 mod lengths;
 mod parts;
 
+use boards::compare_asked;
 use lengths::refusal;
-use parts::compare_whole;
 ghost use mathlib.Core.Path.{_≡_};
-ghost use Rattle.compare.specs.Boards.{board, compareOf, sameOf};
+ghost use Rattle.compare.specs.Boards.{memories, board, compareOf, unitSame, sameOf};
+
+// The parts of a board, which are asked for by their sum.
+pub const VIF1_DATA: u32 = 1;
+
+pub const VIF1_CODE: u32 = 2;
+
+pub const LOG: u32 = 4;
+
+pub const VIF0_DATA: u32 = 8;
+
+pub const VIF0_CODE: u32 = 16;
+
+pub const ALL_PARTS: u32 = 31;
 
 // The first that differs (as many as were compared where none does), and how many differ.
 pub struct Found {
     pub first: u64,
     pub count: u64,
+}
+
+// A unit's memories.
+pub struct UnitFound {
+    pub quadwords: Found,
+    pub instructions: Found,
 }
 
 // How many entries of each log are used.
@@ -20,10 +41,10 @@ pub struct Used {
     pub second: u64,
 }
 
-// The entries are those that both logs have.
+// The entries are those that both logs have. All numbers of a part that is not asked for are 0.
 pub struct Comparison {
-    pub quadwords: Found,
-    pub instructions: Found,
+    pub vif1: UnitFound,
+    pub vif0: UnitFound,
     pub entries: Found,
     pub used: Used,
 }
@@ -33,47 +54,75 @@ pub enum CompareAnswer {
     Refused(u32),
 }
 
-// Compares two boards, or refuses one of their memories or logs.
+// Compares two boards, or refuses the parts or one of their memories or logs. Here d1 and d0 are the data memories of VIF1 and VIF0, c1 and c0 their code
+// memories, l is a log and u its entries used, each of board a and of board b.
 pub fn compare(
-    data_a: &[u32],
-    code_a: &[u8],
-    log_a: &[u64],
-    used_a: u64,
-    data_b: &[u32],
-    code_b: &[u8],
-    log_b: &[u64],
-    used_b: u64,
+    d1a: &[u32],
+    c1a: &[u8],
+    d0a: &[u32],
+    c0a: &[u8],
+    la: &[u64],
+    ua: u64,
+    d1b: &[u32],
+    c1b: &[u8],
+    d0b: &[u32],
+    c0b: &[u8],
+    lb: &[u64],
+    ub: u64,
+    parts: u32,
 ) -> CompareAnswer
-    ensures { λ r. ⌜ r ≡ compareOf (board (now («data_a» .entry)) (now («code_a» .entry)) (now («log_a» .entry)) «used_a») (board (now («data_b» .entry)) (now («code_b» .entry)) (now («log_b» .entry)) «used_b») ⌝ }
+    ensures { λ r. ⌜ r
+        ≡ compareOf parts
+        (board (memories (now (d1a .entry)) (now (c1a .entry))) (memories (now (d0a .entry)) (now (c0a .entry))) (now (la .entry)) ua)
+        (board (memories (now (d1b .entry)) (now (c1b .entry))) (memories (now (d0b .entry)) (now (c0b .entry))) (now (lb .entry)) ub) ⌝ }
 {
-    let number = refusal(data_a, code_a, log_a, used_a, data_b, code_b, log_b, used_b);
+    let number = refusal(
+        d1a,
+        c1a,
+        d0a,
+        c0a,
+        la,
+        ua,
+        d1b,
+        c1b,
+        d0b,
+        c0b,
+        lb,
+        ub,
+        parts,
+    );
     if number != 0 {
         return CompareAnswer::Refused(number);
     }
-    CompareAnswer::Compared(compare_whole(
-        data_a,
-        code_a,
-        log_a,
-        used_a,
-        data_b,
-        code_b,
-        log_b,
-        used_b,
-    ))
+    let found = compare_asked(
+        d1a,
+        c1a,
+        d0a,
+        c0a,
+        la,
+        ua,
+        d1b,
+        c1b,
+        d0b,
+        c0b,
+        lb,
+        ub,
+        parts,
+    );
+    CompareAnswer::Compared(found)
 }
 
-// The verdict: whether the boards are the same.
+fn unit_same(found: UnitFound) -> bool
+    ensures { λ r. ⌜ r ≡ unitSame found ⌝ }
+{
+    (found.quadwords.count == 0) & (found.instructions.count == 0)
+}
+
+// The verdict: whether the boards are the same in the parts that were asked for.
 pub fn same(comparison: Comparison) -> bool
     ensures { λ r. ⌜ r ≡ sameOf comparison ⌝ }
 {
-    if comparison.quadwords.count != 0 {
-        return false;
-    }
-    if comparison.instructions.count != 0 {
-        return false;
-    }
-    if comparison.entries.count != 0 {
-        return false;
-    }
-    comparison.used.first == comparison.used.second
+    let memories = unit_same(comparison.vif1) & unit_same(comparison.vif0);
+    let entries = comparison.entries.count == 0;
+    memories & entries & (comparison.used.first == comparison.used.second)
 }

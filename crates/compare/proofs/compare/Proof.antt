@@ -7,13 +7,13 @@ refusal-requires : tie.Need-refusal-requires
 refusal-requires c κs = search needs
 
 returns : tie.Need-returns
-returns c = boards-refused _ _ (c .before .refusal .ensures) (c .if1 .taken)
+returns c = boards-refused _ _ _ (c .before .refusal .ensures) (c .if1 .taken)
 
-compare-whole-requires : tie.Need-compare-whole-requires
-compare-whole-requires c κs = search needs
+compare-asked-requires : tie.Need-compare-asked-requires
+compare-asked-requires c κs = search needs
 
 returns-2 : tie.Need-returns-2
-returns-2 c = boards-compared _ _ (c .before .before .refusal .ensures) (c .before .if1 .left) (c .compare-whole .ensures)
+returns-2 c = boards-compared _ _ _ (c .before .before .refusal .ensures) (c .before .if1 .left) (c .compare-asked .ensures)
 
 pub compare-spec : {M : Type 1} → statement M
-compare-spec = tie.close (tie.spec refusal-requires returns compare-whole-requires returns-2)
+compare-spec = tie.close (tie.spec refusal-requires returns compare-asked-requires returns-2)

@@ -6,15 +6,15 @@ use Rattle.compare.specs.Elements.{numberDiffers}
 use Rattle.compare.specs.Inner.{listOf}
 use Rattle.compare.proofs.TestLaws.{None, none-zero}
 use Rattle.compare.proofs.ElementLaws.{number-found, number-passed, numbers-passed}
-use Rattle.compare.proofs.parts.element_differs.Statement.{statement}
-use Rattle.compare.proofs.parts.element_differs.Tie as tie
+use Rattle.compare.proofs.elements.element_differs.Statement.{statement}
+use Rattle.compare.proofs.elements.element_differs.Tie as tie
 
 abbrev Inv-loop : tie.InvT-loop
-Inv-loop part at size da ca la db cb lb j₀ j =
-    (j ≤ size) × None (numberDiffers (listOf part da ca la) (listOf part db cb lb) at) j
+Inv-loop memory at size da ca la db cb lb j₀ j =
+    (j ≤ size) × None (numberDiffers (listOf memory da ca la) (listOf memory db cb lb) at) j
 
 abbrev μ-loop : tie.MeasureT-loop
-μ-loop part at size da ca la db cb lb j₀ j = size - j
+μ-loop memory at size da ca la db cb lb j₀ j = size - j
 
 loop-holds : tie.Need-loop-holds Inv-loop μ-loop
 loop-holds c = (omega arith, none-zero _)

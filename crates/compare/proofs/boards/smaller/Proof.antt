@@ -1,8 +1,8 @@
 use borrow.Author.Tests.{lt-ltb, le-ltb}
 use Rattle.fields.specs.Fields.{if}
 use Rattle.compare.specs.Boards.{smaller}
-use Rattle.compare.proofs.parts.smaller.Statement.{statement}
-use Rattle.compare.proofs.parts.smaller.Tie as tie
+use Rattle.compare.proofs.boards.smaller.Statement.{statement}
+use Rattle.compare.proofs.boards.smaller.Tie as tie
 
 returns : tie.Need-returns
 unfolding smaller if

@@ -5,14 +5,14 @@ use Rattle.compare.specs.Tests.{firstOf, howMany}
 use Rattle.compare.specs.Elements.{foundIn}
 use Rattle.compare.specs.Inner.{listOf}
 use Rattle.compare.proofs.ElementLaws.{element-inside, found-small, element-passed, elements-passed}
-use Rattle.compare.proofs.parts.found_in.Statement.{statement}
-use Rattle.compare.proofs.parts.found_in.Tie as tie
+use Rattle.compare.proofs.elements.found_in.Statement.{statement}
+use Rattle.compare.proofs.elements.found_in.Tie as tie
 
 abbrev Inv-loop : tie.InvT-loop
-Inv-loop part size n da ca la db cb lb f₀ i₀ f i = (i ≤ n) × (f ≡ foundIn size (listOf part da ca la) (listOf part db cb lb) i)
+Inv-loop memory size n da ca la db cb lb f₀ i₀ f i = (i ≤ n) × (f ≡ foundIn size (listOf memory da ca la) (listOf memory db cb lb) i)
 
 abbrev μ-loop : tie.MeasureT-loop
-μ-loop part size n da ca la db cb lb f₀ i₀ f i = n - i
+μ-loop memory size n da ca la db cb lb f₀ i₀ f i = n - i
 
 loop-holds : tie.Need-loop-holds Inv-loop μ-loop
 unfolding foundIn firstOf howMany

@@ -1,6 +1,6 @@
 use borrow.Author.Needs.{needs}
-use Rattle.compare.proofs.parts.number_differs.Statement.{statement}
-use Rattle.compare.proofs.parts.number_differs.Tie as tie
+use Rattle.compare.proofs.elements.number_differs.Statement.{statement}
+use Rattle.compare.proofs.elements.number_differs.Tie as tie
 
 enum-told : tie.Need-enum-told
 enum-told c = search needs

@@ -2,8 +2,8 @@ use borrow.Author.Tests.{lt-ltb, le-ltb}
 use Rattle.fields.specs.Fields.{if}
 use Rattle.compare.specs.Inner.{foundAfter}
 use borrow.Author.Needs.{needs}
-use Rattle.compare.proofs.parts.after.Statement.{statement}
-use Rattle.compare.proofs.parts.after.Tie as tie
+use Rattle.compare.proofs.elements.after.Statement.{statement}
+use Rattle.compare.proofs.elements.after.Tie as tie
 
 add-t5 : tie.Need-add-t5
 add-t5 c = search needs
