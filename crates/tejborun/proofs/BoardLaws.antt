@@ -15,23 +15,23 @@ use Rattle.compare.proofs.LengthLaws.{refusal-most}
 use Rattle.tejborun.specs.Buffers.{short, Answered, answered}
 use Rattle.tejborun.specs.Boards.{compareAnswered, compareCall}
 
-module _ (a b : Board) where
+module _ (parts : ℕ) (a b : Board) where
   -- a refusal has a small number
-  pub refused-small : {x : CompareAnswer} {n : ℕ} → x ≡ compareOf a b → x ≡ Refused n → n ≤ 4
+  pub refused-small : {x : CompareAnswer} {n : ℕ} → x ≡ compareOf parts a b → x ≡ Refused n → n ≤ 5
   unfolding compareOf
   refused-small {x} {n} e q =
-      if-ind (λ (y : CompareAnswer). y ≡ Refused n → n ≤ 4) (eqb (refusal a b) 0) (λ p. absurd (let z : _≡_ {A = ℕ} 0 1 = cc in omega arith))
-      (λ p. let r = refusal-most a b in let z : refusal a b ≡ n = cc in omega arith) (sym e ∙ q)
+      if-ind (λ (y : CompareAnswer). y ≡ Refused n → n ≤ 5) (eqb (refusal parts a b) 0) (λ p. absurd (let z : _≡_ {A = ℕ} 0 1 = cc in omega arith))
+      (λ p. let r = refusal-most parts a b in let z : refusal parts a b ≡ n = cc in omega arith) (sym e ∙ q)
 
   module _ (result : List ℕ) where
-    pub compare-short : length result < 6 → answered short result ≡ compareCall a b result
+    pub compare-short : length result < 10 → answered short result ≡ compareCall parts a b result
     unfolding compareCall if
-    compare-short h = rw (lt-ltb (length result) 6 h)
+    compare-short h = rw (lt-ltb (length result) 10 h)
 
     -- by the comparison's answer
-    pub compare-told : 6 ≤ length result → {x y : CompareAnswer} → x ≡ compareOf a b → x ≡ y
+    pub compare-told : 10 ≤ length result → {x y : CompareAnswer} → x ≡ compareOf parts a b → x ≡ y
         → {z : Answered}
         → z ≡ compareAnswered y result
-        → z ≡ compareCall a b result
+        → z ≡ compareCall parts a b result
     unfolding compareCall if
-    compare-told h e q k = rw (le-ltb (length result) 6 h, ← e, q) k
+    compare-told h e q k = rw (le-ltb (length result) 10 h, ← e, q) k

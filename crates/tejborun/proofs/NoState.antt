@@ -1,11 +1,11 @@
 -- A block that is no state's: a call on it is refused with 1 to 5 and changes no memory and no block.
 use mathlib.Core.Path.{_≡_, refl}
-use mathlib.Core.Bool.{Bool, true, false, not}
+use mathlib.Core.Bool.{Bool, true, false, not, _&&_}
 use mathlib.Core.List.{List, [], _∷_}
 use Prim.Native.Nat.{ℕ, _≤_}
 use native.Mathlib.Omega.{arith}
 use borrow.Author.Tests.{eqb-false, eq-eqb, ne-eqb, le-ltb}
-use lib.ListN.{length}
+use lib.ListN.{length, getD}
 use lib.Dec.{eqb, ltb}
 use Rattle.fields.specs.Fields.{if}
 use Rattle.fields.specs.Refusals.{mainLength, logLength, outOfRange}
@@ -14,7 +14,7 @@ use Rattle.memories.specs.declared.VifUnit.the-variants.{Vif1}
 use Rattle.memories.specs.Lengths.{Lent}
 use Rattle.memories.proofs.LengthLaws.{lengths-most}
 use Rattle.chain.specs.declared.State.{State}
-use Rattle.chain.specs.Range.{channelInRange, startInRange, stateInRange, entryRefusal}
+use Rattle.chain.specs.Range.{unitOf, channelInRange, startInRange, stateInRange, entryRefusal}
 use Rattle.state_block.specs.Sizes.{stateSize}
 use Rattle.state_block.specs.StateBlock.{usedInBlock, noState, readState, stateInBlock}
 use Rattle.state_block.proofs.StateLaws.{none-read}
@@ -41,14 +41,18 @@ by-tests false t r rest l h = go (eqb r 0) refl
     go false q = let z = eqb-false r 0 q in rw q (record { some = omega arith; most = omega arith })
 
 -- the state that stands for none is out of range
-none-out : (used : ℕ) → stateInRange (noState used) ≡ false
-unfolding noState stateInRange startInRange channelInRange
-none-out used = refl
+never : (b : Bool) → (b && false) ≡ false
+never true = refl
+never false = refl
+
+none-out : (channel used : ℕ) → stateInRange (noState channel used) ≡ false
+unfolding noState stateInRange startInRange
+none-out channel used = rw (never (channelInRange channel false))
 
 module _ (main : List ℕ) (m : Lent) (s : State) (h : stateInRange s ≡ false) where
   entry-refused : OneToFive (entryRefusal main m s)
   unfolding entryRefusal
-  entry-refused = by-tests _ _ _ _ (lengths-most Vif1 m (s .used)) (rw h)
+  entry-refused = by-tests _ _ _ _ (lengths-most (unitOf (s .channel)) m (s .used)) (rw h)
 
   play-refused : (a : ℕ) → OneToFive (playRefusal main m s a)
   unfolding playRefusal
@@ -58,7 +62,14 @@ not-zero : {n : ℕ} → OneToFive n → n ≡ 0 → ⊥
 not-zero h z = omega arith
 
 module _ (block : List ℕ) (h : length block ≡ stateSize) (unknown : stateInBlock block .known ≡ false) where
-  none : stateInBlock block ≡ readState false (noState (usedInBlock block))
+  -- the channel and the entries used are the block's
+  abbrev pub standIn : State
+  standIn = noState (getD block 0 0) (usedInBlock block)
+
+  out : stateInRange standIn ≡ false
+  out = none-out (getD block 0 0) (usedInBlock block)
+
+  none : stateInBlock block ≡ readState false standIn
   none = none-read block h unknown
 
   -- a start answers 5
@@ -66,24 +77,24 @@ module _ (block : List ℕ) (h : length block ≡ stateSize) (unknown : stateInB
   unfolding startCall startOf writtenBack if
   none-started channel tadr tte =
       rw (eq-eqb (length block) stateSize h)
-      (if-ind (λ (x : Blocked). x ≡ blocked 5 block) (ltb 1 tte) refl (rw (none, none-out (usedInBlock block))))
+      (if-ind (λ (x : Blocked). x ≡ blocked 5 block) (ltb 1 tte) refl (rw (none, out)))
 
   -- a run answers its entry refusal and counts no step
   pub none-run : (main : List ℕ) (m : Lent) (allowance : ℕ) (result : List ℕ) → 1 ≤ length result
       → {n : ℕ}
-      → n ≡ entryRefusal main m (noState (usedInBlock block))
+      → n ≡ entryRefusal main m standIn
       → (runCall main m block allowance result ≡ leftByRun n m block (written (0 ∷ []) result)) × OneToFive n
   unfolding runCall runOf writtenBack if
   none-run main m allowance result l e =
-      let f = entry-refused main m (noState (usedInBlock block)) (none-out (usedInBlock block)) in
+      let f = entry-refused main m standIn out in
       (rw (eq-eqb (length block) stateSize h, le-ltb (length result) 1 l, none, ne-eqb _ 0 (not-zero f), ← e), rw e f)
 
   -- building and running answers the refusal before the sheet's
   pub none-played : (sheet main : List ℕ) (address : ℕ) (m : Lent) (allowance : ℕ) (result : List ℕ) → 2 ≤ length result
       → {n : ℕ}
-      → n ≡ playRefusal main m (noState (usedInBlock block)) address
+      → n ≡ playRefusal main m standIn address
       → (playCall sheet main address m block allowance result ≡ leftByPlay n main m block (written (0 ∷ 0 ∷ []) result)) × OneToFive n
   unfolding playCall playOf writtenBack if
   none-played sheet main address m allowance result l e =
-      let f = play-refused main m (noState (usedInBlock block)) (none-out (usedInBlock block)) address in
+      let f = play-refused main m standIn out address in
       (rw (eq-eqb (length block) stateSize h, le-ltb (length result) 2 l, none, ne-eqb _ 0 (not-zero f), ← e), rw e f)

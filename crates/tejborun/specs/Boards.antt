@@ -11,19 +11,23 @@ use Rattle.compare.specs.declared.CompareAnswer.the-variants.{Compared, Refused
 use Rattle.compare.specs.Boards.{Board, compareOf, sameOf}
 use Rattle.tejborun.specs.Buffers.{short, written, Answered, answered}
 
--- the first and the count of quadwords, of instructions and of entries that differ
+-- the first and the count of those that differ: VIF1's quadwords and instructions, entries, VIF0's quadwords and instructions
 abbrev pub foundNumbers : Comparison → List ℕ
 foundNumbers c =
-    c .quadwords .first
-    ∷ c .quadwords .count
-    ∷ c .instructions .first
-    ∷ c .instructions .count
+    c .vif1 .quadwords .first
+    ∷ c .vif1 .quadwords .count
+    ∷ c .vif1 .instructions .first
+    ∷ c .vif1 .instructions .count
     ∷ c .entries .first
     ∷ c .entries .count
+    ∷ c .vif0 .quadwords .first
+    ∷ c .vif0 .quadwords .count
+    ∷ c .vif0 .instructions .first
+    ∷ c .vif0 .instructions .count
     ∷ []
 
 abbrev pub zeros : List ℕ
-zeros = 0 ∷ 0 ∷ 0 ∷ 0 ∷ 0 ∷ 0 ∷ []
+zeros = 0 ∷ 0 ∷ 0 ∷ 0 ∷ 0 ∷ 0 ∷ 0 ∷ 0 ∷ 0 ∷ 0 ∷ []
 
 -- 0 where the boards are the same, 1 where they differ
 abbrev pub verdict : Bool → ℕ
@@ -35,6 +39,6 @@ abbrev pub compareAnswered : CompareAnswer → List ℕ → Answered
 compareAnswered (Compared c) result = answered (verdict (sameOf c)) (written (foundNumbers c) result)
 compareAnswered (Refused n) result = answered (100 + n) (written zeros result)
 
-unfoldable pub compareCall : Board → Board → List ℕ → Answered
-compareCall a b result =
-    if (ltb (length result) 6) (answered short result) (compareAnswered (compareOf a b) result)
+unfoldable pub compareCall : ℕ → Board → Board → List ℕ → Answered
+compareCall parts a b result =
+    if (ltb (length result) 10) (answered short result) (compareAnswered (compareOf parts a b) result)

@@ -1,26 +1,30 @@
 // Two boards compared.
-use super::results::put_six;
+use super::results::put_ten;
 use compare::CompareAnswer;
 use compare::Comparison;
 ghost use mathlib.Core.Path.{_≡_};
 ghost use Prim.Native.Nat.{_≤_};
 ghost use lib.ListN.{length};
-ghost use Rattle.compare.specs.Boards.{board};
+ghost use Rattle.compare.specs.Boards.{memories, board};
 ghost use Rattle.tejborun.specs.Buffers.{answered, written};
 ghost use Rattle.tejborun.specs.Boards.{foundNumbers, verdict, compareCall};
 
-fn put_comparison(result: &mut [u64], comparison: Comparison)
-    requires { ⌜ 6 ≤ length (now result) ⌝ }
-    ensures { λ _. ⌜ now (result .exit) ≡ written (foundNumbers comparison) (now (result .entry)) ⌝ }
+fn put_comparison(result: &mut [u64], c: Comparison)
+    requires { ⌜ 10 ≤ length (now result) ⌝ }
+    ensures { λ _. ⌜ now (result .exit) ≡ written (foundNumbers c) (now (result .entry)) ⌝ }
 {
-    put_six(
+    put_ten(
         result,
-        comparison.quadwords.first,
-        comparison.quadwords.count,
-        comparison.instructions.first,
-        comparison.instructions.count,
-        comparison.entries.first,
-        comparison.entries.count,
+        c.vif1.quadwords.first,
+        c.vif1.quadwords.count,
+        c.vif1.instructions.first,
+        c.vif1.instructions.count,
+        c.entries.first,
+        c.entries.count,
+        c.vif0.quadwords.first,
+        c.vif0.quadwords.count,
+        c.vif0.instructions.first,
+        c.vif0.instructions.count,
     );
 }
 
@@ -32,28 +36,51 @@ fn verdict(same: bool) -> u32
 
 #[no_mangle]
 pub extern "C" fn tejborun_compare(
-    data_a: &[u32],
-    code_a: &[u8],
-    log_a: &[u64],
-    used_a: u64,
-    data_b: &[u32],
-    code_b: &[u8],
-    log_b: &[u64],
-    used_b: u64,
+    d1a: &[u32],
+    c1a: &[u8],
+    d0a: &[u32],
+    c0a: &[u8],
+    la: &[u64],
+    ua: u64,
+    d1b: &[u32],
+    c1b: &[u8],
+    d0b: &[u32],
+    c0b: &[u8],
+    lb: &[u64],
+    ub: u64,
+    parts: u32,
     result: &mut [u64],
 ) -> u32
-    ensures { λ r. ⌜ answered r (now (result .exit)) ≡ compareCall (board (now («data_a» .entry)) (now («code_a» .entry)) (now («log_a» .entry)) «used_a») (board (now («data_b» .entry)) (now («code_b» .entry)) (now («log_b» .entry)) «used_b») (now (result .entry)) ⌝ }
+    ensures { λ r. ⌜ answered r (now (result .exit))
+        ≡ compareCall parts
+        (board (memories (now (d1a .entry)) (now (c1a .entry))) (memories (now (d0a .entry)) (now (c0a .entry))) (now (la .entry)) ua)
+        (board (memories (now (d1b .entry)) (now (c1b .entry))) (memories (now (d0b .entry)) (now (c0b .entry))) (now (lb .entry)) ub)
+        (now (result .entry)) ⌝ }
 {
-    if result.len() < 6 {
+    if result.len() < 10 {
         return 60;
     }
-    match compare::compare(data_a, code_a, log_a, used_a, data_b, code_b, log_b, used_b) {
+    match compare::compare(
+        d1a,
+        c1a,
+        d0a,
+        c0a,
+        la,
+        ua,
+        d1b,
+        c1b,
+        d0b,
+        c0b,
+        lb,
+        ub,
+        parts,
+    ) {
         CompareAnswer::Compared(comparison) => {
             put_comparison(result, comparison);
             verdict(compare::same(comparison))
         }
         CompareAnswer::Refused(number) => {
-            put_six(result, 0, 0, 0, 0, 0, 0);
+            put_ten(result, 0, 0, 0, 0, 0, 0, 0, 0, 0, 0);
             100 + number
         }
     }

@@ -20,9 +20,21 @@ pub(crate) fn put_two(result: &mut [u64], a: u64, b: u64)
     result[1] = b;
 }
 
-pub(crate) fn put_six(result: &mut [u64], a: u64, b: u64, c: u64, d: u64, e: u64, f: u64)
-    requires { ⌜ 6 ≤ length (now result) ⌝ }
-    ensures { λ _. ⌜ now (result .exit) ≡ written (a ∷ b ∷ c ∷ d ∷ e ∷ f ∷ []) (now (result .entry)) ⌝ }
+pub(crate) fn put_ten(
+    result: &mut [u64],
+    a: u64,
+    b: u64,
+    c: u64,
+    d: u64,
+    e: u64,
+    f: u64,
+    g: u64,
+    h: u64,
+    i: u64,
+    j: u64,
+)
+    requires { ⌜ 10 ≤ length (now result) ⌝ }
+    ensures { λ _. ⌜ now (result .exit) ≡ written (a ∷ b ∷ c ∷ d ∷ e ∷ f ∷ g ∷ h ∷ i ∷ j ∷ []) (now (result .entry)) ⌝ }
 {
     result[0] = a;
     result[1] = b;
@@ -30,4 +42,8 @@ pub(crate) fn put_six(result: &mut [u64], a: u64, b: u64, c: u64, d: u64, e: u64
     result[3] = d;
     result[4] = e;
     result[5] = f;
+    result[6] = g;
+    result[7] = h;
+    result[8] = i;
+    result[9] = j;
 }

@@ -5,12 +5,12 @@ use Rattle.tejborun.proofs.boards.tejborun_compare.Statement.{statement
 use Rattle.tejborun.proofs.boards.tejborun_compare.Tie as tie
 
 returns : tie.Need-returns
-returns c = compare-short _ _ _ (c .if1 .taken)
+returns c = compare-short _ _ _ _ (c .if1 .taken)
 
 add-result : tie.Need-add-result
 add-result c =
     let a = c .before .before .before .before .before in
-    let h = refused-small _ _ (a .before .before .compare .ensures) (a .number .given .1) in
+    let h = refused-small _ _ _ (a .before .before .compare .ensures) (a .number .given .1) in
     omega arith
 
 returns-2 : tie.Need-returns-2
@@ -18,14 +18,14 @@ returns-2 c =
     let w = c .before .before .before .before in
     let a = w .before .before .before in
     let s = a .before .before in
-    compare-told _ _ _ (s .before .if1 .left) (s .compare .ensures) (a .comparison .given .1) (rw (c .verdict .ensures, c .before .same .ensures, w .put-comparison .ensures))
+    compare-told _ _ _ _ (s .before .if1 .left) (s .compare .ensures) (a .comparison .given .1) (rw (c .verdict .ensures, c .before .same .ensures, w .put-comparison .ensures))
 
 returns-3 : tie.Need-returns-3
 returns-3 c =
     let w = c .before .before in
     let a = w .before .before .before in
     let s = a .before .before in
-    compare-told _ _ _ (s .before .if1 .left) (s .compare .ensures) (a .number .given .1) (rw (w .put-six .ensures))
+    compare-told _ _ _ _ (s .before .if1 .left) (s .compare .ensures) (a .number .given .1) (rw (w .put-ten .ensures))
 
 pub tejborun-compare-spec : {M : Type 1} → statement M
 tejborun-compare-spec =
