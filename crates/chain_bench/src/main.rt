@@ -29,7 +29,8 @@ fn unused(s: State) -> State {
     let stack = s.stack;
     let tags = s.tags;
     let payload = s.payload;
-    let vif = s.vif;
+    let vif0 = s.vif0;
+    let vif1 = s.vif1;
     let path2 = s.path2;
     let path3 = s.path3;
     State {
@@ -41,7 +42,8 @@ fn unused(s: State) -> State {
         tags,
         payload,
         used: 0,
-        vif,
+        vif0,
+        vif1,
         path2,
         path3,
     }
@@ -120,9 +122,6 @@ fn begin(header: &[u8], main: &mut [u8], data: &mut [u32], code: &mut [u8], log:
     if size < 16 {
         return;
     }
-    if channel < 1 {
-        return;
-    }
     if 2 < channel {
         return;
     }
@@ -132,7 +131,44 @@ fn begin(header: &[u8], main: &mut [u8], data: &mut [u32], code: &mut [u8], log:
     if main.len() < size {
         return;
     }
-    time(&main[..size], data, code, log, channel, word_at(header, 0));
+    time_on(&main[..size], data, code, log, channel, word_at(header, 0));
+}
+
+// The words of data memory that a run on a channel is lent.
+fn data_words(channel: u32) -> usize {
+    if channel == 0 { 1024 } else { 4096 }
+}
+
+// The bytes of code memory.
+fn code_bytes(channel: u32) -> usize {
+    if channel == 0 { 4096 } else { 16384 }
+}
+
+// On the memories of the channel's unit.
+fn time_on(
+    main: &[u8],
+    data: &mut [u32],
+    code: &mut [u8],
+    log: &mut [u64],
+    channel: u32,
+    count: u32,
+) {
+    let words = data_words(channel);
+    let bytes = code_bytes(channel);
+    if data.len() < words {
+        return;
+    }
+    if code.len() < bytes {
+        return;
+    }
+    time(
+        main,
+        &mut data[..words],
+        &mut code[..bytes],
+        log,
+        channel,
+        count,
+    );
 }
 
 // The largest buffer, as a slice.

@@ -34,10 +34,10 @@ fn calls_right(calls: &[u8], count: u32) -> bool {
     true
 }
 
-// Whether the numbers of a header, but for the lengths of data memory, code memory and log, are within their limits.
+// Whether the numbers of a header, but for the lengths of the units' memories and the log, are within their limits.
 fn header_right(header: &[u8]) -> bool {
     let size = word_at(header, 4);
-    if word_at(header, 0) != 1346454356 {
+    if word_at(header, 0) != 844120916 {
         return false;
     }
     if 1048608 < size {

@@ -4,7 +4,9 @@ mod run;
 mod start;
 mod sums;
 
+use cases::fill_bytes;
 use cases::fill_memories;
+use cases::fill_words;
 use cases::tell_damaged;
 use chain::State;
 use input::least;
@@ -51,6 +53,12 @@ fn running_of(header: &[u8], at: usize) -> Running {
     }
 }
 
+// VIF0's memories.
+fn fill_unit(data: &mut [u32], code: &mut [u8], first: u64) {
+    fill_words(data, std::num::wrapping_add_u64(first, 5));
+    fill_bytes(code, std::num::wrapping_add_u64(first, 6));
+}
+
 // A case that was read, on its memories.
 fn run_case(
     out: &mut [u8; 65536],
@@ -64,11 +72,17 @@ fn run_case(
     data_before: &mut [u32],
     code_before: &mut [u8],
     log_before: &mut [u64],
+    data0: &mut [u32],
+    code0: &mut [u8],
+    data0_before: &mut [u32],
+    code0_before: &mut [u8],
 ) -> Ended {
     clear(main, word_at(header, 8) as usize * 4);
     let first = joined(word_at(header, 24), word_at(header, 28));
     fill_memories(data, code, log, first);
     fill_memories(data_before, code_before, log_before, first);
+    fill_unit(data0, code0, first);
+    fill_unit(data0_before, code0_before, first);
     let n = run_calls(
         out,
         running_of(header, at),
@@ -81,11 +95,60 @@ fn run_case(
         data_before,
         code_before,
         log_before,
+        data0,
+        code0,
+        data0_before,
+        code0_before,
     );
     Ended { at: n, whole: true }
 }
 
-// A case that was read, if data memory, code memory and log are within their limits.
+// A case that was read, on VIF1's memories and the log, if VIF0's are within their limits.
+fn take_small(
+    out: &mut [u8; 65536],
+    at: usize,
+    header: &[u8],
+    calls: &[u8],
+    main: &mut [u8],
+    data: &mut [u32],
+    code: &mut [u8],
+    log: &mut [u64],
+    data_before: &mut [u32],
+    code_before: &mut [u8],
+    log_before: &mut [u64],
+    data0: &mut [u32],
+    code0: &mut [u8],
+    data0_before: &mut [u32],
+    code0_before: &mut [u8],
+) -> Ended {
+    let d = word_at(header, 40) as usize;
+    let c = word_at(header, 44) as usize;
+    if least(data0.len(), data0_before.len()) < d {
+        return Ended { at, whole: false };
+    }
+    if least(code0.len(), code0_before.len()) < c {
+        return Ended { at, whole: false };
+    }
+    run_case(
+        out,
+        at,
+        header,
+        calls,
+        main,
+        data,
+        code,
+        log,
+        data_before,
+        code_before,
+        log_before,
+        &mut data0[..d],
+        &mut code0[..c],
+        &mut data0_before[..d],
+        &mut code0_before[..c],
+    )
+}
+
+// A case that was read, if its memories and log are within their limits.
 fn take_case(
     out: &mut [u8; 65536],
     at: usize,
@@ -98,6 +161,10 @@ fn take_case(
     data_before: &mut [u32],
     code_before: &mut [u8],
     log_before: &mut [u64],
+    data0: &mut [u32],
+    code0: &mut [u8],
+    data0_before: &mut [u32],
+    code0_before: &mut [u8],
 ) -> Ended {
     let d = word_at(header, 12) as usize;
     let c = word_at(header, 16) as usize;
@@ -111,7 +178,7 @@ fn take_case(
     if least(log.len(), log_before.len()) < l {
         return Ended { at, whole: false };
     }
-    run_case(
+    take_small(
         out,
         at,
         header,
@@ -123,6 +190,10 @@ fn take_case(
         &mut data_before[..d],
         &mut code_before[..c],
         &mut log_before[..l],
+        data0,
+        code0,
+        data0_before,
+        code0_before,
     )
 }
 
@@ -139,6 +210,10 @@ fn next_case(
     data_before: &mut [u32],
     code_before: &mut [u8],
     log_before: &mut [u64],
+    data0: &mut [u32],
+    code0: &mut [u8],
+    data0_before: &mut [u32],
+    code0_before: &mut [u8],
 ) -> Ended {
     let m = word_at(header, 4) as usize;
     if !read_case(header, calls, main) {
@@ -159,6 +234,10 @@ fn next_case(
         data_before,
         code_before,
         log_before,
+        data0,
+        code0,
+        data0_before,
+        code0_before,
     )
 }
 
@@ -169,7 +248,7 @@ fn read_header(out: &[u8; 65536], at: usize, number: u64, header: &mut [u8]) -> 
         wire::flush(out, at);
         return false;
     }
-    if got < 292 {
+    if got < 428 {
         tell_damaged(out, at, number);
         return false;
     }
@@ -178,7 +257,7 @@ fn read_header(out: &[u8; 65536], at: usize, number: u64, header: &mut [u8]) -> 
 
 fn run_all(
     out: &mut [u8; 65536],
-    header: &mut [u8; 292],
+    header: &mut [u8; 428],
     calls: &mut [u8; 1048560],
     main: &mut [u8; 1048608],
     data: &mut [u32; 4100],
@@ -187,6 +266,10 @@ fn run_all(
     data_before: &mut [u32; 4100],
     code_before: &mut [u8; 16392],
     log_before: &mut [u64; 131080],
+    data0: &mut [u32; 1028],
+    code0: &mut [u8; 4104],
+    data0_before: &mut [u32; 1028],
+    code0_before: &mut [u8; 4104],
 ) {
     let mut at = 0;
     let mut number: u64 = 0;
@@ -206,6 +289,10 @@ fn run_all(
             data_before,
             code_before,
             log_before,
+            data0,
+            code0,
+            data0_before,
+            code0_before,
         );
         at = done.at;
         if !done.whole {
@@ -218,7 +305,7 @@ fn run_all(
 
 fn main() {
     let mut out = [0u8; 65536];
-    let mut header = [0u8; 292];
+    let mut header = [0u8; 428];
     let mut calls = [0u8; 1048560];
     let mut main = [0u8; 1048608];
     let mut data = [0u32; 4100];
@@ -227,6 +314,10 @@ fn main() {
     let mut data_before = [0u32; 4100];
     let mut code_before = [0u8; 16392];
     let mut log_before = [0u64; 131080];
+    let mut data0 = [0u32; 1028];
+    let mut code0 = [0u8; 4104];
+    let mut data0_before = [0u32; 1028];
+    let mut code0_before = [0u8; 4104];
     run_all(
         &mut out,
         &mut header,
@@ -238,5 +329,9 @@ fn main() {
         &mut data_before,
         &mut code_before,
         &mut log_before,
+        &mut data0,
+        &mut code0,
+        &mut data0_before,
+        &mut code0_before,
     );
 }

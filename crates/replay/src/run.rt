@@ -145,11 +145,30 @@ fn call(
     data_before: &mut [u32],
     code_before: &mut [u8],
     log_before: &mut [u64],
+    data0: &mut [u32],
+    code0: &mut [u8],
+    data0_before: &mut [u32],
+    code0_before: &mut [u8],
 ) -> Running {
     if call_word(calls, k, 0) == 1 {
         return start_call(out, s, case, calls, k);
     }
     let allowance = joined(call_word(calls, k, 1), call_word(calls, k, 2));
+    if s.state.channel == 0 {
+        return run_call(
+            out,
+            s,
+            case,
+            allowance,
+            main,
+            data0,
+            code0,
+            log,
+            data0_before,
+            code0_before,
+            log_before,
+        );
+    }
     run_call(
         out,
         s,
@@ -178,6 +197,10 @@ pub(crate) fn run_calls(
     data_before: &mut [u32],
     code_before: &mut [u8],
     log_before: &mut [u64],
+    data0: &mut [u32],
+    code0: &mut [u8],
+    data0_before: &mut [u32],
+    code0_before: &mut [u8],
 ) -> usize {
     let mut s = start;
     let mut k = 0;
@@ -195,6 +218,10 @@ pub(crate) fn run_calls(
             data_before,
             code_before,
             log_before,
+            data0,
+            code0,
+            data0_before,
+            code0_before,
         );
         k += 1;
     }

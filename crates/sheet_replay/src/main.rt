@@ -119,7 +119,7 @@ fn take_case(
 
 // Reads the sheet after a header, if all of it is there.
 fn read_sheet(header: &[u8], sheet: &mut [u8]) -> bool {
-    if word_at(header, 0) != 1414026068 {
+    if word_at(header, 0) != 843600724 {
         return false;
     }
     read_part(sheet, (length_at(header, 1) + 3) / 4 * 4)
@@ -150,7 +150,7 @@ fn read_header(out: &[u8; 65536], at: usize, number: u64, header: &mut [u8]) -> 
         wire::flush(out, at);
         return false;
     }
-    if got < 300 {
+    if got < 428 {
         tell_damaged(out, at, number);
         return false;
     }
@@ -159,7 +159,7 @@ fn read_header(out: &[u8; 65536], at: usize, number: u64, header: &mut [u8]) -> 
 
 fn run_all(
     out: &mut [u8; 65536],
-    header: &mut [u8; 300],
+    header: &mut [u8; 428],
     sheet: &mut [u8; 131088],
     output: &mut [u8; 1048608],
     main: &mut [u8; 1048608],
@@ -185,7 +185,7 @@ fn run_all(
 
 fn main() {
     let mut out = [0u8; 65536];
-    let mut header = [0u8; 300];
+    let mut header = [0u8; 428];
     let mut sheet = [0u8; 131088];
     let mut output = [0u8; 1048608];
     let mut main = [0u8; 1048608];

@@ -74,7 +74,7 @@ fn groups_right(input: &[u64], groups: u32) -> bool {
 fn header_right(header: &[u8]) -> bool {
     let number = word_at(header, 196);
     let count = word_at(header, 204);
-    if word_at(header, 0) != 1179211348 {
+    if word_at(header, 0) != 0x32495654 {
         return false;
     }
     if 3 < number {
@@ -84,6 +84,9 @@ fn header_right(header: &[u8]) -> bool {
         return false;
     }
     if 262144 < count {
+        return false;
+    }
+    if 1 < word_at(header, 208) {
         return false;
     }
     (number + count) % 4 == 0

@@ -8,6 +8,7 @@ use cases::tell_damaged;
 use gif::Path;
 use input::least;
 use input::read_case;
+use memories::VifUnit;
 use run::run_groups;
 use start::case_of;
 use start::running_of;
@@ -17,9 +18,10 @@ use vif::Vif;
 use wire::joined;
 use wire::word_at;
 
-// A case but for its memories and words: the number of its first word, how many groups and words, and its blocks. `known` says whether the blocks are a
-// unit's and a path's.
+// A case but for its memories and words: its unit, the number of its first word, how many groups and words, and its blocks. `known` says whether the blocks
+// are a unit's and a path's.
 struct Case {
+    which: VifUnit,
     number: u32,
     groups: u32,
     count: u32,
@@ -150,7 +152,7 @@ fn read_header(out: &[u8; 65536], at: usize, number: u64, header: &mut [u8]) -> 
         wire::flush(out, at);
         return false;
     }
-    if got < 208 {
+    if got < 212 {
         tell_damaged(out, at, number);
         return false;
     }
@@ -159,7 +161,7 @@ fn read_header(out: &[u8; 65536], at: usize, number: u64, header: &mut [u8]) -> 
 
 fn run_all(
     out: &mut [u8; 65536],
-    header: &mut [u8; 208],
+    header: &mut [u8; 212],
     input: &mut [u64; 163840],
     data: &mut [u32; 4100],
     code: &mut [u8; 16392],
@@ -197,7 +199,7 @@ fn run_all(
 
 fn main() {
     let mut out = [0u8; 65536];
-    let mut header = [0u8; 208];
+    let mut header = [0u8; 212];
     let mut input = [0u64; 163840];
     let mut data = [0u32; 4100];
     let mut code = [0u8; 16392];

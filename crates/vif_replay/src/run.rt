@@ -4,7 +4,6 @@ use super::Running;
 use super::input::nth;
 use cases::tell_changes;
 use gif::Path;
-use memories::VifUnit;
 use state_block::PATH_WORDS;
 use state_block::UNIT_WORDS;
 use vif::Incoming;
@@ -72,7 +71,8 @@ fn call(
     let i = std::num::wrapping_add_u32(case.groups, s.next);
     let number = std::num::wrapping_add_u32(case.number, s.next);
     let next = incoming(input, i, number);
-    let r = vif::take(VifUnit::Vif1, unit, path, next, data, code, log, s.used);
+    let which = case.which;
+    let r = vif::take(which, unit, path, next, data, code, log, s.used);
     let answer = r.answer;
     let unit2 = r.unit;
     let path2 = r.path2;

@@ -2,6 +2,7 @@
 use super::Case;
 use super::Running;
 use cases::read_words;
+use memories::VifUnit;
 use state_block::PATH_WORDS;
 use state_block::UNIT_WORDS;
 use state_block::path_in_block;
@@ -28,8 +29,16 @@ fn both(a: bool, b: bool) -> bool {
     false
 }
 
+fn unit_named(number: u32) -> VifUnit {
+    match number {
+        0 => VifUnit::Vif0,
+        _ => VifUnit::Vif1,
+    }
+}
+
 fn case_with(header: &[u8], known: bool, unit: [u32; UNIT_WORDS], path: [u32; PATH_WORDS]) -> Case {
     Case {
+        which: unit_named(word_at(header, 208)),
         number: word_at(header, 196),
         groups: word_at(header, 200),
         count: word_at(header, 204),

@@ -56,15 +56,15 @@ same-length-3 c = let k = c .before .before .before .before .before .before .bef
 
 -- src/main.rt:45:1
 same-length-4 : tie.Need-same-length-4
-same-length-4 c = search needs
+same-length-4 c = let k = c .before .before .before .before .before .before .before .before .before .before .before .before .before .before .before .before .before .before .before .before .before .before .before .before .before .before .before .before .fill-memories2 .kept in let j = c .before .before .before .before .before .before .before .before .before .before .before .before .run-groups .kept in search needs
 
 -- src/main.rt:45:1
 same-length-5 : tie.Need-same-length-5
-same-length-5 c = search needs
+same-length-5 c = let k = c .before .before .before .before .before .before .before .before .before .before .before .before .before .before .before .before .before .before .before .before .before .before .before .before .before .before .before .before .fill-memories2 .kept in let j = c .before .before .before .before .before .before .before .before .before .before .before .before .run-groups .kept in search needs
 
 -- src/main.rt:45:1
 same-length-6 : tie.Need-same-length-6
-same-length-6 c = search needs
+same-length-6 c = let k = c .before .before .before .before .before .before .before .before .before .before .before .before .before .before .before .before .before .before .before .before .before .before .before .before .before .before .before .before .fill-memories2 .kept in let j = c .before .before .before .before .before .before .before .before .before .before .before .before .run-groups .kept in search needs
 
 -- src/main.rt:45:1
 returns : tie.Need-returns
