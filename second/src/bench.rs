@@ -31,7 +31,10 @@ pub fn bench_gif(program: &Program) -> Result<(), String> {
         let timed = Timed {
             input: &|rounds| input(rounds, &data),
             units: data.len() as f64,
-            refusals: |result| word(result, 0),
+            wrong: |result, _| match word(result, 0) {
+                0 => None,
+                refused => Some(format!("{refused} quadwords refused")),
+            },
         };
         let (theirs, ours) = measure(program, &own, &timed).map_err(|e| format!("{name}: {e}"))?;
         println!(
@@ -50,22 +53,33 @@ pub struct Timed<'a> {
     pub input: &'a dyn Fn(u32) -> Vec<u8>,
     /// What a round has of what the time is measured for.
     pub units: f64,
-    /// The refusals that a result tells of.
-    pub refusals: fn(&[u8]) -> u32,
+    /// What a result of so many rounds says that should not have happened.
+    pub wrong: fn(&[u8], u32) -> Option<String>,
 }
 
-fn seconds(program: &Program, input: &[u8]) -> Result<(f64, Vec<u8>), String> {
-    let start = Instant::now();
-    let output = program.run(input)?;
-    Ok((start.elapsed().as_secs_f64(), output))
+impl Timed<'_> {
+    /// The result of a run and the seconds that it took; every round has to be well.
+    fn run(&self, program: &Program, rounds: u32) -> Result<(f64, Vec<u8>), String> {
+        let given = (self.input)(rounds);
+        let start = Instant::now();
+        let output = program.run(&given)?;
+        let seconds = start.elapsed().as_secs_f64();
+        if output.is_empty() {
+            return Err(format!("{rounds} rounds: no result"));
+        }
+        match (self.wrong)(&output, rounds) {
+            None => Ok((seconds, output)),
+            Some(told) => Err(format!("{rounds} rounds: {told}")),
+        }
+    }
 }
 
 /// A number of rounds that takes about the time aimed at.
 fn large_rounds(program: &Program, timed: &Timed) -> Result<u32, String> {
-    let (start_up, _) = seconds(program, &(timed.input)(SMALL))?;
+    let (start_up, _) = timed.run(program, SMALL)?;
     let mut rounds = 64u32;
     loop {
-        let (time, _) = seconds(program, &(timed.input)(rounds))?;
+        let (time, _) = timed.run(program, rounds)?;
         let net = time - start_up;
         if net > 0.1 {
             let wanted = rounds as f64 * AIM / net;
@@ -78,19 +92,15 @@ fn large_rounds(program: &Program, timed: &Timed) -> Result<u32, String> {
     }
 }
 
-/// Both programs give the same result, without a refusal.
+/// Both programs give the same result.
 fn check_same(program: &Program, own: &Program, timed: &Timed, rounds: u32) -> Result<(), String> {
-    let given = (timed.input)(rounds);
-    let (theirs, ours) = (program.run(&given)?, own.run(&given)?);
+    let (theirs, ours) = (timed.run(program, rounds)?.1, timed.run(own, rounds)?.1);
     if theirs != ours {
         return Err(format!(
             "{rounds} rounds: results differ: {theirs:02X?}, ours {ours:02X?}"
         ));
     }
-    match (timed.refusals)(&ours) {
-        0 => Ok(()),
-        refusals => Err(format!("{rounds} rounds: refusals {refusals}")),
-    }
+    Ok(())
 }
 
 /// Nanoseconds per unit of both programs, once their results are the same.
@@ -105,8 +115,8 @@ pub fn measure(program: &Program, own: &Program, timed: &Timed) -> Result<(f64, 
     let mut large = [f64::MAX; 2];
     for _ in 0..TRIES {
         for i in 0..2 {
-            small[i] = small[i].min(seconds(both[i], &(timed.input)(SMALL))?.0);
-            large[i] = large[i].min(seconds(both[i], &(timed.input)(rounds[i]))?.0);
+            small[i] = small[i].min(timed.run(both[i], SMALL)?.0);
+            large[i] = large[i].min(timed.run(both[i], rounds[i])?.0);
         }
     }
     let each = |i: usize| {

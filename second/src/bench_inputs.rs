@@ -5,9 +5,9 @@ use crate::chain::{CALL, CNT, END, NEXT, REF, RET};
 use crate::chain_time::MOST_QUADWORDS;
 use crate::gif::Tag;
 use crate::gif_generate::tag_quadword;
-use crate::memory::{INSTRUCTIONS, QUADWORDS};
 use crate::random::Random;
 use crate::unpack_counts::all_formats;
+use crate::vif::{ADDRESSES, MPG_ADDRESSES};
 use crate::vif_generate::{code_word, payload_word, random_mask, skipping_cycle, stcycl};
 
 const NOP: u32 = 0;
@@ -53,16 +53,26 @@ pub const LARGE: &str = "1 MiB V4-32";
 /// All inputs.
 pub fn inputs() -> Vec<ChainInput> {
     let random = &mut Random::new(1);
-    let word = |name, payload| cnt_chain(name, Per::PayloadWord, 1, payload);
+    let word = |name, channel, payload| cnt_chain(name, Per::PayloadWord, channel, payload);
     let step = |name, channel, payload| cnt_chain(name, Per::Step, channel, payload);
     let most = 4 * most_cnt_payload();
+    // The same payload for both units.
+    let (vectors, masked, bytes) = (
+        v4_32(random, SMALL_WORDS),
+        v3_16_masked(random),
+        s_8(random),
+    );
+    let instructions = mpg(random);
     vec![
-        word("V4-32", v4_32(random, SMALL_WORDS)),
-        word("V3-16 mask mode 2", v3_16_masked(random)),
-        word("S-8", s_8(random)),
-        word("S-8 filling", s_8_filling(&mut Random::new(2))),
-        word("MPG", mpg(random)),
-        word("DIRECT", direct(random)),
+        word("V4-32", 1, vectors.clone()),
+        word("V4-32, VIF0", 0, vectors),
+        word("V3-16 mask mode 2", 1, masked),
+        word("S-8", 1, bytes.clone()),
+        word("S-8, VIF0", 0, bytes),
+        word("S-8 filling", 1, s_8_filling(&mut Random::new(2))),
+        word("MPG", 1, instructions.clone()),
+        word("MPG, VIF0", 0, instructions),
+        word("DIRECT", 1, direct(random)),
         step(LARGE, 1, v4_32(random, most)),
         mixed(random),
         step("channel 2 IMAGE", 2, image(random)),
@@ -119,7 +129,7 @@ fn v4_32(random: &mut Random, count: usize) -> Vec<u32> {
         let vectors = ((count - words.len() - 1) / 4).min(256);
         words.push(code_word(V4_32, vectors as u32 % 256, address));
         put_random(random, &mut words, 4 * vectors);
-        address = (address + 256) % QUADWORDS;
+        address = (address + 256) % ADDRESSES;
     }
     words.resize(count, NOP);
     words
@@ -134,7 +144,7 @@ fn v3_16_masked(random: &mut Random) -> Vec<u32> {
     words.push(code_word(STCOL, 0, 0));
     put_random(random, &mut words, 4);
     while words.len() < SMALL_WORDS {
-        let address = random.below(QUADWORDS as u64) as u32;
+        let address = random.below(ADDRESSES as u64) as u32;
         words.push(code_word(V3_16 | MASKED, 0, address));
         put_random(random, &mut words, 256 * 48 / 32);
     }
@@ -144,7 +154,7 @@ fn v3_16_masked(random: &mut Random) -> Vec<u32> {
 fn s_8(random: &mut Random) -> Vec<u32> {
     let mut words = vec![stcycl(1, 1), code_word(STMOD, 0, 0)];
     while words.len() < SMALL_WORDS {
-        let address = random.below(QUADWORDS as u64) as u32;
+        let address = random.below(ADDRESSES as u64) as u32;
         words.push(code_word(S_8, 0, address));
         put_random(random, &mut words, 256 * 8 / 32);
     }
@@ -155,7 +165,7 @@ fn s_8(random: &mut Random) -> Vec<u32> {
 fn s_8_filling(random: &mut Random) -> Vec<u32> {
     let mut words = vec![stcycl(2, 3), code_word(STMOD, 0, 0)];
     while words.len() < SMALL_WORDS {
-        let address = random.below(QUADWORDS as u64) as u32;
+        let address = random.below(ADDRESSES as u64) as u32;
         words.push(code_word(S_8, 0, address));
         put_random(random, &mut words, 171usize.div_ceil(4));
     }
@@ -165,7 +175,7 @@ fn s_8_filling(random: &mut Random) -> Vec<u32> {
 fn mpg(random: &mut Random) -> Vec<u32> {
     let mut words = Vec::new();
     while words.len() < SMALL_WORDS {
-        let address = random.below(INSTRUCTIONS as u64) as u32;
+        let address = random.below(MPG_ADDRESSES as u64) as u32;
         words.push(code_word(MPG, 0, address));
         put_random(random, &mut words, 2 * 256);
     }

@@ -32,7 +32,7 @@ fn line(program: &Program, own: &Program, sheet: &[u8]) -> Result<String, String
     let timed = Timed {
         input: &|rounds| input(rounds, sheet),
         units: 1_000.0,
-        refusals: refusals,
+        wrong: |result, _| refusal(result).map(|number| format!("refused {number}")),
     };
     let (theirs, ours) = measure(program, own, &timed)?;
     let records = sheet::records(sheet).map_or(0, |records| records.len());
@@ -44,12 +44,12 @@ fn line(program: &Program, own: &Program, sheet: &[u8]) -> Result<String, String
     ))
 }
 
-/// The number that a result gives for a refused sheet, else 0.
-fn refusals(result: &[u8]) -> u32 {
-    match word(result, 0) {
-        number @ refusals::MARK..=refusals::OUTPUT => number,
-        _ => 0,
-    }
+/// The number that a result gives for a refused sheet.
+fn refusal(result: &[u8]) -> Option<u32> {
+    let number = word(result, 0);
+    (refusals::MARK..=refusals::OUTPUT)
+        .contains(&number)
+        .then_some(number)
 }
 
 /// The sheets by name.
@@ -120,7 +120,7 @@ mod tests {
             };
             assert_eq!(sheet.len(), length, "{name}");
             let given = result(&input(1, &sheet)).unwrap();
-            assert_eq!(refusals(&given), 0);
+            assert_eq!(refusal(&given), None);
             assert_eq!(sheet::chain_length(&sheet), Ok(word(&given, 0) as usize));
         }
     }

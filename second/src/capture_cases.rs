@@ -2,19 +2,23 @@
 
 use crate::capture_counts::Counts;
 use crate::chain::{self, Memories, State, Step};
-use crate::gif_cases::fill_number;
-use crate::memory::cases::{MOST_CODE, MOST_DATA, MOST_LOG, MOST_MAIN};
+use crate::compare;
+use crate::filled::{self, UnitMemories};
+use crate::memory::cases::{
+    MOST_CODE, MOST_DATA, MOST_LOG, MOST_MAIN, MOST_VIF0_CODE, MOST_VIF0_DATA,
+};
+use crate::model::Model;
 use crate::refusals;
 use crate::state_block::{
-    self, bit, describe_state, read_state, write_state, StateBlock, STATE_WORDS,
+    self, bit, chain_word, describe_state, read_state, write_state, StateBlock, STATE_WORDS,
 };
-use crate::vif_cases::{code_words, describe_changes, write_changes};
+use crate::vif_cases::{code_words, describe_changes, write_changes, ShownUnit};
 use crate::words::{number, put_number, put_word, word, WORD};
 
-pub const MARK: u32 = 0x5041_4354;
+pub const MARK: u32 = 0x3250_4354;
 pub const MOST_CALLS: u32 = 65_535;
 /// The word of a case at which the state block starts.
-const STATE_AT: usize = 10;
+const STATE_AT: usize = 12;
 /// The words of a case before its calls.
 pub const HEADER: usize = STATE_AT + STATE_WORDS;
 /// The words of a call.
@@ -31,8 +35,11 @@ pub struct Case {
     pub main_length: u32,
     /// Main memory from address 0, by words; the rest is zero.
     pub main: Vec<u32>,
+    /// VIF1's memories, then VIF0's.
     pub data_length: u32,
     pub code_length: u32,
+    pub vif0_data_length: u32,
+    pub vif0_code_length: u32,
     pub log_length: u32,
     pub fill: u64,
     /// Results show whole memories.
@@ -52,6 +59,8 @@ impl Case {
         put_number(out, self.fill);
         put_word(out, self.whole as u32);
         put_word(out, self.calls.len() as u32);
+        put_word(out, self.vif0_data_length);
+        put_word(out, self.vif0_code_length);
         for &w in &self.state {
             put_word(out, w);
         }
@@ -94,23 +103,22 @@ pub struct Standing {
     pub state: Option<State>,
     given: StateBlock,
     pub main: Vec<u8>,
-    pub data: Vec<u32>,
-    pub code: Vec<u8>,
+    vif0: UnitMemories,
+    vif1: UnitMemories,
     pub log: Vec<u64>,
 }
 
 impl Standing {
     pub fn new(case: &Case) -> Standing {
-        let number = |add: u64, i: u32| fill_number(case.fill.wrapping_add(add), i as u64);
         let mut main: Vec<u8> = case.main.iter().flat_map(|w| w.to_le_bytes()).collect();
         main.resize(case.main_length as usize, 0);
         Standing {
             state: read_state(&case.state),
             given: case.state,
             main,
-            data: (0..case.data_length).map(|i| number(0, i) as u32).collect(),
-            code: (0..case.code_length).map(|i| number(1, i) as u8).collect(),
-            log: (0..case.log_length).map(|i| number(2, i)).collect(),
+            vif0: UnitMemories::of_vif0(case.fill, case.vif0_data_length, case.vif0_code_length),
+            vif1: UnitMemories::new(case.fill, case.data_length, case.code_length),
+            log: filled::log(case.fill, case.log_length),
         }
     }
 
@@ -128,20 +136,50 @@ impl Standing {
         allowance: u64,
         watch: impl FnMut(&State, &State, Result<Step, u32>),
     ) -> (u32, u64) {
-        let used = self.used();
-        let mut memories = Memories {
-            main: &self.main,
-            data: &mut self.data,
-            code: &mut self.code,
-            log: &mut self.log,
-        };
-        match &mut self.state {
-            Some(state) => chain::run(state, &mut memories, allowance, watch),
-            None => {
-                let refusal = chain::check_lengths(&memories, used).err();
+        let (model, used) = (self.model(), self.used());
+        match self.lend() {
+            (Some(state), mut memories) => chain::run(state, &mut memories, allowance, watch),
+            (None, memories) => {
+                let refusal = chain::check_lengths(model, &memories, used).err();
                 (refusal.unwrap_or(refusals::RANGE), 0)
             }
         }
+    }
+
+    /// The state, and the memories that a run on it is lent.
+    pub fn lend(&mut self) -> (Option<&mut State>, Memories<'_>) {
+        let lent = match self.model() {
+            Model::Vif0 => &mut self.vif0,
+            Model::Vif1 => &mut self.vif1,
+        };
+        let memories = Memories {
+            main: &self.main,
+            data: &mut lent.data,
+            code: &mut lent.code,
+            log: &mut self.log,
+        };
+        (self.state.as_mut(), memories)
+    }
+
+    /// The unit whose memories a run is lent, also where there is no state.
+    pub fn model(&self) -> Model {
+        match &self.state {
+            Some(state) => state.model(),
+            None => Model::of_channel(self.given[chain_word::CHANNEL]),
+        }
+    }
+
+    /// The memories of a unit.
+    pub fn memories(&self, model: Model) -> &UnitMemories {
+        match model {
+            Model::Vif0 => &self.vif0,
+            Model::Vif1 => &self.vif1,
+        }
+    }
+
+    /// Those that a run is lent.
+    pub fn lent(&self) -> &UnitMemories {
+        self.memories(self.model())
     }
 
     /// Entries used, also where there is no state.
@@ -175,24 +213,28 @@ pub struct Results {
     pub damage: Option<usize>,
 }
 
-/// The first case of the bytes and its length; none where it is damaged.
-pub fn first_case(bytes: &[u8]) -> Option<(Case, usize)> {
-    if bytes.len() < HEADER * WORD {
-        return None;
-    }
-    let head = |at: usize| word(bytes, at);
+/// Whether the numbers in a case's header are within their limits.
+fn limits_kept(bytes: &[u8]) -> bool {
     let limits = [
         (1, MOST_MAIN),
-        (2, head(1) / 4),
+        (2, word(bytes, 1) / 4),
         (3, MOST_DATA),
         (4, MOST_CODE),
         (5, MOST_LOG),
         (8, 1),
         (9, MOST_CALLS),
+        (10, MOST_VIF0_DATA),
+        (11, MOST_VIF0_CODE),
     ];
-    if head(0) != MARK || limits.iter().any(|&(at, most)| head(at) > most) {
+    limits.iter().all(|&(at, most)| word(bytes, at) <= most)
+}
+
+/// The first case of the bytes and its length; none where it is damaged.
+pub fn first_case(bytes: &[u8]) -> Option<(Case, usize)> {
+    if bytes.len() < HEADER * WORD || word(bytes, 0) != MARK || !limits_kept(bytes) {
         return None;
     }
+    let head = |at: usize| word(bytes, at);
     let calls_end = HEADER + CALL * head(9) as usize;
     let end = calls_end + head(2) as usize;
     if bytes.len() < end * WORD {
@@ -207,6 +249,8 @@ pub fn first_case(bytes: &[u8]) -> Option<(Case, usize)> {
         main: (calls_end..end).map(head).collect(),
         data_length: head(3),
         code_length: head(4),
+        vif0_data_length: head(10),
+        vif0_code_length: head(11),
         log_length: head(5),
         fill: number(bytes, 6),
         whole: head(8) == 1,
@@ -237,16 +281,7 @@ pub fn results(file: &[u8], counts: &mut Counts) -> Results {
 
 /// Where each case of a file starts, a damaged last one too.
 pub fn case_starts(file: &[u8]) -> Vec<usize> {
-    let mut starts = Vec::new();
-    let mut at = 0;
-    while at < file.len() {
-        starts.push(at);
-        match first_case(&file[at..]) {
-            Some((_, length)) => at += length,
-            None => break,
-        }
-    }
-    starts
+    compare::case_starts(file, |bytes| Some(first_case(bytes)?.1))
 }
 
 /// Whether no run of the file takes more than so many steps.
@@ -274,24 +309,30 @@ pub fn ends_within(file: &[u8], most: u64) -> bool {
 
 /// The memories as the last result showed them.
 struct Shown {
-    data: Vec<u32>,
-    code: Vec<u32>,
+    vif0: ShownUnit,
+    vif1: ShownUnit,
     log: Vec<u64>,
 }
 
 impl Shown {
     fn new(standing: &Standing) -> Shown {
         Shown {
-            data: standing.data.clone(),
-            code: code_words(&standing.code),
+            vif0: ShownUnit::new(&standing.vif0.data, &standing.vif0.code),
+            vif1: ShownUnit::new(&standing.vif1.data, &standing.vif1.code),
             log: standing.log.clone(),
         }
     }
 
+    /// Writes what a run changed, and the sums; the other unit's memories are as they were.
     fn write_changes(&mut self, out: &mut Vec<u8>, now: &Standing) {
-        write_changes(out, &mut self.data, &now.data, put_word);
-        write_changes(out, &mut self.code, &code_words(&now.code), put_word);
+        let shown = match now.model() {
+            Model::Vif0 => &mut self.vif0,
+            Model::Vif1 => &mut self.vif1,
+        };
+        let lent = now.lent();
+        shown.write_changes(out, &lent.data, &lent.code);
         write_changes(out, &mut self.log, &now.log, put_number);
+        write_sums(out, now);
     }
 }
 
@@ -330,7 +371,6 @@ fn run_case(case: &Case, index: usize, results: &mut Results, counts: &mut Count
                     write_memories(out, &standing);
                 } else {
                     shown.write_changes(out, &standing);
-                    write_sums(out, &standing);
                 }
             }
         }
@@ -344,17 +384,19 @@ fn put_block(out: &mut Vec<u8>, standing: &Standing) {
 }
 
 fn write_memories(out: &mut Vec<u8>, standing: &Standing) {
-    standing.data.iter().for_each(|&w| put_word(out, w));
-    code_words(&standing.code)
+    let lent = standing.lent();
+    lent.data.iter().for_each(|&w| put_word(out, w));
+    code_words(&lent.code)
         .iter()
         .for_each(|&w| put_word(out, w));
     standing.log.iter().for_each(|&x| put_number(out, x));
 }
 
 fn write_sums(out: &mut Vec<u8>, standing: &Standing) {
+    let lent = standing.lent();
     let all = [
-        sums(standing.data.iter().map(|&w| w as u64)),
-        sums(standing.code.iter().map(|&byte| byte as u64)),
+        sums(lent.data.iter().map(|&w| w as u64)),
+        sums(lent.code.iter().map(|&byte| byte as u64)),
         sums(standing.log.iter().copied()),
     ];
     for (a, b) in all {
@@ -409,11 +451,13 @@ pub fn describe_result(bytes: &[u8], call: &Call, case: &Case) -> String {
 /// The head of a case, its calls up to `last`, and the last steps of that call.
 pub fn describe_case(case: &Case, last: usize) -> String {
     let mut text = format!(
-        "    M {}, P {}, D {}, C {}, L {}, fill {:016X}, mode {}, {} calls\n    {}",
+        "    M {}, P {}, D {}, C {}, D0 {}, C0 {}, L {}, fill {:016X}, mode {}, {} calls\n    {}",
         case.main_length,
         case.main.len(),
         case.data_length,
         case.code_length,
+        case.vif0_data_length,
+        case.vif0_code_length,
         case.log_length,
         case.fill,
         case.whole as u32,
@@ -441,4 +485,103 @@ pub fn describe_case(case: &Case, last: usize) -> String {
         steps[shown..].iter().for_each(|step| text.push_str(step));
     }
     text
+}
+
+#[cfg(test)]
+mod tests {
+    use super::*;
+    use crate::capture_generate::{plain_case, tag};
+
+    /// Starts and runs on the channels 0, 1, 2 and 0 again. Both units get the same words: S-32 at
+    /// quadword 255, ITOP 9 and MSCAL 5.
+    fn in_turn() -> Case {
+        let codes = [
+            [0x0100_0101, 0x6002_00FF, 0x11, 0x22],
+            [0x0400_0009, 0x1400_0005, 0, 0],
+        ];
+        let packet = [[0x8001, 0x1000_0000, 0xE, 0], [7, 8, 0x42, 0]];
+        let main = [&[tag(7, 2, 0)][..], &codes, &[tag(7, 2, 0)], &packet].concat();
+        let turn = |(channel, tadr)| {
+            let tte = 0;
+            [
+                Call::Start { channel, tadr, tte },
+                Call::Run { allowance: 100 },
+            ]
+        };
+        let calls = [(0, 0), (1, 0), (2, 48), (0, 0)].map(turn).concat();
+        plain_case(&State::reset(), &main.concat(), 4, &calls)
+    }
+
+    #[test]
+    fn three_channels_in_turn() {
+        let case = in_turn();
+        let mut standing = Standing::new(&case);
+        let mut runs = Vec::new();
+        for call in &case.calls {
+            match *call {
+                Call::Start { channel, tadr, tte } => {
+                    assert_eq!(standing.start(channel, tadr, tte), 0);
+                }
+                Call::Run { allowance } => runs.push(standing.run(allowance, |_, _, _| {})),
+            }
+        }
+        assert_eq!(runs, [(0, 9), (0, 9), (0, 3), (0, 9)]);
+        let log = [256, 5, 256, 5, 0x42, 7 | 8 << 32, 256, 5];
+        assert_eq!(standing.log, log);
+        let quadword = |model: Model, at: usize| {
+            let data = &standing.memories(model).data;
+            [data[4 * at], data[4 * at + 3]]
+        };
+        assert_eq!(quadword(Model::Vif0, 255), [0x11; 2]);
+        assert_eq!(quadword(Model::Vif0, 0), [0x22; 2]);
+        assert_eq!(quadword(Model::Vif1, 255), [0x11; 2]);
+        assert_eq!(quadword(Model::Vif1, 256), [0x22; 2]);
+        let state = standing.state.unwrap();
+        let registers = [state.vif0.registers, state.vif1.registers];
+        assert_eq!(
+            registers.map(|of| (of.itop, of.dbf)),
+            [(9, false), (9, true)]
+        );
+    }
+
+    /// Word 0 of a block that exists in no state says whose lengths are tested.
+    #[test]
+    fn lengths_where_there_is_no_state() {
+        for (channel, vif0_length, answer) in [
+            (0, 1_024, 5),
+            (0, 1_023, 2),
+            (1, 1_023, 5),
+            (2, 1_023, 5),
+            (7, 1_023, 5),
+        ] {
+            let mut case = plain_case(&State::reset(), &tag(7, 0, 0), 0, &[]);
+            case.vif0_data_length = vif0_length;
+            case.state[chain_word::ENDED] = 2;
+            case.state[chain_word::CHANNEL] = channel;
+            let given = Standing::new(&case).run(1, |_, _, _| {});
+            assert_eq!(given, (answer, 0));
+            case.data_length = 1_024;
+            let given = Standing::new(&case).run(1, |_, _, _| {});
+            assert_eq!(given, (if channel == 0 { answer } else { 2 }, 0));
+        }
+    }
+
+    /// The fills of docs/FORMATS.md.
+    #[test]
+    fn fills_of_both_units() {
+        let mut case = plain_case(&State::reset(), &tag(7, 0, 0), 1, &[]);
+        case.fill = 0x1122_3344_5566_7788;
+        let standing = Standing::new(&case);
+        let step = 0x9E37_79B9_7F4A_7C15_u64;
+        let number = |add: u64, i: u64| {
+            let from = 0x1122_3344_5566_7788 + add;
+            step.wrapping_mul(i).wrapping_add(from)
+        };
+        for (model, add) in [(Model::Vif0, 5), (Model::Vif1, 0)] {
+            let memories = standing.memories(model);
+            assert_eq!(memories.data[9], number(add, 9) as u32);
+            assert_eq!(memories.code[9], number(add + 1, 9) as u8);
+        }
+        assert_eq!(standing.log[1], number(2, 1));
+    }
 }

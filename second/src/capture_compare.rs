@@ -5,8 +5,10 @@ use crate::capture_cases::{
 };
 use crate::capture_counts::Counts;
 use crate::capture_generate::generate;
-use crate::compare::{first_difference, table, zeros, Program};
-use crate::memory::cases::{MOST_CODE, MOST_DATA, MOST_LOG, MOST_MAIN};
+use crate::compare::{describe_ends, first_difference, report, Program};
+use crate::memory::cases::{
+    MOST_CODE, MOST_DATA, MOST_LOG, MOST_MAIN, MOST_VIF0_CODE, MOST_VIF0_DATA,
+};
 use crate::random::Random;
 use crate::words::{word, WORD};
 
@@ -28,13 +30,7 @@ pub fn compare(program: &Program, seeds: &[u64], runs: u64) -> Result<(), String
     }
     let mut rows = counts.rows();
     rows.push(("damaged files".to_string(), damaged_files));
-    print!("{}", table(&rows));
-    let missing = zeros(&rows);
-    if !missing.is_empty() {
-        return Err(format!("never reached: {}", missing.join("; ")));
-    }
-    println!("no difference");
-    Ok(())
+    report(&rows)
 }
 
 fn compare_file(program: &Program, file: &[u8], counts: &mut Counts) -> Result<(), String> {
@@ -50,18 +46,9 @@ fn explain(file: &[u8], own: &Results, theirs: &[u8], at: usize) -> String {
     let lengths = format!("{} bytes, ours {}", theirs.len(), own.bytes.len());
     if own.damage.is_some_and(|line| at >= line) || at >= own.bytes.len() {
         let line = own.damage.unwrap_or(own.bytes.len());
-        let text = |bytes: &[u8]| {
-            let end = bytes.len().min(line + 80);
-            String::from_utf8_lossy(&bytes[line.min(end)..end])
-                .escape_debug()
-                .to_string()
-        };
+        let ends = describe_ends(theirs, &own.bytes, line);
         let case = own.starts.last().map_or(0, |start| start.case);
-        return format!(
-            "differs after the last result, that of case {case}: {lengths}\n  program: {}\n  ours: {}",
-            text(theirs),
-            text(&own.bytes)
-        );
+        return format!("differs after the last result, that of case {case}: {lengths}\n  {ends}");
     }
     let index = own.starts.partition_point(|start| start.offset <= at) - 1;
     let start = &own.starts[index];
@@ -150,6 +137,8 @@ fn spoil_case(made: &mut Vec<(String, Vec<u8>)>, file: &[u8], start: usize, inde
         ("L", 5, MOST_LOG),
         ("mode", 8, 1),
         ("n", 9, capture_cases::MOST_CALLS),
+        ("D0", 10, MOST_VIF0_DATA),
+        ("C0", 11, MOST_VIF0_CODE),
     ];
     for (name, at, most) in limits {
         spoil(&format!("{name} at its limit"), at, most);

@@ -2,15 +2,18 @@
 
 use crate::capture_cases::{Case, Standing};
 use crate::chain::{self, Next, State, Step, Tag};
+use crate::compare::named_rows;
 use crate::gif::{self, Path, Place};
 use crate::log;
-use crate::memory::{CODE_BYTES, DATA_WORDS, MOST_MAIN};
+use crate::memory::MOST_MAIN;
+use crate::model::{Model, ONLY_VIF1};
 use crate::refusals;
 use crate::state_block::{
-    self, chain_word, part, read_path, read_state, unit_word, used, waiting_name, waiting_number,
-    write_state, StateBlock, PATHS, UNIT, WAITING,
+    chain_word, part, read_path, read_state, unit_word, used, waiting_name, waiting_number,
+    write_state, StateBlock, DIRECT, DIRECTHL, PATHS, REGISTERS, STMASK, UNITS, UNPACK, VIF0, VIF1,
+    WAITING, ZERO_ON_VIF0,
 };
-use crate::vif::{Code, Payload};
+use crate::vif::{command_of, Code, Payload, Unit};
 use crate::vif_counts::{field_names, wrong_fields};
 use std::collections::HashMap;
 
@@ -24,22 +27,7 @@ const ENTRY: [u32; 6] = [
     refusals::RANGE,
     refusals::OUTSIDE,
 ];
-/// The refusals of steps.
-const STEPS: [u32; 12] = [
-    refusals::TADR,
-    refusals::ADDR,
-    refusals::SPR,
-    refusals::CALL,
-    refusals::OUTSIDE,
-    refusals::COMMAND,
-    refusals::FORMAT,
-    refusals::CYCLE,
-    refusals::MODE,
-    refusals::PLACE,
-    refusals::DESCRIPTOR,
-    refusals::ROOM,
-];
-/// The fields of a state block before the unit block that can be out of range.
+/// The fields of a state block before the other blocks that can be out of range.
 const FIELDS: [&str; 18] = [
     "channel",
     "TADR no multiple of 16",
@@ -74,7 +62,9 @@ pub struct Counts {
     /// Tags read by ID and TTE.
     tags: [[u64; 2]; 8],
     tags_without_payload: [[u64; 2]; 8],
+    /// Words of payload and tag words by channel and number.
     words: [[u64; 4]; 2],
+    tag_words: [[u64; 4]; 2],
     direct_quadwords: u64,
     path3_quadwords: u64,
     /// The step counts of runs that are allowed many.
@@ -85,6 +75,8 @@ pub struct Counts {
     /// The state at the start of the run.
     begun: Option<State>,
     stepped: bool,
+    /// The channels on which the case has done a step.
+    channels: [bool; 3],
 }
 
 impl Counts {
@@ -107,6 +99,7 @@ impl Counts {
         self.cases += 1;
         self.main.clone_from(&case.main);
         self.main_length = case.main_length as usize;
+        self.channels = [false; 3];
         self.add(if case.whole {
             "cases that show whole memories"
         } else {
@@ -160,16 +153,17 @@ impl Counts {
                     return;
                 };
                 let number = address / 4 % 4;
-                self.words[1][number as usize] += 1;
+                self.tag_words[old.channel as usize][number as usize] += 1;
                 let alone = old.payload.is_none();
+                let waits = old.unit().waiting.is_some();
                 self.add_if("tag words taken, QWC 0", alone);
-                self.add_if("tag words taken as payload", old.unit.waiting.is_some());
-                self.add_if("tag words taken that are codes", old.unit.waiting.is_none());
+                self.add_if("tag words taken as payload", waits);
+                self.add_if("tag words taken that are codes", !waits);
             }
             Step::Payload(taken) if taken.quadword => self.direct_quadwords += 1,
             Step::Payload(_) => {
                 let number = old.payload.map_or(0, |pending| pending.address / 4 % 4);
-                self.words[0][number as usize] += 1;
+                self.words[old.channel as usize][number as usize] += 1;
             }
             Step::Path3 => self.path3_quadwords += 1,
         }
@@ -177,13 +171,23 @@ impl Counts {
             self.add("log exactly full after a write");
         }
         self.note_fills(old, &step);
+        self.note_channel(old);
         if step.interrupt() {
             self.note_interrupt(old, step);
         }
     }
 
+    /// Notes the first step of a case on a channel.
+    fn note_channel(&mut self, old: &State) {
+        let before = self.channels;
+        self.channels[old.channel as usize] = true;
+        let all = self.channels == [true; 3] && before != self.channels;
+        self.add_if("cases with steps on all three channels", all);
+    }
+
     fn note_interrupt(&mut self, old: &State, step: Step) {
-        match (step, old.unit.waiting.is_some()) {
+        self.add_if("interrupt on channel 0", old.channel == 0);
+        match (step, old.unit().waiting.is_some()) {
             (Step::TagWord(_), false) => self.add("interrupt at a tag word that is a code"),
             (Step::TagWord(_), true) => self.add("interrupt at a tag word that is payload"),
             (Step::Payload(taken), _) if taken.quadword => {
@@ -198,22 +202,23 @@ impl Counts {
     fn note_fills(&mut self, old: &State, step: &Step) {
         let address = match old.next() {
             Next::TagWord(address) => address,
-            Next::Payload(pending) if old.channel == 1 => pending.address,
+            Next::Payload(pending) if old.channel != 2 => pending.address,
             _ => return,
         };
-        if !old.unit.registers.cycle().has_fills() {
+        let unit = old.unit();
+        if !unit.registers.cycle().has_fills() {
             return;
         }
-        if waits_for_vectors(old) {
+        if waits_for_vectors(unit) {
             self.add("payload words of UNPACK, WL > CL");
             self.add_if(
                 "tag words as payload of UNPACK, WL > CL",
                 old.tag_word.is_some(),
             );
         }
-        let code = Code::decode(self.main_word(address));
-        let unpack = old.unit.waiting.is_none() && matches!(code, Ok(Code::Unpack { .. }));
-        if unpack && old.unit.registers.cl == 0 {
+        let code = Code::decode(unit.model, self.main_word(address));
+        let unpack = unit.waiting.is_none() && matches!(code, Ok(Code::Unpack { .. }));
+        if unpack && unit.registers.cl == 0 {
             self.add("UNPACK taken with CL 0");
             self.add_if("UNPACK taken with CL 0 and an interrupt", step.interrupt());
         }
@@ -235,24 +240,43 @@ impl Counts {
             Next::Payload(pending) => {
                 let number = pending.address / 4 % 4;
                 self.add(&format!(
-                    "runs that go on with payload, channel 1, word {number}"
+                    "runs that go on with payload, channel {}, word {number}",
+                    state.channel
                 ));
             }
         }
-        if state.channel == 1 {
-            if let Some(waiting) = &state.unit.waiting {
-                let name = waiting_name(waiting_number(&waiting.payload));
-                self.add(&format!("runs that go on with {name} waiting"));
-            }
-            let fills = waits_for_vectors(state) && state.unit.registers.cycle().has_fills();
-            self.add_if("runs that go on with UNPACK waiting, WL > CL", fills);
-        }
+        self.note_waiting(state);
         let held = |path: &Path| path.place != Place::Idle;
         let path3 = state.channel == 2 && held(&state.path3);
         self.add_if("runs that go on inside a GIF tag, path 3", path3);
-        let direct = state.channel == 1 && waits_for_quadwords(state) && held(&state.path2);
+        let direct = state.channel == 1 && waits_for_quadwords(&state.vif1) && held(&state.path2);
         self.add_if("runs that go on inside a GIF tag, path 2", direct);
         self.add_if("runs on a chain that has ended", state.ended);
+    }
+
+    /// Notes what waits where a run gets on, on the channel's unit and on the other.
+    fn note_waiting(&mut self, state: &State) {
+        let unit = state.unit();
+        let other = match unit.model {
+            Model::Vif0 => &state.vif1,
+            Model::Vif1 => &state.vif0,
+        };
+        let name = |unit: &Unit| {
+            let waiting = unit.waiting.as_ref()?;
+            Some(waiting_name(waiting_number(&waiting.payload)))
+        };
+        if let Some(name) = name(other).filter(|_| state.channel == 0) {
+            self.add(&format!("runs on channel 0 beside {name} waiting on VIF1"));
+        }
+        if let Some(name) = name(other).filter(|_| state.channel != 0) {
+            self.add(&format!("runs beside {name} waiting on VIF0"));
+        }
+        if let Some(name) = name(unit).filter(|_| state.channel != 2) {
+            let with = unit_name(unit.model, name);
+            self.add(&format!("runs that go on with {with} waiting"));
+            let fills = waits_for_vectors(unit) && unit.registers.cycle().has_fills();
+            self.add_if("runs that go on with UNPACK waiting, WL > CL", fills);
+        }
     }
 
     fn note_tag(&mut self, old: &State, new: &State, tag: &Tag) {
@@ -283,10 +307,19 @@ impl Counts {
         self.add_if("tags with QWC 65,535", tag.qwc == 65_535);
         let back = tag.id == chain::NEXT && new.tadr <= old.tadr;
         self.add_if("next that goes back", back);
-        if let (1, Some(waiting)) = (old.channel, &old.unit.waiting) {
+        let name = format!("tags on channel 0, {}, TTE {tte}", IDS[id]);
+        self.add_if(&name, old.channel == 0);
+        self.note_waiting_at_tag(old);
+    }
+
+    /// Notes what waits where a tag is read.
+    fn note_waiting_at_tag(&mut self, old: &State) {
+        let unit = old.unit();
+        if let Some(waiting) = unit.waiting.as_ref().filter(|_| old.channel != 2) {
             let name = waiting_name(waiting_number(&waiting.payload));
+            let name = unit_name(unit.model, name);
             self.add(&format!("tags read with {name} waiting"));
-            let fills = waits_for_vectors(old) && old.unit.registers.cycle().has_fills();
+            let fills = waits_for_vectors(unit) && unit.registers.cycle().has_fills();
             self.add_if("tags read with UNPACK waiting, WL > CL", fills);
         }
         let path3 = old.channel == 2 && old.path3.place != Place::Idle;
@@ -303,28 +336,12 @@ impl Counts {
     ) {
         self.runs += 1;
         let wrong = wrong_at_entry(before, now);
+        self.note_lent(before, wrong.first().copied(), now);
         if let Some(&first) = wrong.first() {
             self.note_entry(before, &wrong, first, allowance, now);
             return;
         }
-        if allowance >= MEDIAN_FROM {
-            self.lengths.push(steps);
-        }
-        self.add_if("runs of 100,000 steps or more", steps >= DEEP);
-        self.add_if(
-            "runs of 1,000 to 99,999 steps",
-            (1_000..DEEP).contains(&steps),
-        );
-        self.add_if("runs of 50 to 999 steps", (50..1_000).contains(&steps));
-        self.add_if("runs of 1 to 49 steps", (1..50).contains(&steps));
-        self.add_if("runs of no step", steps == 0);
-        self.add_if("allowance 2^64 - 1", allowance == u64::MAX);
-        self.add_if("allowance from 2^32", allowance >= 1 << 32);
-        let low = allowance & 0xFFFF_FFFF;
-        self.add_if(
-            "allowance above the steps, its low word not",
-            allowance > steps && low <= steps,
-        );
+        self.note_steps(allowance, steps);
         let state = now.state.as_ref().expect("only an existing state is run");
         match answer {
             chain::DONE => self.note_done(state, allowance, steps),
@@ -344,6 +361,28 @@ impl Counts {
         }
     }
 
+    /// Notes how long a run was, and how long it might have been.
+    fn note_steps(&mut self, allowance: u64, steps: u64) {
+        if allowance >= MEDIAN_FROM {
+            self.lengths.push(steps);
+        }
+        self.add_if("runs of 100,000 steps or more", steps >= DEEP);
+        self.add_if(
+            "runs of 1,000 to 99,999 steps",
+            (1_000..DEEP).contains(&steps),
+        );
+        self.add_if("runs of 50 to 999 steps", (50..1_000).contains(&steps));
+        self.add_if("runs of 1 to 49 steps", (1..50).contains(&steps));
+        self.add_if("runs of no step", steps == 0);
+        self.add_if("allowance 2^64 - 1", allowance == u64::MAX);
+        self.add_if("allowance from 2^32", allowance >= 1 << 32);
+        let low = allowance & 0xFFFF_FFFF;
+        self.add_if(
+            "allowance above the steps, its low word not",
+            allowance > steps && low <= steps,
+        );
+    }
+
     fn note_done(&mut self, state: &State, allowance: u64, steps: u64) {
         self.add("done");
         self.add_if("done with allowance 0", allowance == 0);
@@ -351,7 +390,9 @@ impl Counts {
             "done where the allowance ends",
             allowance == steps && steps > 0,
         );
-        self.add_if("done with a code waiting", state.unit.waiting.is_some());
+        let waits = state.unit().waiting.is_some();
+        self.add_if("done with a code waiting", waits);
+        self.add_if("done on channel 0", state.channel == 0);
         self.add_if(
             "done inside a GIF tag, path 2",
             state.path2.place != Place::Idle,
@@ -378,7 +419,8 @@ impl Counts {
             Next::Payload(pending) => {
                 let number = pending.address / 4 % 4;
                 self.add(&format!(
-                    "allowance used before payload, channel 1, word {number}"
+                    "allowance used before payload, channel {}, word {number}",
+                    state.channel
                 ));
             }
         }
@@ -386,6 +428,7 @@ impl Counts {
 
     /// Notes a refused step; the state is that before it.
     fn note_refused_step(&mut self, state: &State, refusal: u32) {
+        self.note_refused_word(state, refusal);
         match state.next() {
             Next::Tag if refusal == refusals::TADR => {
                 let end = state.tadr as usize == self.main_length;
@@ -404,7 +447,7 @@ impl Counts {
             Next::Payload(_) if state.channel == 2 => {
                 self.add(&format!("refused {refusal}, channel 2"));
             }
-            Next::Payload(pending) => match (refusal, waits_for_quadwords(state)) {
+            Next::Payload(pending) => match (refusal, waits_for_quadwords(state.unit())) {
                 (refusals::PLACE, _) => {
                     let number = pending.address / 4 % 4;
                     self.add(&format!("refused 24 at payload word {number}"));
@@ -416,6 +459,67 @@ impl Counts {
                 _ => {}
             },
         }
+    }
+
+    /// Notes a code that VIF0 refuses and VIF1 might take.
+    fn note_refused_word(&mut self, state: &State, refusal: u32) {
+        let address = match state.next() {
+            Next::TagWord(address) => address,
+            Next::Payload(pending) => pending.address,
+            Next::Tag => return,
+        };
+        if state.channel != 0 {
+            return;
+        }
+        let word = self.main_word(address);
+        let (command, bit_15) = (command_of(word), word >> 15 & 1 == 1);
+        match refusal {
+            refusals::COMMAND if ONLY_VIF1.contains(&command) => {
+                self.add(&format!("refused 20 on channel 0, CMD {command:02X}"));
+            }
+            refusals::FORMAT => self.add_if("refused 21 on channel 0, bit 15 set", bit_15),
+            refusals::CYCLE => self.add_if("refused 22 on channel 0, bit 15 set", bit_15),
+            refusals::TOPS => {
+                let tag_word = state.tag_word.is_some();
+                self.add_if("refused 26 at a tag word", tag_word);
+                self.add_if("refused 26 at a payload word", !tag_word);
+            }
+            refusals::ROOM => self.add("refused 31 on channel 0"),
+            _ => {}
+        }
+    }
+
+    /// Notes the lengths of the unit's memories that a run is lent, and of those that it is not.
+    fn note_lent(&mut self, before: &StateBlock, refusal: Option<u32>, now: &Standing) {
+        let channel = before[chain_word::CHANNEL];
+        let model = Model::of_channel(channel);
+        let wrong = |model: Model| {
+            let (sizes, memories) = (model.sizes(), now.memories(model));
+            let data = memories.data.len() != sizes.data_words();
+            data || memories.code.len() != sizes.code_bytes()
+        };
+        let lent = match channel {
+            0..=2 => format!("channel {channel}"),
+            _ => "a channel above 2".to_string(),
+        };
+        let passed = !matches!(refusal, Some(refusals::MAIN..=refusals::CODE));
+        let name = format!("2 and 3 passed on {lent}, the other unit's memories wrong");
+        self.add_if(&name, passed && wrong(model.other()));
+        if let Some(refusal @ (refusals::DATA | refusals::CODE)) = refusal {
+            self.add(&format!("refused {refusal} at entry on {lent}"));
+            let none = read_state(before).is_none();
+            self.add_if(
+                &format!("refused {refusal} at entry on {lent}, no state"),
+                none,
+            );
+        }
+        let small = Model::Vif0.sizes();
+        let vif0_sized = now.memories(Model::Vif1).data.len() == small.data_words();
+        let name = format!("refused 2 at entry on {lent}, VIF0's size");
+        self.add_if(
+            &name,
+            refusal == Some(refusals::DATA) && model == Model::Vif1 && vif0_sized,
+        );
     }
 
     fn note_refused_tag(&mut self, state: &State, refusal: u32) {
@@ -479,27 +583,40 @@ impl Counts {
             refusals::RANGE => {
                 if let [field] = &state_fields(before)[..] {
                     self.add(&format!("run refused 5, {field}"));
+                    self.note_not_zero("run", before, field);
                 }
             }
             refusals::OUTSIDE => {
                 let state = now.state.as_ref().expect("14 is about an existing state");
-                let tag_word = state
-                    .tag_word
-                    .is_some_and(|address| !chain::inside(length, address, 4));
-                self.add_if("refused 14 at entry, tag words", tag_word);
-                self.add_if("refused 14 at entry, payload", !tag_word);
-                self.add_if("refused 14 at entry, chain ended", state.ended);
-                if let Some(pending) = &state.payload {
-                    let end = pending.address as u64 + 4 * pending.words as u64;
-                    let begins = (pending.address as usize) < length;
-                    self.add_if("refused 14 at entry, payload partly inside", begins);
-                    self.add_if(
-                        "refused 14 at entry, payload's end from 2^32",
-                        end >= 1 << 32,
-                    );
-                }
+                self.note_outside(state, length);
             }
             _ => {}
+        }
+    }
+
+    /// Notes pending words outside a main memory of this length.
+    fn note_outside(&mut self, state: &State, length: usize) {
+        let tag_word = state
+            .tag_word
+            .is_some_and(|address| !chain::inside(length, address, 4));
+        self.add_if("refused 14 at entry, tag words", tag_word);
+        self.add_if("refused 14 at entry, payload", !tag_word);
+        self.add_if("refused 14 at entry, chain ended", state.ended);
+        if let Some(pending) = &state.payload {
+            let end = pending.address as u64 + 4 * pending.words as u64;
+            let begins = (pending.address as usize) < length;
+            self.add_if("refused 14 at entry, payload partly inside", begins);
+            let far = end >= 1 << 32;
+            self.add_if("refused 14 at entry, payload's end from 2^32", far);
+        }
+    }
+
+    /// Notes a register that alone is wrong where it is one that is zero on VIF0.
+    fn note_not_zero(&mut self, call: &str, before: &StateBlock, field: &str) {
+        let zero = |&register: &usize| field == unit_name(Model::Vif0, REGISTERS[register].0);
+        if let (0..=2, true) = (before[chain_word::CHANNEL], ZERO_ON_VIF0.iter().any(zero)) {
+            let channel = before[chain_word::CHANNEL];
+            self.add(&format!("{call} refused 5 on channel {channel}, {field}"));
         }
     }
 
@@ -513,49 +630,52 @@ impl Counts {
         self.starts += 1;
         let (channel, tadr, tte) = values;
         if answer != 0 {
-            let fields = state_fields(before);
-            let values = start_fields(channel, tadr, tte);
-            match (&fields[..], &values[..]) {
-                ([field], []) => self.add(&format!("start refused 5, {field}")),
-                ([], [value]) => self.add(&format!("start refused 5 by its {value}")),
-                ([], _) => self.add("start refused 5 by several values"),
-                (_, []) => self.add("start refused 5, several fields"),
-                _ => self.add("start refused 5 by state and values"),
-            }
+            self.note_refused_start(before, &start_fields(channel, tadr, tte));
             return;
         }
         let old = read_state(before).expect("a start on no state is refused");
         self.add(&format!("start on channel {channel}, TTE {tte}"));
-        self.add_if("start drops tag words", old.tag_word.is_some());
-        self.add_if("start drops payload", old.payload.is_some());
-        self.add_if(
-            &format!("start empties a stack of {}", old.depth),
-            old.depth > 0,
+        let name = format!(
+            "start changes the channel from {} to {channel}",
+            old.channel
         );
-        self.add_if("start after the chain's end", old.ended);
-        self.add_if("start keeps a waiting code", old.unit.waiting.is_some());
-        self.add_if(
-            "start keeps a GIF tag, path 2",
-            old.path2.place != Place::Idle,
-        );
-        self.add_if(
-            "start keeps a GIF tag, path 3",
-            old.path3.place != Place::Idle,
-        );
-        self.add_if(
-            "start changes the channel to 1",
-            (old.channel, channel) == (2, 1),
-        );
-        self.add_if(
-            "start changes the channel to 2",
-            (old.channel, channel) == (1, 2),
-        );
-        self.add_if(
-            "start with TADR outside memory",
-            tadr as usize >= now.main.len(),
-        );
+        self.add_if(&name, old.channel != channel);
+        let outside = tadr as usize >= now.main.len();
+        self.add_if("start with TADR outside memory", outside);
+        self.note_started(&old);
         if let Some(refusal) = wrong_at_entry(before, now).first() {
             self.add(&format!("start where a run is refused {refusal}"));
+        }
+    }
+
+    /// Notes a refused start by the values that are out of range.
+    fn note_refused_start(&mut self, before: &StateBlock, values: &[&str]) {
+        match (&state_fields(before)[..], values) {
+            ([field], []) => {
+                self.add(&format!("start refused 5, {field}"));
+                self.note_not_zero("start", before, field);
+            }
+            ([], [value]) => self.add(&format!("start refused 5 by its {value}")),
+            ([], _) => self.add("start refused 5 by several values"),
+            (_, []) => self.add("start refused 5, several fields"),
+            _ => self.add("start refused 5 by state and values"),
+        }
+    }
+
+    /// Notes what a start drops and keeps.
+    fn note_started(&mut self, old: &State) {
+        self.add_if("start drops tag words", old.tag_word.is_some());
+        self.add_if("start drops payload", old.payload.is_some());
+        let name = format!("start empties a stack of {}", old.depth);
+        self.add_if(&name, old.depth > 0);
+        self.add_if("start after the chain's end", old.ended);
+        for unit in [&old.vif0, &old.vif1] {
+            let name = format!("start keeps a code waiting on {}", unit.model.name());
+            self.add_if(&name, unit.waiting.is_some());
+        }
+        for (number, path) in [(2, &old.path2), (3, &old.path3)] {
+            let name = format!("start keeps a GIF tag, path {number}");
+            self.add_if(&name, path.place != Place::Idle);
         }
     }
 
@@ -570,10 +690,8 @@ impl Counts {
         let mut lengths = self.lengths.clone();
         lengths.sort_unstable();
         let median = lengths.get(lengths.len() / 2).copied().unwrap_or(0);
-        row(
-            "runs past entry, allowed 50 steps or more",
-            lengths.len() as u64,
-        );
+        let past_entry = lengths.len() as u64;
+        row("runs past entry, allowed 50 steps or more", past_entry);
         row("median of their steps", median);
         row("most of their steps", lengths.last().copied().unwrap_or(0));
         for (id, name) in IDS.iter().enumerate() {
@@ -585,43 +703,40 @@ impl Counts {
                 );
             }
         }
-        for number in 0..4 {
-            row(
-                &format!("payload words taken by VIF1, word {number}"),
-                self.words[0][number],
-            );
-        }
-        for number in 2..4 {
-            row(
-                &format!("tag words taken, word {number}"),
-                self.words[1][number],
-            );
+        for unit in 0..2 {
+            let by = format!("taken by VIF{unit}, word");
+            for number in 0..4 {
+                let name = format!("payload words {by} {number}");
+                row(&name, self.words[unit][number]);
+            }
+            for number in 2..4 {
+                let name = format!("tag words {by} {number}");
+                row(&name, self.tag_words[unit][number]);
+            }
         }
         row("quadwords taken inside DIRECT", self.direct_quadwords);
         row("quadwords taken by path 3", self.path3_quadwords);
-        let names = names();
-        let unknown: Vec<&String> = self.by_name.keys().filter(|n| !names.contains(n)).collect();
-        assert!(unknown.is_empty(), "counts without a row: {unknown:?}");
-        for name in names {
-            let count = self.by_name.get(&name).copied().unwrap_or(0);
-            rows.push((name, count));
-        }
+        rows.extend(named_rows(&self.by_name, names()));
         rows
     }
 }
 
-fn waits_for_quadwords(state: &State) -> bool {
-    state
-        .unit
-        .waiting
+fn waits_for_quadwords(unit: &Unit) -> bool {
+    unit.waiting
         .is_some_and(|waiting| matches!(waiting.payload, Payload::Direct | Payload::Directhl))
 }
 
-fn waits_for_vectors(state: &State) -> bool {
-    state
-        .unit
-        .waiting
+fn waits_for_vectors(unit: &Unit) -> bool {
+    unit.waiting
         .is_some_and(|waiting| matches!(waiting.payload, Payload::Unpack(_)))
+}
+
+/// What is on VIF0 named as such.
+fn unit_name(model: Model, name: &str) -> String {
+    match model {
+        Model::Vif0 => format!("VIF0 {name}"),
+        Model::Vif1 => name.to_string(),
+    }
 }
 
 fn entry_name(first: u32, next: Option<u32>) -> String {
@@ -635,10 +750,12 @@ fn entry_name(first: u32, next: Option<u32>) -> String {
 fn wrong_at_entry(before: &StateBlock, now: &Standing) -> Vec<u32> {
     let state = read_state(before);
     let main = now.main.len();
+    let model = Model::of_channel(before[chain_word::CHANNEL]);
+    let (sizes, lent) = (model.sizes(), now.memories(model));
     let wrong = |refusal: u32| match refusal {
         refusals::MAIN => main == 0 || main % 16 != 0 || main > MOST_MAIN,
-        refusals::DATA => now.data.len() != DATA_WORDS,
-        refusals::CODE => now.code.len() != CODE_BYTES,
+        refusals::DATA => lent.data.len() != sizes.data_words(),
+        refusals::CODE => lent.code.len() != sizes.code_bytes(),
         refusals::LOG => !log::in_range(now.log.len(), used(before)),
         refusals::RANGE => !state.as_ref().is_some_and(chain::in_range),
         _ => state
@@ -654,18 +771,23 @@ fn wrong_at_entry(before: &StateBlock, now: &Standing) -> Vec<u32> {
 /// Whether STMASK waits with other than one word due in a block that has words that mean nothing
 /// and would be a state's else.
 pub fn junk_beside_stmask(block: &StateBlock) -> bool {
-    let due = UNIT + unit_word::DUE;
-    let mut mended = *block;
-    mended[due] = 1;
-    let junk = read_state(&mended).is_some_and(|state| write_state(&state) != mended);
-    block[UNIT + unit_word::WAITING] == state_block::STMASK && block[due] != 1 && junk
+    [VIF0, VIF1].into_iter().any(|unit_at| {
+        let due = unit_at + unit_word::DUE;
+        let mut mended = *block;
+        mended[due] = 1;
+        let junk = read_state(&mended).is_some_and(|state| write_state(&state) != mended);
+        block[unit_at + unit_word::WAITING] == STMASK && block[due] != 1 && junk
+    })
 }
 
 /// The fields of a state block that are out of their range, by name.
 fn state_fields(block: &StateBlock) -> Vec<String> {
     let wrong = wrong_chain_fields(block);
     let mut wrong: Vec<String> = wrong.into_iter().map(String::from).collect();
-    wrong.extend(wrong_fields(&part(block, UNIT)));
+    for (model, at) in UNITS {
+        let fields = wrong_fields(model, &part(block, at));
+        wrong.extend(fields.iter().map(|field| unit_name(model, field)));
+    }
     for (number, at) in PATHS {
         match read_path(&part(block, at)) {
             None => wrong.push(format!("path {number} in no path")),
@@ -687,7 +809,7 @@ fn wrong_chain_fields(block: &StateBlock) -> Vec<&'static str> {
         }
     };
     let [channel, tadr, tte] = part(block, chain_word::CHANNEL);
-    add_if(FIELDS[0], channel != 1 && channel != 2);
+    add_if(FIELDS[0], channel > 2);
     add_if(FIELDS[1], tadr % 16 != 0);
     add_if(FIELDS[2], tadr >= 1 << 31);
     add_if(FIELDS[3], tte > 1);
@@ -720,8 +842,7 @@ fn wrong_chain_fields(block: &StateBlock) -> Vec<&'static str> {
 /// The values of a start that are out of their range.
 fn start_fields(channel: u32, tadr: u32, tte: u32) -> Vec<&'static str> {
     let all = [
-        ("channel 0", channel == 0),
-        ("channel above 2", channel > 2),
+        ("channel", channel > 2),
         ("TADR no multiple of 16", tadr % 16 != 0),
         ("TADR from 2^31", tadr >= 1 << 31),
         ("TTE on channel 2", channel == 2 && tte == 1),
@@ -733,6 +854,29 @@ fn start_fields(channel: u32, tadr: u32, tte: u32) -> Vec<&'static str> {
 /// The names of the counts that are kept by name.
 fn names() -> Vec<String> {
     let mut names: Vec<String> = NAMES.iter().map(|name| name.to_string()).collect();
+    names.extend(refusal_names());
+    names.extend(range_names());
+    names.extend(waiting_names());
+    names.extend(channel_names());
+    let mut add = |name: String| names.push(name);
+    for refusal in ENTRY.into_iter().filter(|&r| r != refusals::RANGE) {
+        add(format!("start where a run is refused {refusal}"));
+    }
+    for (channel, number) in (0..2).flat_map(|channel| (0..4).map(move |n| (channel, n))) {
+        let of = format!("payload, channel {channel}, word {number}");
+        add(format!("runs that go on with {of}"));
+        add(format!("allowance used before {of}"));
+    }
+    for number in 2..4 {
+        add(format!("runs that go on with tag word {number}"));
+        add(format!("allowance used before tag word {number}"));
+    }
+    names
+}
+
+/// The names about refusals, 5 left out.
+fn refusal_names() -> Vec<String> {
+    let mut names = Vec::new();
     let mut add = |name: String| names.push(name);
     for (i, &first) in ENTRY.iter().enumerate() {
         add(entry_name(first, None));
@@ -741,7 +885,8 @@ fn names() -> Vec<String> {
             add(entry_name(first, Some(next)));
         }
     }
-    for refusal in STEPS {
+    let steps = refusals::TAG_STEP.iter().chain(&refusals::WORD_STEP);
+    for refusal in steps.chain(&[refusals::TOPS]) {
         add(format!("refused {refusal} in a step"));
         add(format!("refused {refusal} after other steps"));
     }
@@ -752,38 +897,10 @@ fn names() -> Vec<String> {
         }
         add(format!("refused 14, {name}"));
     }
-    let paths = [
-        "path 2 in no path",
-        "path 2 out of range",
-        "path 3 in no path",
-        "path 3 out of range",
-    ];
-    let fields = FIELDS.iter().chain(&paths).map(|name| name.to_string());
-    for field in fields.chain(field_names()) {
-        add(format!("run refused 5, {field}"));
-        add(format!("start refused 5, {field}"));
-    }
-    for refusal in ENTRY.into_iter().filter(|&r| r != refusals::RANGE) {
-        add(format!("start where a run is refused {refusal}"));
-    }
-    for name in WAITING {
-        add(format!("runs that go on with {name} waiting"));
-        add(format!("tags read with {name} waiting"));
-    }
-    for number in 0..4 {
-        add(format!(
-            "runs that go on with payload, channel 1, word {number}"
-        ));
-        add(format!(
-            "allowance used before payload, channel 1, word {number}"
-        ));
-    }
     for number in 1..4 {
         add(format!("refused 24 at payload word {number}"));
     }
     for number in 2..4 {
-        add(format!("runs that go on with tag word {number}"));
-        add(format!("allowance used before tag word {number}"));
         add(format!("refused 24 at tag word {number}"));
     }
     for refusal in [refusals::DESCRIPTOR, refusals::ROOM] {
@@ -793,17 +910,101 @@ fn names() -> Vec<String> {
     names
 }
 
+/// The names about refusal 5.
+fn range_names() -> Vec<String> {
+    let paths = [
+        "path 2 in no path",
+        "path 2 out of range",
+        "path 3 in no path",
+        "path 3 out of range",
+    ];
+    let fields = FIELDS.iter().chain(&paths).map(|name| name.to_string());
+    let both = |field: String| {
+        [
+            format!("run refused 5, {field}"),
+            format!("start refused 5, {field}"),
+        ]
+    };
+    fields.chain(unit_field_names()).flat_map(both).collect()
+}
+
+/// The fields of both unit blocks.
+fn unit_field_names() -> Vec<String> {
+    let mut names = field_names(Model::Vif1);
+    let small = field_names(Model::Vif0);
+    names.extend(small.iter().map(|name| unit_name(Model::Vif0, name)));
+    names
+}
+
+/// The names about codes that wait.
+fn waiting_names() -> Vec<String> {
+    let mut names = Vec::new();
+    for number in STMASK..=UNPACK {
+        let name = WAITING[number as usize - 1];
+        names.push(format!("runs on channel 0 beside {name} waiting on VIF1"));
+        for model in [Model::Vif0, Model::Vif1] {
+            if model == Model::Vif0 && matches!(number, DIRECT | DIRECTHL) {
+                continue;
+            }
+            let with = unit_name(model, name);
+            names.push(format!("runs that go on with {with} waiting"));
+            names.push(format!("tags read with {with} waiting"));
+            if model == Model::Vif0 {
+                names.push(format!("runs beside {name} waiting on VIF0"));
+            }
+        }
+    }
+    names
+}
+
+/// The names about channels and their memories.
+fn channel_names() -> Vec<String> {
+    let mut names = Vec::new();
+    let mut add = |name: String| names.push(name);
+    for lent in ["channel 0", "channel 1", "channel 2", "a channel above 2"] {
+        let other = "the other unit's memories wrong";
+        add(format!("2 and 3 passed on {lent}, {other}"));
+        for refusal in [refusals::DATA, refusals::CODE] {
+            add(format!("refused {refusal} at entry on {lent}"));
+            add(format!("refused {refusal} at entry on {lent}, no state"));
+        }
+        if lent != "channel 0" {
+            add(format!("refused 2 at entry on {lent}, VIF0's size"));
+        }
+    }
+    for register in ZERO_ON_VIF0 {
+        for channel in 0..3 {
+            let field = unit_name(Model::Vif0, REGISTERS[register].0);
+            add(format!("run refused 5 on channel {channel}, {field}"));
+            add(format!("start refused 5 on channel {channel}, {field}"));
+        }
+    }
+    for (from, to) in [(0, 1), (0, 2), (1, 0), (1, 2), (2, 0), (2, 1)] {
+        add(format!("start changes the channel from {from} to {to}"));
+    }
+    for command in ONLY_VIF1 {
+        add(format!("refused 20 on channel 0, CMD {command:02X}"));
+    }
+    for name in IDS {
+        add(format!("tags on channel 0, {name}, TTE 0"));
+        add(format!("tags on channel 0, {name}, TTE 1"));
+    }
+    names
+}
+
 const NAMES: &[&str] = &[
     "cases that show changes",
     "cases that show whole memories",
     "cases with main memory above 4 KiB",
     "cases with main memory not all given",
+    "cases with steps on all three channels",
     "state blocks with words that mean nothing",
     "state blocks with words that mean nothing, STMASK with other than one word due",
     "done",
     "done with allowance 0",
     "done where the allowance ends",
     "done with a code waiting",
+    "done on channel 0",
     "done inside a GIF tag, path 2",
     "done inside a GIF tag, path 3",
     "allowance used",
@@ -818,6 +1019,7 @@ const NAMES: &[&str] = &[
     "interrupt where the chain ends",
     "interrupt where the allowance ends",
     "interrupt where both end",
+    "interrupt on channel 0",
     "interrupt at a code",
     "interrupt at a payload word",
     "interrupt at a quadword of DIRECT",
@@ -880,27 +1082,32 @@ const NAMES: &[&str] = &[
     "refused 14, one quadword outside",
     "refused 14, end from 2^31",
     "refused 20 at a tag word",
+    "refused 21 on channel 0, bit 15 set",
+    "refused 22 on channel 0, bit 15 set",
+    "refused 26 at a tag word",
+    "refused 26 at a payload word",
+    "refused 31 on channel 0",
     "refused 31 at a tag word",
     "refused 31 at a code",
+    "start on channel 0, TTE 0",
+    "start on channel 0, TTE 1",
     "start on channel 1, TTE 0",
     "start on channel 1, TTE 1",
     "start on channel 2, TTE 0",
-    "start changes the channel to 1",
-    "start changes the channel to 2",
     "start drops tag words",
     "start drops payload",
     "start empties a stack of 1",
     "start empties a stack of 2",
     "start after the chain's end",
-    "start keeps a waiting code",
+    "start keeps a code waiting on VIF0",
+    "start keeps a code waiting on VIF1",
     "start keeps a GIF tag, path 2",
     "start keeps a GIF tag, path 3",
     "start with TADR outside memory",
     "start refused 5, several fields",
     "start refused 5 by state and values",
     "start refused 5 by several values",
-    "start refused 5 by its channel 0",
-    "start refused 5 by its channel above 2",
+    "start refused 5 by its channel",
     "start refused 5 by its TADR no multiple of 16",
     "start refused 5 by its TADR from 2^31",
     "start refused 5 by its TTE on channel 2",

@@ -2,48 +2,47 @@
 
 use crate::capture_cases::{Call, Case, Standing};
 use crate::capture_points;
-use crate::chain::{self, Memories, Next, Pending, State, Tag};
+use crate::chain::{self, Next, Pending, State, Tag};
 use crate::gif::{self, Format, Path, Place};
 use crate::gif_generate::{
-    random_held_block, random_log, random_no_path_block, random_out_of_range_block, random_tag,
-    tag_quadword,
+    edge_logs, random_held_block, random_log, random_no_path_block, random_out_of_range_block,
+    random_tag, tag_quadword,
 };
 use crate::log;
-use crate::memory::cases::{MOST_CODE, MOST_DATA, MOST_LOG, MOST_MAIN};
-use crate::memory::{self, CODE_BYTES, DATA_WORDS, INSTRUCTIONS};
+use crate::memory;
+use crate::memory::cases::{MOST_CODE, MOST_DATA, MOST_MAIN, MOST_VIF0_CODE, MOST_VIF0_DATA};
+use crate::model::{Model, ONLY_VIF1};
 use crate::random::Random;
 use crate::refusals;
 use crate::state_block::{
-    self, chain_word, first_unused, path_word, put_part, read_path, read_state, read_unit,
+    self, chain_word, first_unused, limit, path_word, put_part, read_path, read_state, read_unit,
     unit_word, write_state, write_unit, StateBlock, UnitBlock, PATH2, PATH3, PATHS, PATH_WORDS,
-    REGISTERS, RESET_UNIT, STATE_WORDS, UNIT, UNIT_WORDS,
+    RESET_UNIT, STATE_WORDS, UNITS, UNIT_WORDS, VIF0, VIF1, ZERO_ON_VIF0,
 };
-use crate::vif::{self, Code, Payload, Registers, Unit, Waiting, ADDRESSES, MOST_DIRECT, MOST_NUM};
+use crate::vif::{
+    self, Code, Payload, Unit, Waiting, ADDRESSES, MOST_DIRECT, MOST_NUM, MPG_ADDRESSES,
+};
 use crate::vif_generate::{
-    code_word, payload_word, random_code, random_mask, random_path_block, random_unit_block,
-    random_waiting_unit, skipping_cycle, stcycl, stmask_block, Taste as VifTaste, NOT_ONE,
+    code_word, lengths, payload_word, random_code, random_mask, random_path_block,
+    random_unit_block, random_waiting_unit, skipping_cycle, stcycl, stmask_block,
+    Taste as VifTaste, NOT_ONE,
 };
 use crate::vif_points;
 use crate::vif_unpack::Cycle;
 
-/// The right lengths of the memories, as cases give them.
-const DATA: u32 = DATA_WORDS as u32;
-const CODE: u32 = CODE_BYTES as u32;
+const CHANNELS: [u32; 3] = [0, 1, 2];
 const FILL: u64 = 0x0123_4567_89AB_CDEF;
 const NO_LIMIT: u64 = u64::MAX;
 
-/// A capture file of about `runs` runs, or more where the fixed part has more.
+/// A capture file: the fixed cases, and cases by chance with about `runs` runs.
 pub fn generate(seed: u64, runs: u64) -> Vec<u8> {
     let mut random = Random::new(seed);
     let mut file = Vec::new();
-    let mut made = 0;
     let mut cases = fixed_cases();
     cases.extend(vif_points::all().iter().map(capture_points::case));
     add_edge_cases(&mut random, &mut cases);
-    for case in cases {
-        made += runs_of(&case);
-        case.write(&mut file);
-    }
+    cases.iter().for_each(|case| case.write(&mut file));
+    let mut made = 0;
     while made < runs {
         let case = random_case(&mut random);
         made += runs_of(&case).max(1);
@@ -78,11 +77,15 @@ fn start(channel: u32, tadr: u32, tte: u32) -> Call {
 
 /// A case over these words of main memory, with a log of so many entries.
 pub fn plain_case(state: &State, main: &[u32], entries: u64, calls: &[Call]) -> Case {
+    let (data_length, code_length) = lengths(Model::Vif1);
+    let (vif0_data_length, vif0_code_length) = lengths(Model::Vif0);
     Case {
         main_length: 4 * main.len() as u32,
         main: main.to_vec(),
-        data_length: DATA,
-        code_length: CODE,
+        data_length,
+        code_length,
+        vif0_data_length,
+        vif0_code_length,
         log_length: log::length(entries),
         fill: FILL,
         whole: false,
@@ -98,10 +101,6 @@ fn split(quadword: u128) -> [u32; 4] {
 /// The bench points and other cases that are the same in every file.
 fn fixed_cases() -> Vec<Case> {
     let reset = State::reset();
-    let channel2 = State {
-        channel: 2,
-        ..reset
-    };
     let calls = [tag(5, 0, 16), tag(5, 0, 32), tag(5, 0, 0)].concat();
     let end = tag(7, 0, 0);
     let mut cases = vec![
@@ -122,38 +121,7 @@ fn fixed_cases() -> Vec<Case> {
             plain_case(&state, &end, 0, &[run(0), run(1), run(0)])
         },
     ];
-    // REGLIST, NREG 3, NLOOP 1: two quadwords, three writes.
-    let reglist = [
-        tag(7, 3, 0),
-        split(tag_quadword(1, 1, 3, 0x531)),
-        split(0x2222_0000_0000_0000_1111),
-        split(0x4444_0000_0000_0000_3333),
-    ];
-    let whole = Case {
-        whole: true,
-        ..plain_case(&channel2, &reglist.concat(), 4, &[run(NO_LIMIT)])
-    };
-    cases.push(whole);
-    // IMAGE with one entry free: 31, nothing written.
-    let image = [
-        tag(7, 2, 0),
-        split(tag_quadword(1, 2, 1, 0)),
-        split(0x6666_0000_0000_0000_5555),
-    ];
-    let mut state = channel2;
-    state.used = 3;
-    let calls = [run(NO_LIMIT), run(NO_LIMIT)];
-    cases.push(plain_case(&state, &image.concat(), 4, &calls));
-    // The same two inside DIRECT.
-    for (tags, used) in [(&reglist[1..], 0), (&image[1..], 3)] {
-        let direct = [0, 0, 0, code_word(0x50, 0, tags.len() as u32)];
-        let tags = tags.concat();
-        let head = [tag(7, tags.len() as u32 / 4 + 1, 0), direct];
-        let mut state = reset;
-        state.used = used;
-        let main = [&head.concat()[..], &tags].concat();
-        cases.push(plain_case(&state, &main, 4, &[run(NO_LIMIT)]));
-    }
+    cases.extend(gif_points());
     // Bit 31 in the last word: 91 before 0 and 90.
     let last = [tag(7, 1, 0), [0, 0, 0, 1 << 31]].concat();
     for allowance in [4, 5, 6, NO_LIMIT] {
@@ -162,19 +130,101 @@ fn fixed_cases() -> Vec<Case> {
     }
     // No calls.
     cases.push(plain_case(&reset, &end, 0, &[]));
-    // STMASK with other than one word due: refused, the block as given.
+    cases.extend(stmask_cases());
+    cases.extend(channels_in_turn());
+    cases
+}
+
+/// REGLIST and IMAGE, on channel 2 and inside DIRECT.
+fn gif_points() -> Vec<Case> {
+    let mut state = State {
+        channel: 2,
+        ..State::reset()
+    };
+    // REGLIST, NREG 3, NLOOP 1: two quadwords, three writes.
+    let reglist = [
+        tag(7, 3, 0),
+        split(tag_quadword(1, 1, 3, 0x531)),
+        split(0x2222_0000_0000_0000_1111),
+        split(0x4444_0000_0000_0000_3333),
+    ];
+    let mut cases = vec![Case {
+        whole: true,
+        ..plain_case(&state, &reglist.concat(), 4, &[run(NO_LIMIT)])
+    }];
+    // IMAGE with one entry free: 31, nothing written.
+    let image = [
+        tag(7, 2, 0),
+        split(tag_quadword(1, 2, 1, 0)),
+        split(0x6666_0000_0000_0000_5555),
+    ];
+    state.used = 3;
+    let calls = [run(NO_LIMIT), run(NO_LIMIT)];
+    cases.push(plain_case(&state, &image.concat(), 4, &calls));
+    state.channel = 1;
+    for (tags, used) in [(&reglist[1..], 0), (&image[1..], 3)] {
+        let direct = [0, 0, 0, code_word(0x50, 0, tags.len() as u32)];
+        let main = [&[tag(7, tags.len() as u32 + 1, 0), direct][..], tags].concat();
+        state.used = used;
+        cases.push(plain_case(&state, &main.concat(), 4, &[run(NO_LIMIT)]));
+    }
+    cases
+}
+
+/// STMASK with other than one word due: refused, the block as given.
+fn stmask_cases() -> Vec<Case> {
+    let mut cases = Vec::new();
     for due in NOT_ONE {
         let calls = [run(NO_LIMIT), start(2, 0, 0), run(1)];
-        let mut case = plain_case(&reset, &end, 0, &calls);
-        case.state[chain_word::STACK..][..chain::STACK].fill(due);
-        put_part(&mut case.state, UNIT, &stmask_block(due));
-        cases.push(case);
+        for (_, unit_at) in UNITS {
+            let mut case = plain_case(&State::reset(), &tag(7, 0, 0), 0, &calls);
+            case.state[chain_word::CHANNEL] = due % 3;
+            case.state[chain_word::STACK..][..chain::STACK].fill(due);
+            put_part(&mut case.state, unit_at, &stmask_block(due));
+            cases.push(case);
+        }
+    }
+    cases
+}
+
+/// Captures over the three channels in turn, in every order, over one log. The same words go to
+/// both units: UNPACK, MPG and program starts near the end of VIF0's memories.
+fn channels_in_turn() -> Vec<Case> {
+    let codes = [
+        [stcycl(1, 1), code_word(0x6C, 2, 255), 1, 2],
+        [3, 4, 5, 6],
+        [7, 8, code_word(0x4A, 2, 511), 0x11],
+        [0x22, 0x33, 0x44, code_word(0x04, 0, 9)],
+        [code_word(0x14, 0, 5), code_word(0x17, 0, 6), 0, 0],
+    ];
+    let packet = [split(tag_quadword(1, 0, 1, 0xE)), [7, 8, 9, 10]];
+    let (units, gif) = (0, 4 * 24);
+    let main = [&[tag(7, 5, 0)][..], &codes, &[tag(7, 2, 0)], &packet].concat();
+    let turn = |channel: u32, tte: u32| match channel {
+        2 => start(2, gif, 0),
+        _ => start(channel, units, tte),
+    };
+    let mut cases = Vec::new();
+    for orders in [
+        [0, 1, 2],
+        [0, 2, 1],
+        [1, 0, 2],
+        [1, 2, 0],
+        [2, 0, 1],
+        [2, 1, 0],
+    ] {
+        for (tte, cut) in [(0, NO_LIMIT), (1, NO_LIMIT), (0, 9)] {
+            let calls = orders.map(|channel| [turn(channel, tte), run(cut), run(NO_LIMIT)]);
+            let calls = [calls.concat(), calls.concat()].concat();
+            cases.push(plain_case(&State::reset(), &main.concat(), 16, &calls));
+        }
     }
     cases
 }
 
 fn add_edge_cases(random: &mut Random, cases: &mut Vec<Case>) {
     add_length_cases(random, cases);
+    add_lent_cases(random, cases);
     add_wrong_together_cases(random, cases);
     add_outside_cases(random, cases);
     add_field_cases(random, cases);
@@ -210,23 +260,27 @@ fn short_calls(random: &mut Random) -> Vec<Call> {
         let allowance = random.pick(&[0, 0, 1, 2, 3, 7, 20, NO_LIMIT]);
         calls.push(run(allowance));
         if random.percent(40) {
-            let channel = random.pick(&[1, 1, 2]);
-            let tte = if channel == 1 { random.below(2) } else { 0 };
+            let channel = random.pick(&CHANNELS);
+            let tte = if channel == 2 { 0 } else { random.below(2) };
             calls.push(start(channel, 0, tte as u32));
         }
     }
     calls
 }
 
-/// Each length from both sides.
+/// Each length from both sides, with runs on each channel.
 fn add_length_cases(random: &mut Random, cases: &mut Vec<Case>) {
     let reset = State::reset();
     let calls = [
         run(0),
         start(1, 0, 1),
         run(3),
+        start(0, 0, 1),
+        run(3),
         start(2, 0, 0),
         run(NO_LIMIT),
+        start(0, 0, 0),
+        run(0),
     ];
     let mains = [
         0, 1, 4, 8, 15, 16, 17, 24, 31, 32, 1_048_560, 1_048_575, 1_048_576, 1_048_577, 1_048_592,
@@ -240,24 +294,9 @@ fn add_length_cases(random: &mut Random, cases: &mut Vec<Case>) {
         }
         cases.push(case);
     }
-    for data_length in [0, 1, DATA - 4, DATA - 1, DATA + 1, MOST_DATA] {
+    for (model, data, code) in unit_lengths() {
         let mut case = plain_case(&reset, &short_main(random), 4, &calls);
-        case.data_length = data_length;
-        case.whole = random.percent(30);
-        cases.push(case);
-    }
-    for code_length in [
-        0,
-        1,
-        CODE - 4,
-        CODE - 1,
-        CODE + 1,
-        CODE + 2,
-        CODE + 4,
-        MOST_CODE,
-    ] {
-        let mut case = plain_case(&reset, &short_main(random), 4, &calls);
-        case.code_length = code_length;
+        set_lengths(&mut case, model, data, code);
         case.whole = random.percent(30);
         cases.push(case);
     }
@@ -269,81 +308,140 @@ fn add_length_cases(random: &mut Random, cases: &mut Vec<Case>) {
     }
 }
 
-/// Lengths of logs and entries used at the limits of refusal 4.
-fn edge_logs() -> Vec<(u32, u64)> {
-    let one = log::length(1);
-    let most = log::MOST_NUMBERS as u32;
-    let entries = log::MOST_ENTRIES;
-    vec![
-        (0, 0),
-        (0, 1),
-        (1, 0),
-        (one, 1),
-        (one, 2),
-        (one, log::WRAPS),
-        (one, log::WRAPS + 1),
-        (one, u64::MAX),
-        (log::length(32), 1 << 32),
-        (most - 1, 0),
-        (most, entries),
-        (most, entries + 1),
-        (most + 1, 0),
-        (most + one, 0),
-        (MOST_LOG, 0),
-    ]
+/// The lengths of each unit's memories on every channel and on none, in a state and in no state.
+fn add_lent_cases(random: &mut Random, cases: &mut Vec<Case>) {
+    for channel in [0, 1, 2, 3, 256, u32::MAX] {
+        for (model, data, code) in unit_lengths() {
+            for ended in [0, 2] {
+                let calls = [run(random.pick(&[0, 1, 3])), start(1, 0, 0), run(2)];
+                let mut case = plain_case(&State::reset(), &short_main(random), 4, &calls);
+                set_lengths(&mut case, model, data, code);
+                case.state[chain_word::CHANNEL] = channel;
+                case.state[chain_word::ENDED] = ended;
+                cases.push(case);
+            }
+        }
+    }
+}
+
+/// Lengths of each unit's memories of which one is wrong, or both.
+fn unit_lengths() -> Vec<(Model, u32, u32)> {
+    let mut all = Vec::new();
+    for (model, most_data, most_code) in [
+        (Model::Vif0, MOST_VIF0_DATA, MOST_VIF0_CODE),
+        (Model::Vif1, MOST_DATA, MOST_CODE),
+    ] {
+        let (data, code) = lengths(model);
+        for wrong in [0, 1, data - 4, data - 1, data + 1, most_data] {
+            all.push((model, wrong, code));
+        }
+        for wrong in [
+            0,
+            1,
+            code - 4,
+            code - 1,
+            code + 1,
+            code + 2,
+            code + 4,
+            most_code,
+        ] {
+            all.push((model, data, wrong));
+        }
+    }
+    // VIF0's sizes for VIF1.
+    let ((data, code), (small_data, small_code)) = (lengths(Model::Vif1), lengths(Model::Vif0));
+    all.extend([
+        (Model::Vif1, small_data, small_code),
+        (Model::Vif1, small_data, code),
+        (Model::Vif1, data, small_code),
+    ]);
+    all
+}
+
+fn set_lengths(case: &mut Case, model: Model, data: u32, code: u32) {
+    match model {
+        Model::Vif0 => (case.vif0_data_length, case.vif0_code_length) = (data, code),
+        Model::Vif1 => (case.data_length, case.code_length) = (data, code),
+    }
 }
 
 /// Every choice of wrong lengths, state and pending words at once.
 fn add_wrong_together_cases(random: &mut Random, cases: &mut Vec<Case>) {
-    for wrong in 0..64 {
-        let bit = |i: u32| wrong >> i & 1 == 1;
-        let main = short_main(random);
-        let mut state = State::reset();
-        if bit(2) {
-            state.used = 5;
+    for channel in [0, 1] {
+        for wrong in 0..64 {
+            let mut case = wrong_together(random, channel, wrong);
+            cases.push(case.clone());
+            case.calls = short_calls(random);
+            cases.push(case);
         }
-        state.ended = random.percent(50);
-        if bit(5) {
-            state.tte = true;
-            let far = random.pick(&[80, 96, 1 << 20]);
-            match random.below(2) {
-                0 => state.tag_word = Some(far + random.pick(&[8, 12])),
-                _ => {
-                    state.payload = Some(Pending {
-                        address: far - 16,
-                        words: 8,
-                    });
-                }
-            }
+    }
+}
+
+/// Wrong is what the bits 0 to 5 say: main memory, data memory, entries used, code memory, the
+/// state, pending words.
+fn wrong_together(random: &mut Random, channel: u32, wrong: u32) -> Case {
+    let bit = |i: u32| wrong >> i & 1 == 1;
+    let main = short_main(random);
+    let mut state = State {
+        channel,
+        ended: random.percent(50),
+        ..State::reset()
+    };
+    if bit(2) {
+        state.used = 5;
+    }
+    if bit(5) {
+        put_pending_outside(random, &mut state);
+    }
+    let calls = [run(random.pick(&[0, 1, 30, NO_LIMIT])), run(0)];
+    let mut case = plain_case(&state, &main, 4, &calls);
+    if bit(0) {
+        case.main_length = random.pick(&[81, 88, 84, MOST_MAIN, 1_048_592]);
+        if bit(5) && case.main_length > 1_048_576 {
+            case.state[chain_word::TAG_WORDS] = 1;
+            case.state[chain_word::TAG_WORD_AT] = u32::MAX - 3;
         }
-        let calls = [run(random.pick(&[0, 1, 30, NO_LIMIT])), run(0)];
-        let mut case = plain_case(&state, &main, 4, &calls);
-        if bit(0) {
-            case.main_length = random.pick(&[81, 88, 84, MOST_MAIN, 1_048_592]);
-            if bit(5) && case.main_length > 1_048_576 {
-                case.state[chain_word::TAG_WORDS] = 1;
-                case.state[chain_word::TAG_WORD_AT] = u32::MAX - 3;
-            }
+    }
+    let model = state.model();
+    let (mut data, mut code) = lengths(model);
+    if bit(1) {
+        data = random.pick(&[data - 1, data + 1, 0]);
+    }
+    if bit(3) {
+        code = random.pick(&[code - 1, code + 1, 0]);
+    }
+    set_lengths(&mut case, model, data, code);
+    if bit(4) {
+        let (field, value) = wrong_field(random, bit(5));
+        case.state[field] = value;
+    }
+    case
+}
+
+/// A word of a state block that is out of range; of a state that exists where one is wanted.
+fn wrong_field(random: &mut Random, exists: bool) -> (usize, u32) {
+    match random.below(5) {
+        0 => (chain_word::TADR, 8),
+        1 => (chain_word::CHANNEL, 3),
+        2 => (VIF1 + unit_word::MODE, 3),
+        3 => (VIF0 + unit_word::BASE, 1),
+        _ if exists => (chain_word::TADR, 1 << 31),
+        _ => (chain_word::ENDED, 2),
+    }
+}
+
+/// Words pending outside a short main memory.
+fn put_pending_outside(random: &mut Random, state: &mut State) {
+    state.tte = true;
+    let far = random.pick(&[80, 96, 1 << 20]);
+    match random.below(2) {
+        0 => state.tag_word = Some(far + random.pick(&[8, 12])),
+        _ => {
+            state.payload = Some(Pending {
+                address: far - 16,
+                words: 8,
+            });
         }
-        if bit(1) {
-            case.data_length = random.pick(&[DATA - 1, DATA + 1, 0]);
-        }
-        if bit(3) {
-            case.code_length = random.pick(&[CODE - 1, CODE + 1, 0]);
-        }
-        if bit(4) {
-            let (field, value) = match random.below(4) {
-                0 => (chain_word::TADR, 8),
-                1 => (chain_word::CHANNEL, 3),
-                2 => (UNIT + unit_word::MODE, 3),
-                _ if bit(5) => (chain_word::TADR, 1 << 31),
-                _ => (chain_word::ENDED, 2),
-            };
-            case.state[field] = value;
-        }
-        cases.push(case.clone());
-        case.calls = short_calls(random);
-        cases.push(case);
     }
 }
 
@@ -355,24 +453,36 @@ fn add_outside_cases(random: &mut Random, cases: &mut Vec<Case>) {
         tadr: 48,
         ..State::reset()
     };
+    let mut states = tag_words_outside(&base, length);
+    states.extend(payload_outside(&base, length));
+    for state in states {
+        for ended in [false, true] {
+            let state = State { ended, ..state };
+            let first = random.pick(&[0, 1, 2, NO_LIMIT]);
+            let channel = random.pick(&CHANNELS);
+            let calls = [run(first), run(0), start(channel, 48, 0), run(NO_LIMIT)];
+            cases.push(plain_case(&state, &main, 4, &calls));
+        }
+    }
+}
+
+fn tag_words_outside(base: &State, length: u32) -> Vec<State> {
     let mut states = Vec::new();
-    for at in [
-        0,
-        length - 16,
-        length,
-        length + 16,
-        1 << 20,
-        1 << 31,
-        0xFFFF_FFF0,
-    ] {
-        for word in [8, 12] {
+    let far = [1 << 20, 1 << 31, 0xFFFF_FFF0];
+    for at in [0, length - 16, length, length + 16].into_iter().chain(far) {
+        for (channel, word) in [(0, 8), (0, 12), (1, 8), (1, 12)] {
             states.push(State {
+                channel,
                 tte: true,
                 tag_word: Some(at + word),
-                ..base
+                ..*base
             });
         }
     }
+    states
+}
+
+fn payload_outside(base: &State, length: u32) -> Vec<State> {
     let pending = [
         (length - 16, 4),
         (length - 4, 1),
@@ -391,32 +501,25 @@ fn add_outside_cases(random: &mut Random, cases: &mut Vec<Case>) {
         (0xFFFF_FFF0, length / 4),
         (0xFFF0_0000, chain::MOST_PENDING),
     ];
+    let mut states = Vec::new();
     for (address, words) in pending {
-        for channel in [1, 2] {
-            if channel == 1 || address % 16 == 0 {
+        for channel in CHANNELS {
+            if channel != 2 || address % 16 == 0 {
                 states.push(State {
                     channel,
                     payload: Some(Pending { address, words }),
-                    ..base
+                    ..*base
                 });
             }
         }
     }
-    for state in states {
-        for ended in [false, true] {
-            let state = State { ended, ..state };
-            let first = random.pick(&[0, 1, 2, NO_LIMIT]);
-            let channel = random.pick(&[1, 2]);
-            let calls = [run(first), run(0), start(channel, 48, 0), run(NO_LIMIT)];
-            cases.push(plain_case(&state, &main, 4, &calls));
-        }
-    }
+    states
 }
 
 /// Adds a case for a state block: runs and starts on it in any order.
 fn add_block(random: &mut Random, cases: &mut Vec<Case>, block: StateBlock) {
     let mut case = plain_case(&State::reset(), &short_main(random), 4, &[]);
-    let channel = random.pick(&[1, 2]);
+    let channel = random.pick(&CHANNELS);
     let begin = start(channel, random.pick(&[0, 48, 1 << 20]), 0);
     let go = run(random.pick(&[0, 1, 3, 30, NO_LIMIT]));
     case.calls = if random.percent(50) {
@@ -428,13 +531,14 @@ fn add_block(random: &mut Random, cases: &mut Vec<Case>, block: StateBlock) {
     cases.push(case);
 }
 
-/// Each field of a state block but the unit's at its limits and just outside.
+/// Each field of a state block but the units' at its limits and just outside.
 fn add_field_cases(random: &mut Random, cases: &mut Vec<Case>) {
     let reset = write_state(&State::reset());
     for changes in chain_changes() {
-        for also in [&[][..], &[(chain_word::CHANNEL, 2)]] {
+        for channel in CHANNELS {
             let mut block = reset;
-            for &(field, value) in also.iter().chain(&changes) {
+            block[chain_word::CHANNEL] = channel;
+            for &(field, value) in &changes {
                 block[field] = value;
             }
             add_block(random, cases, block);
@@ -449,7 +553,7 @@ fn add_field_cases(random: &mut Random, cases: &mut Vec<Case>) {
             ] {
                 let mut block = reset;
                 put_part(&mut block, path_at, &path);
-                block[chain_word::CHANNEL] = random.pick(&[1, 2]);
+                block[chain_word::CHANNEL] = random.pick(&CHANNELS);
                 add_block(random, cases, block);
             }
         }
@@ -464,7 +568,7 @@ fn chain_changes() -> Vec<Changes> {
     let mut add = |field: usize, values: &[u32]| {
         changes.extend(values.iter().map(|&value| vec![(field, value)]));
     };
-    add(chain_word::CHANNEL, &[0, 1, 2, 3, 257, u32::MAX]);
+    add(chain_word::CHANNEL, &[0, 1, 2, 3, 256, 257, u32::MAX]);
     add(
         chain_word::TADR,
         &[
@@ -572,34 +676,68 @@ fn add_payload_changes(changes: &mut Vec<Changes>) {
     }
 }
 
-/// Each field of the unit block at its limits and just outside.
+/// Each field of the unit blocks at its limits and just outside.
 fn add_unit_field_cases(random: &mut Random, cases: &mut Vec<Case>) {
-    let reset = write_state(&State::reset());
-    let mut add = |random: &mut Random, unit: &UnitBlock, field: usize, value: u32| {
-        let mut block = reset;
-        block[chain_word::CHANNEL] = random.pick(&[1, 2]);
-        put_part(&mut block, UNIT, unit);
-        block[UNIT + field] = value;
-        // Once for the run, once for the start.
-        for calls in [vec![run(2)], vec![start(2, 0, 0), run(NO_LIMIT)]] {
-            let mut case = plain_case(&State::reset(), &short_main(random), 4, &calls);
-            case.state = block;
-            cases.push(case);
+    for (model, unit_at) in UNITS {
+        for field in 0..unit_word::LIMITED {
+            let limit = limit(model, field);
+            for value in [limit, limit + 1, u32::MAX] {
+                add_unit_field(random, cases, unit_at, &RESET_UNIT, (field, value));
+            }
         }
-    };
-    for (field, (_, limit)) in REGISTERS.into_iter().enumerate() {
-        for value in [limit, limit + 1, u32::MAX] {
-            add(random, &RESET_UNIT, field, value);
+        let waiting = (unit_word::WAITING, 8);
+        add_unit_field(random, cases, unit_at, &RESET_UNIT, waiting);
+        for code in state_block::STMASK..=state_block::UNPACK {
+            for (cl, wl) in [(4, 3), (3, 4), (4, 0), (0, 4)] {
+                let unit = one_due_block(code, cl, wl);
+                for (field, values) in waiting_values() {
+                    for value in values {
+                        add_unit_field(random, cases, unit_at, &unit, (field, value));
+                    }
+                }
+            }
         }
     }
-    add(random, &RESET_UNIT, unit_word::WAITING, 8);
-    for code in state_block::STMASK..=state_block::UNPACK {
-        for (cl, wl) in [(4, 3), (3, 4), (4, 0), (0, 4)] {
-            let unit = one_due_block(code, cl, wl);
-            for (field, values) in waiting_values() {
-                for value in values {
-                    add(random, &unit, field, value);
-                }
+    for register in ZERO_ON_VIF0 {
+        add_not_zero(random, cases, register);
+    }
+}
+
+/// A unit with one word changed: once for the run, once for the start.
+fn add_unit_field(
+    random: &mut Random,
+    cases: &mut Vec<Case>,
+    unit_at: usize,
+    unit: &UnitBlock,
+    (field, value): (usize, u32),
+) {
+    let mut block = write_state(&State::reset());
+    block[chain_word::CHANNEL] = random.pick(&CHANNELS);
+    put_part(&mut block, unit_at, unit);
+    block[unit_at + field] = value;
+    for calls in [vec![run(2)], vec![start(2, 0, 0), run(NO_LIMIT)]] {
+        let mut case = plain_case(&State::reset(), &short_main(random), 4, &calls);
+        case.state = block;
+        cases.push(case);
+    }
+}
+
+/// A register that is zero on VIF0, with other values on every channel, beside a unit that
+/// waits or not.
+fn add_not_zero(random: &mut Random, cases: &mut Vec<Case>, register: usize) {
+    for channel in CHANNELS {
+        for value in [1, 1_023, 1_024] {
+            let mut block = write_state(&State::reset());
+            block[chain_word::CHANNEL] = channel;
+            if random.percent(50) {
+                let unit = random_waiting_unit(random, Model::Vif0);
+                put_part(&mut block, VIF0, &write_unit(&unit));
+            }
+            block[VIF0 + register] = value;
+            for calls in [vec![run(2)], vec![start(channel, 0, 0), run(0)]] {
+                let mut case = plain_case(&State::reset(), &short_main(random), 4, &calls);
+                case.state = block;
+                cases.push(case);
             }
         }
     }
@@ -623,8 +761,8 @@ fn waiting_values() -> Vec<(usize, Vec<u32>)> {
     let addresses = vec![
         ADDRESSES - 1,
         ADDRESSES,
-        INSTRUCTIONS - 1,
-        INSTRUCTIONS,
+        MPG_ADDRESSES - 1,
+        MPG_ADDRESSES,
         most,
     ];
     vec![
@@ -649,39 +787,14 @@ pub fn field_blocks(random: &mut Random) -> Vec<StateBlock> {
 /// Starts with each value at its limits and just outside.
 fn add_start_cases(random: &mut Random, cases: &mut Vec<Case>) {
     let main = short_main(random);
-    let mut starts = Vec::new();
-    for channel in [0, 1, 2, 3, 257, 258, u32::MAX] {
-        starts.push((channel, 48, 0));
-    }
-    for tte in [0, 1, 2, 256, 257, u32::MAX] {
-        starts.push((1, 48, tte));
-        starts.push((2, 48, tte));
-    }
-    for tadr in [
-        1,
-        2,
-        4,
-        8,
-        15,
-        16,
-        80,
-        0x7FFF_FFF0,
-        1 << 31,
-        u32::MAX - 15,
-        u32::MAX,
-    ] {
-        starts.push((1, tadr, 0));
-        starts.push((2, tadr, 0));
-    }
-    starts.push((0, 1, 2));
-    for (channel, tadr, tte) in starts {
+    let length = 4 * main.len() as u32;
+    for (channel, tadr, tte) in edge_starts() {
         for wrong_state in [false, true] {
-            let length = 4 * main.len() as u32;
             let mut state = random_state(random, length);
             state.used = state.used.min(4);
             let mut case = plain_case(&state, &main, 4, &[]);
             if wrong_state {
-                case.state[UNIT + unit_word::MODE] = 3;
+                case.state[random.pick(&[VIF0, VIF1]) + unit_word::MODE] = 3;
             }
             case.calls = vec![
                 run(random.below(4)),
@@ -692,6 +805,23 @@ fn add_start_cases(random: &mut Random, cases: &mut Vec<Case>) {
             cases.push(case);
         }
     }
+}
+
+/// Channel, TADR and TTE of starts.
+fn edge_starts() -> Vec<(u32, u32, u32)> {
+    let mut starts = Vec::new();
+    for channel in [0, 1, 2, 3, 256, 257, 258, u32::MAX] {
+        starts.push((channel, 48, 0));
+    }
+    for tte in [0, 1, 2, 256, 257, u32::MAX] {
+        starts.extend(CHANNELS.map(|channel| (channel, 48, tte)));
+    }
+    let far = [0x7FFF_FFF0, 1 << 31, u32::MAX - 15, u32::MAX];
+    for tadr in [1, 2, 4, 8, 15, 16, 80].into_iter().chain(far) {
+        starts.extend(CHANNELS.map(|channel| (channel, tadr, 0)));
+    }
+    starts.push((3, 1, 2));
+    starts
 }
 
 /// Tags by every ID with right and wrong ADDR, SPR, QWC and stack.
@@ -721,12 +851,12 @@ fn add_tag_case(
     depth: usize,
 ) {
     let mut state = State {
-        channel: random.pick(&[1, 1, 2]),
+        channel: random.pick(&CHANNELS),
         tadr: 32,
         depth,
         ..State::reset()
     };
-    state.tte = state.channel == 1 && random.percent(50);
+    state.tte = state.channel != 2 && random.percent(50);
     for entry in &mut state.stack[..depth] {
         *entry = random.pick(&[0, 16, 80, 96, 1_048_576]);
     }
@@ -745,8 +875,19 @@ fn add_tag_case(
 
 /// Tag words of every ID with codes of many kinds, cut at every step.
 fn add_tag_word_cases(random: &mut Random, cases: &mut Vec<Case>) {
+    for id in 0..8 {
+        for qwc in [0, 1] {
+            for pair in tag_word_pairs() {
+                add_tag_word_case(random, cases, tag_words(id, qwc, 48), pair);
+            }
+        }
+    }
+}
+
+/// Words 2 and 3 of tags.
+fn tag_word_pairs() -> [[u32; 2]; 17] {
     let mark = |imm: u32| code_word(0x07, 0, imm);
-    let pairs = [
+    [
         [mark(1), mark(2)],
         [1 << 31 | mark(3), 1 << 31 | mark(4)],
         [code_word(0x20, 0, 0), 0x1234_5678],
@@ -763,36 +904,40 @@ fn add_tag_word_cases(random: &mut Random, cases: &mut Vec<Case>) {
         [stcycl(0, 3), 1 << 31 | code_word(0x60, 0, 0x3FE)],
         [code_word(0x05, 0, 3), 0],
         [code_word(0x62, 1, 0), 0],
+        [0, code_word(0x4A, 2, 511)],
+    ]
+}
+
+/// A tag with these words, then a quadword of payload, then an end.
+fn add_tag_word_case(
+    random: &mut Random,
+    cases: &mut Vec<Case>,
+    [low, high]: [u32; 2],
+    pair: [u32; 2],
+) {
+    let mark = |imm: u32| code_word(0x07, 0, imm);
+    let main = [
+        [low, high, pair[0], pair[1]],
+        [1, 0, 0, 0],
+        tag(7, 0, 0),
+        [0x7000_0000, 0, mark(8), mark(9)],
     ];
-    for id in 0..8 {
-        for qwc in [0, 1] {
-            for pair in pairs {
-                let [low, high] = tag_words(id, qwc, 48);
-                // After the tag: a quadword of payload, then an end.
-                let main = [
-                    [low, high, pair[0], pair[1]],
-                    [1, 0, 0, 0],
-                    tag(7, 0, 0),
-                    [0x7000_0000, 0, mark(8), mark(9)],
-                ];
-                let mut state = State {
-                    tte: random.percent(85),
-                    ..State::reset()
-                };
-                if random.percent(25) {
-                    state.depth = 1;
-                    state.stack[0] = 48;
-                }
-                if random.percent(15) {
-                    state.unit = direct_waits(random);
-                }
-                state.used = random.pick(&[0, 0, 3, 4]);
-                let cut = random.below(5);
-                let calls = [run(cut), run(random.below(3)), run(20)];
-                cases.push(plain_case(&state, &main.concat(), 4, &calls));
-            }
-        }
+    let mut state = State {
+        channel: random.pick(&[0, 1]),
+        tte: random.percent(85),
+        used: random.pick(&[0, 0, 3, 4]),
+        ..State::reset()
+    };
+    if random.percent(25) {
+        state.depth = 1;
+        state.stack[0] = 48;
     }
+    if random.percent(25) {
+        state.vif1 = direct_waits(random);
+    }
+    let cut = random.below(5);
+    let calls = [run(cut), run(random.below(3)), run(20)];
+    cases.push(plain_case(&state, &main.concat(), 4, &calls));
 }
 
 /// A unit in which DIRECT or DIRECTHL waits.
@@ -803,7 +948,7 @@ fn direct_waits(random: &mut Random) -> Unit {
             interrupt: random.percent(30),
             due: random.within(1..=3) as u32,
         }),
-        ..Unit::default()
+        ..Unit::reset(Model::Vif1)
     }
 }
 
@@ -816,7 +961,11 @@ fn add_interrupt_cases(random: &mut Random, cases: &mut Vec<Case>) {
                 payload[at] = 1 << 31;
                 let main = [tag(id, 1, 16), payload, tag(7, 0, 0)].concat();
                 let calls = [run(steps), run(random.pick(&[0, 1, 5])), run(10)];
-                cases.push(plain_case(&State::reset(), &main, 4, &calls));
+                let state = State {
+                    channel: random.pick(&[0, 1]),
+                    ..State::reset()
+                };
+                cases.push(plain_case(&state, &main, 4, &calls));
             }
         }
     }
@@ -840,25 +989,62 @@ fn add_refusal_cases(random: &mut Random, cases: &mut Vec<Case>) {
         used: 4,
         ..State::reset()
     };
-    let calls = [run(1 << 32), run(NO_LIMIT)];
+    add_code_refusal_cases(&log_full, cases);
+    add_tops_refusal_cases(cases);
+    add_gif_refusal_cases(&log_full, cases);
+    for bad in [
+        tag(2, 0, 8),
+        tag(2, 0, 1 << 31),
+        tag(3, 1, 48),
+        tag(1, 1, 0),
+        tag(2, 0, 48),
+    ] {
+        let main = [tag(1, 1, 0), [0; 4], bad].concat();
+        let state = State {
+            channel: random.pick(&CHANNELS),
+            ..State::reset()
+        };
+        cases.push(plain_case(&state, &main, 4, &TO_THE_REFUSAL));
+    }
+}
+
+/// A run and another.
+const TO_THE_REFUSAL: [Call; 2] = [
+    Call::Run { allowance: 1 << 32 },
+    Call::Run {
+        allowance: NO_LIMIT,
+    },
+];
+
+/// Codes that are refused, and those that only VIF1 has, in each word and on both units.
+fn add_code_refusal_cases(log_full: &State, cases: &mut Vec<Case>) {
     let codes = [
         code_word(0x08, 0, 0),
         code_word(0x63, 1, 0),
         code_word(0x60, 1, 0),
         code_word(0x05, 0, 3),
-        code_word(0x50, 0, 1),
         code_word(0x14, 0, 1),
+        code_word(0x17, 0, 1),
     ];
-    for code in codes {
+    let missing = ONLY_VIF1.map(|command| code_word(command, 0, 1));
+    for code in codes.into_iter().chain(missing) {
         for at in 0..4 {
-            for interrupt in [0, 1 << 31] {
+            for (channel, interrupt) in [(1, 0), (1, 1 << 31), (0, 0), (0, 1 << 31)] {
                 let mut payload = [0; 8];
                 payload[at] = code | interrupt;
                 let main = [&tag(7, 2, 0)[..], &payload].concat();
-                cases.push(plain_case(&log_full, &main, 4, &calls));
+                let state = State {
+                    channel,
+                    ..*log_full
+                };
+                cases.push(plain_case(&state, &main, 4, &TO_THE_REFUSAL));
             }
         }
     }
+}
+
+/// Data of GIF tags that is refused, inside DIRECTHL and on channel 2.
+fn add_gif_refusal_cases(log_full: &State, cases: &mut Vec<Case>) {
     for gif_tag in [
         tag_quadword(2, 0, 2, 0xBF),
         tag_quadword(2, 1, 3, 0xFBF),
@@ -869,34 +1055,42 @@ fn add_refusal_cases(random: &mut Random, cases: &mut Vec<Case>) {
         let data = [split(gif_tag), [1, 2, 3, 4], [5, 6, 7, 8]].concat();
         let direct = [0, 0, 0, code_word(0x51, 0, 3)];
         let main = [&tag(7, 4, 0)[..], &direct, &data].concat();
-        cases.push(plain_case(&log_full, &main, 4, &calls));
+        cases.push(plain_case(log_full, &main, 4, &TO_THE_REFUSAL));
         let main = [&tag(7, 3, 0)[..], &data].concat();
         let state = State {
             channel: 2,
-            ..log_full
+            ..*log_full
         };
-        cases.push(plain_case(&state, &main, 4, &calls));
+        cases.push(plain_case(&state, &main, 4, &TO_THE_REFUSAL));
     }
-    for bad in [
-        tag(2, 0, 8),
-        tag(2, 0, 1 << 31),
-        tag(3, 1, 48),
-        tag(1, 1, 0),
-        tag(2, 0, 48),
-    ] {
-        let main = [tag(1, 1, 0), [0; 4], bad].concat();
-        let channel = random.pick(&[1, 2]);
-        let state = State {
-            channel,
-            ..State::reset()
-        };
-        cases.push(plain_case(&state, &main, 4, &calls));
+}
+
+/// UNPACK with IMM bit 15 under WL that is right and 0, in a format that is right and refused, as
+/// payload and as a tag word.
+fn add_tops_refusal_cases(cases: &mut Vec<Case>) {
+    for (cl, wl) in [(1, 1), (0, 3), (3, 0), (0, 0)] {
+        for command in [0x60, 0x63, 0x7C, 0x7B] {
+            for channel in [0, 1] {
+                let codes = [stcycl(cl, wl), code_word(command, 1, 0x8001)];
+                let payload = [codes[0], 0, codes[1], 0];
+                let main = [tag(1, 1, 0), payload, tag(7, 0, 0)].concat();
+                let mut state = State {
+                    channel,
+                    ..State::reset()
+                };
+                cases.push(plain_case(&state, &main, 4, &TO_THE_REFUSAL));
+                let [low, high] = tag_words(7, 0, 0);
+                state.tte = true;
+                let main = [low, high, codes[0], codes[1]];
+                cases.push(plain_case(&state, &main, 4, &TO_THE_REFUSAL));
+            }
+        }
     }
 }
 
 /// The longest main memory and payload, nearly all zero.
 fn add_zero_memory_cases(cases: &mut Vec<Case>) {
-    for channel in [1, 2] {
+    for channel in CHANNELS {
         for (id, qwc, addr) in [
             (1, 65_535, 0),
             (7, 65_535, 0),
@@ -1073,7 +1267,7 @@ impl Maker {
             0..=1 => steps,
             2 => steps + 1,
             3 => steps + few,
-            4 => few << 32 | steps / 2,
+            4 => (few << 32) | (steps / 2),
             5 => steps + 100 + random.below(100_000),
             6 => 1 << 63,
             _ => NO_LIMIT,
@@ -1081,27 +1275,14 @@ impl Maker {
     }
 
     fn check_entry(&mut self) -> Result<(), u32> {
-        let standing = &mut self.standing;
-        let memories = Memories {
-            main: &standing.main,
-            data: &mut standing.data,
-            code: &mut standing.code,
-            log: &mut standing.log,
-        };
-        let state = standing.state.as_ref().expect("there is a state");
-        chain::check_entry(state, &memories)
+        let (state, memories) = self.standing.lend();
+        chain::check_entry(state.expect("there is a state"), &memories)
     }
 
     /// A step; hands back whether it was an interrupt.
     fn step(&mut self) -> Result<bool, u32> {
-        let standing = &mut self.standing;
-        let mut memories = Memories {
-            main: &standing.main,
-            data: &mut standing.data,
-            code: &mut standing.code,
-            log: &mut standing.log,
-        };
-        let state = standing.state.as_mut().expect("there is a state");
+        let (state, mut memories) = self.standing.lend();
+        let state = state.expect("there is a state");
         chain::step(state, &mut memories).map(|step| step.interrupt())
     }
 
@@ -1145,7 +1326,7 @@ impl Maker {
             }
             Next::Payload(pending) => {
                 let quadword = state.channel == 2
-                    || pending.address % 16 == 0 && waits_for_quadwords(&state.unit);
+                    || pending.address % 16 == 0 && waits_for_quadwords(state.unit());
                 if quadword {
                     let path = match state.channel {
                         2 => &state.path3,
@@ -1159,13 +1340,13 @@ impl Maker {
         }
     }
 
-    /// A word for VIF1, with so many pending after it.
+    /// A word for the channel's unit, with so many pending after it.
     fn fix_word(&mut self, random: &mut Random, state: &State, address: u32, after: u32) {
         let word = address as usize / 4;
         if self.fixed[word] {
             return;
         }
-        let value = match &state.unit.waiting {
+        let value = match &state.unit().waiting {
             None => self.code(random, state, address, after),
             Some(waiting) => match waiting.payload {
                 Payload::Stmask => random_mask(random),
@@ -1179,15 +1360,17 @@ impl Maker {
     fn code(&self, random: &mut Random, state: &State, address: u32, after: u32) -> u32 {
         let interrupt = (random.percent(self.taste.vif.interrupt_percent) as u32) << 31;
         let full = self.room(state) < self.taste.spare;
-        if address % 16 == 12 && random.percent(self.taste.direct_percent) {
+        let unit = state.unit();
+        let direct = unit.model == Model::Vif1 && address % 16 == 12;
+        if direct && random.percent(self.taste.direct_percent) {
             if let Some(quadwords) = self.direct_length(random, state, after) {
                 let command = random.pick(&[0x50, 0x51]);
                 return interrupt | code_word(command, random.word() & 0xFF, quadwords);
             }
         }
         for _ in 0..20 {
-            let word = random_code(random, &state.unit.registers, 0, &self.taste.vif);
-            let good = match Code::decode(word) {
+            let word = random_code(random, unit, 0, &self.taste.vif);
+            let good = match Code::decode(unit.model, word) {
                 Err(_) => true,
                 Ok(Code::Mscal(_) | Code::Mscalf(_) | Code::Mscnt) => !full,
                 Ok(Code::Direct(_) | Code::Directhl(_)) => {
@@ -1196,17 +1379,17 @@ impl Maker {
                 }
                 Ok(Code::Stcycl { cl, wl }) => self.cycle_fits(Cycle { cl, wl }),
                 Ok(Code::Unpack { .. }) => {
-                    let legal = state.unit.registers.cycle().is_legal();
+                    let legal = unit.registers.cycle().is_legal();
                     legal || self.taste.vif.illegal_percent > 0
                 }
                 Ok(_) => true,
             };
-            let words = payload_words(&state.unit.registers, word);
+            let words = payload_words(unit, word);
             if good && (!self.goes_round(state) || words <= after) {
                 return interrupt | word;
             }
         }
-        if state.unit.registers.cycle().is_legal() {
+        if unit.registers.cycle().is_legal() {
             return interrupt | code_word(0x07, 0, random.word() & 0xFFFF);
         }
         interrupt | skipping_cycle(random)
@@ -1250,8 +1433,8 @@ impl Maker {
         if free.is_empty() {
             return;
         }
-        let due = match &state.unit.waiting {
-            Some(waiting) if state.channel == 1 => waiting.due.min(pending.words / 4),
+        let due = match &state.unit().waiting {
+            Some(waiting) if state.channel != 2 => waiting.due.min(pending.words / 4),
             _ => pending.words / 4,
         };
         let quadword = match &path.place {
@@ -1330,7 +1513,7 @@ impl Maker {
         if word + 4 > self.fixed.len() {
             return;
         }
-        let clean = state.unit.waiting.is_none()
+        let clean = state.unit().waiting.is_none()
             && state.path2.place == Place::Idle
             && state.path3.place == Place::Idle;
         if clean && state.depth == 0 && !self.tags.contains(&state.tadr) {
@@ -1469,11 +1652,11 @@ impl Maker {
 }
 
 /// The words that a code waits for; for DIRECT those of its quadwords.
-fn payload_words(registers: &Registers, word: u32) -> u32 {
-    match Code::decode(word) {
+fn payload_words(unit: &Unit, word: u32) -> u32 {
+    match Code::decode(unit.model, word) {
         Ok(Code::Direct(quadwords) | Code::Directhl(quadwords)) => 4 * quadwords,
-        Ok(Code::Unpack { .. }) if !registers.cycle().is_legal() => 0,
-        Ok(code) => code.payload(registers).map_or(0, |(_, words)| words),
+        Ok(Code::Unpack { .. }) if !unit.registers.cycle().is_legal() => 0,
+        Ok(code) => code.payload(&unit.registers).map_or(0, |(_, words)| words),
         Err(_) => 0,
     }
 }
@@ -1555,14 +1738,16 @@ fn make_calls(random: &mut Random, mut maker: Maker) -> Case {
 fn random_start(random: &mut Random, maker: &mut Maker) {
     let direct = maker
         .state()
-        .is_some_and(|state| waits_for_quadwords(&state.unit));
-    let channel = random.pick(&[1, 1, 1, 2, 2]);
-    let tte = channel == 1 && random.percent(if direct { 10 } else { 50 });
+        .is_some_and(|state| waits_for_quadwords(&state.vif1));
+    let channel = random.pick(&[0, 0, 1, 1, 1, 2, 2]);
+    let direct = direct && channel == 1;
+    let tte = channel != 2 && random.percent(if direct { 10 } else { 50 });
     let state = maker.state().copied().unwrap_or(State::reset());
     let free = maker.free_place(random, &state, (0, 0));
     let length = maker.standing.main.len() as u32;
     let anywhere = 16 * random.below(length as u64 / 16 + 1) as u32;
-    let clean = state.unit.waiting.is_none() || random.percent(20);
+    let waiting = [state.vif0, state.vif1].map(|unit| unit.waiting.is_some());
+    let clean = waiting == [false; 2] || random.percent(20);
     let tadr = match (random.below(20), free) {
         (0, _) if random.percent(30) => anywhere,
         (1..=3, _) if !maker.tags.is_empty() && clean => random.pick(&maker.tags),
@@ -1571,7 +1756,7 @@ fn random_start(random: &mut Random, maker: &mut Maker) {
         _ => anywhere,
     };
     if random.percent(6) {
-        let bad_channel = random.pick(&[0, 1, 2, 3]);
+        let bad_channel = random.pick(&[0, 1, 2, 3, 256]);
         let bad_tadr = random.pick(&[tadr, tadr | 4, tadr | 1 << 31]);
         let bad_tte = random.pick(&[0, 1, 2]);
         let answer = maker.start(bad_channel, bad_tadr, bad_tte);
@@ -1592,19 +1777,19 @@ fn log(random: &mut Random) -> (u32, u64) {
 }
 
 fn spoil_lengths(random: &mut Random, case: &mut Case) {
-    match random.below(3) {
-        0 => case.data_length = random.pick(&[0, DATA / 4, DATA - 1, DATA + 1, MOST_DATA]),
-        1 => case.code_length = random.pick(&[0, 4, CODE - 1, CODE + 1, CODE + 7, MOST_CODE]),
-        _ => case.main_length += random.pick(&[1, 4, 8, 15]),
+    if random.percent(30) {
+        case.main_length += random.pick(&[1, 4, 8, 15]);
+        return;
     }
+    let (model, data, code) = random.pick(&unit_lengths());
+    set_lengths(case, model, data, code);
 }
 
 /// A state block over a main memory of this length.
 fn random_block(random: &mut Random, length: u32, used: u64) -> StateBlock {
     let mut state = match random.below(100) {
-        0..=29 => State::reset(),
-        30..=44 => State {
-            channel: 2,
+        0..=44 => State {
+            channel: random.pick(&[0, 1, 1, 2]),
             ..State::reset()
         },
         _ => random_state(random, length),
@@ -1625,13 +1810,13 @@ pub fn random_state(random: &mut Random, length: u32) -> State {
     let quadwords = length as u64 / 16;
     let place = |random: &mut Random| 16 * random.below(quadwords) as u32;
     let mut state = State {
-        channel: random.pick(&[1, 1, 2]),
+        channel: random.pick(&[0, 1, 1, 2]),
         tadr: place(random),
         ended: random.percent(10),
         depth: random.pick(&[0, 0, 1, 2]),
         ..State::reset()
     };
-    state.tte = state.channel == 1 && random.percent(50);
+    state.tte = state.channel != 2 && random.percent(50);
     for i in 0..state.depth {
         let high = 16 * random.below(65_537) as u32;
         let in_memory = place(random);
@@ -1646,8 +1831,8 @@ pub fn random_state(random: &mut Random, length: u32) -> State {
     if random.percent(4) {
         state.tadr = random.word() & 0x7FFF_FFF0;
     }
-    let unit = random_good_unit(random);
-    state.unit = unit;
+    state.vif0 = random_good_unit(random, Model::Vif0);
+    state.vif1 = random_good_unit(random, Model::Vif1);
     state.path2 = random_good_path(random);
     state.path3 = random_good_path(random);
     state
@@ -1674,14 +1859,14 @@ fn random_pending(random: &mut Random, channel: u32, quadwords: u64) -> Pending 
     }
 }
 
-fn random_good_unit(random: &mut Random) -> Unit {
+fn random_good_unit(random: &mut Random, model: Model) -> Unit {
     loop {
         let block = if random.percent(40) {
-            write_unit(&random_waiting_unit(random))
+            write_unit(&random_waiting_unit(random, model))
         } else {
-            random_unit_block(random)
+            random_unit_block(random, model)
         };
-        match read_unit(&block) {
+        match read_unit(model, &block) {
             Some(unit) if vif::in_range(&unit) => return unit,
             _ => {}
         }
@@ -1714,8 +1899,10 @@ pub fn add_junk(random: &mut Random, block: &mut StateBlock) {
     if state.payload.is_none() {
         put(chain_word::PAYLOAD_AT, chain_word::PAYLOAD_AT + 1);
     }
-    if state.unit.waiting.is_none() {
-        put(UNIT + first_unused(state_block::NONE), UNIT + UNIT_WORDS);
+    for (unit, at) in [(state.vif0, VIF0), (state.vif1, VIF1)] {
+        if unit.waiting.is_none() {
+            put(at + first_unused(state_block::NONE), at + UNIT_WORDS);
+        }
     }
     for (path, at) in [(state.path2, PATH2), (state.path3, PATH3)] {
         if path.place == Place::Idle {
@@ -1761,11 +1948,13 @@ fn deep_case(random: &mut Random) -> Case {
         if let (Cycles::Only(cycle), Some(state)) =
             (maker.taste.cycles, maker.standing.state.as_mut())
         {
-            (state.unit.registers.cl, state.unit.registers.wl) = (cycle.cl, cycle.wl);
+            for unit in [&mut state.vif0, &mut state.vif1] {
+                (unit.registers.cl, unit.registers.wl) = (cycle.cl, cycle.wl);
+            }
             maker.case.state = write_state(state);
         }
-        let channel = random.pick(&[1, 1, 2]);
-        let tte = channel == 1 && random.percent(40);
+        let channel = random.pick(&[0, 1, 1, 2]);
+        let tte = channel != 2 && random.percent(40);
         let at = 16 * random.below(given / 2) as u32;
         maker.start(channel, at, tte as u32);
         let most = random.within(100_000..=101_000);

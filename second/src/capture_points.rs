@@ -1,9 +1,10 @@
-//! The points worked by hand as captures: a chain that hands the words of a point to VIF1.
+//! The points worked by hand as captures: a chain that hands the words of a point to its unit.
 
 use crate::capture_cases::{Call, Case};
 use crate::capture_generate::{plain_case, tag};
 use crate::chain::{State, CNT, END};
-use crate::state_block::{put_part, UNIT};
+use crate::model::Model;
+use crate::state_block::{put_part, VIF0, VIF1};
 use crate::vif_points::Point;
 
 /// A run to the first word that writes, one run for each word from there on, and two to the end.
@@ -17,8 +18,16 @@ pub fn case(point: &Point) -> Case {
     let mut calls = vec![run(quiet as u64 + 1)];
     calls.extend((quiet..point.words()).map(|_| run(1)));
     calls.extend([run(u64::MAX), run(u64::MAX)]);
-    let mut case = plain_case(&State::reset(), &main, 0, &calls);
-    put_part(&mut case.state, UNIT, &of_vif.unit);
+    let (channel, unit_at) = match of_vif.model {
+        Model::Vif0 => (0, VIF0),
+        Model::Vif1 => (1, VIF1),
+    };
+    let state = State {
+        channel,
+        ..State::reset()
+    };
+    let mut case = plain_case(&state, &main, 0, &calls);
+    put_part(&mut case.state, unit_at, &of_vif.unit);
     case
 }
 
@@ -30,11 +39,15 @@ mod tests {
     use crate::vif_cases;
     use crate::vif_points;
 
-    /// The chain leaves in data memory what the words leave.
+    /// The chain leaves in the memories what the words leave, and the other unit's as they were.
     #[test]
     fn same_as_the_words() {
         for point in vif_points::all() {
-            let case = case(&point);
+            let mut case = case(&point);
+            if point.case().model == Model::Vif0 {
+                // VIF0's memories are filled with this added.
+                case.fill -= 5;
+            }
             let mut standing = Standing::new(&case);
             let mut answer = DONE;
             for call in &case.calls {
@@ -48,7 +61,10 @@ mod tests {
                 plain.take(words.given(at));
             }
             assert_eq!(answer, point.refusal().unwrap_or(DONE));
-            assert!(standing.data == plain.data);
+            let other = words.model.other();
+            assert!(standing.memories(other) == Standing::new(&case).memories(other));
+            let lent = standing.lent();
+            assert!(lent.data == plain.data && lent.code == plain.code);
         }
     }
 }

@@ -1,7 +1,8 @@
-//! The chain layer: runs over DMA source chains on channel 1 (VIF1) or 2 (GIF).
+//! The chain layer: runs over DMA source chains on channel 0 (VIF0), 1 (VIF1) or 2 (GIF).
 
 use crate::gif::{self, Path, Place};
 use crate::memory::MOST_MAIN;
+use crate::model::Model;
 use crate::refusals;
 use crate::vif::{self, Given, Taken, Unit};
 use crate::words::QUADWORD;
@@ -45,12 +46,13 @@ pub struct State {
     pub tag_word: Option<u32>,
     pub payload: Option<Pending>,
     pub used: u64,
-    pub unit: Unit,
+    pub vif0: Unit,
+    pub vif1: Unit,
     pub path2: Path,
     pub path3: Path,
 }
 
-/// The memories that a run is lent.
+/// The memories that a run is lent; data and code are those of the channel's unit.
 pub struct Memories<'a> {
     pub main: &'a [u8],
     pub data: &'a mut [u32],
@@ -133,9 +135,23 @@ impl State {
             tag_word: None,
             payload: None,
             used: 0,
-            unit: Unit::default(),
+            vif0: Unit::reset(Model::Vif0),
+            vif1: Unit::reset(Model::Vif1),
             path2: idle,
             path3: idle,
+        }
+    }
+
+    /// The unit whose memories a run is lent.
+    pub fn model(&self) -> Model {
+        Model::of_channel(self.channel)
+    }
+
+    /// The unit that the channel's words go to; VIF1 on channel 2.
+    pub fn unit(&self) -> &Unit {
+        match self.model() {
+            Model::Vif0 => &self.vif0,
+            Model::Vif1 => &self.vif1,
         }
     }
 
@@ -216,7 +232,7 @@ pub fn run(
 
 /// Tests for the refusals 1 to 5 and 14, in this order.
 pub fn check_entry(state: &State, memories: &Memories) -> Result<(), u32> {
-    check_lengths(memories, state.used)?;
+    check_lengths(state.model(), memories, state.used)?;
     if !in_range(state) {
         return Err(refusals::RANGE);
     }
@@ -226,13 +242,14 @@ pub fn check_entry(state: &State, memories: &Memories) -> Result<(), u32> {
     Ok(())
 }
 
-/// Tests for the refusals 1 to 4, in this order.
-pub fn check_lengths(memories: &Memories, used: u64) -> Result<(), u32> {
+/// Tests for the refusals 1 to 4, in this order, with the sizes of a unit.
+pub fn check_lengths(model: Model, memories: &Memories, used: u64) -> Result<(), u32> {
     let main = memories.main.len();
     if main == 0 || main % QUADWORD != 0 || main > MOST_MAIN {
         return Err(refusals::MAIN);
     }
     vif::check_lengths(
+        model,
         memories.data.len(),
         memories.code.len(),
         memories.log.len(),
@@ -252,7 +269,8 @@ pub fn in_range(state: &State) -> bool {
         && state
             .payload
             .is_none_or(|pending| payload_in_range(state.channel, &pending))
-        && vif::in_range(&state.unit)
+        && vif::in_range(&state.vif0)
+        && vif::in_range(&state.vif1)
         && gif::path_in_range(&state.path2)
         && gif::path_in_range(&state.path3)
 }
@@ -260,7 +278,7 @@ pub fn in_range(state: &State) -> bool {
 /// Whether channel, TADR and TTE are in range, in a state or a start.
 pub fn start_in_range(channel: u32, tadr: u32, tte: bool) -> bool {
     let channel_fits = match channel {
-        1 => true,
+        0 | 1 => true,
         2 => !tte,
         _ => false,
     };
@@ -368,7 +386,7 @@ fn take_tag(state: &mut State, main: &[u8]) -> Result<Tag, u32> {
     Ok(tag)
 }
 
-/// Word 2 or 3 of a tag to VIF1.
+/// Word 2 or 3 of a tag to the channel's unit.
 fn take_tag_word(state: &mut State, memories: &mut Memories, address: u32) -> Result<Taken, u32> {
     let given = Given::Word(word_at(memories.main, address));
     let taken = give(state, memories, given)?;
@@ -380,7 +398,7 @@ fn take_tag_word(state: &mut State, memories: &mut Memories, address: u32) -> Re
     Ok(taken)
 }
 
-/// A word of payload to VIF1, or a quadword inside DIRECT.
+/// A word of payload to the channel's unit, or a quadword inside DIRECT.
 fn take_payload(
     state: &mut State,
     memories: &mut Memories,
@@ -397,8 +415,12 @@ fn take_payload(
 }
 
 fn give(state: &mut State, memories: &mut Memories, given: Given) -> Result<Taken, u32> {
+    let unit = match state.model() {
+        Model::Vif0 => &mut state.vif0,
+        Model::Vif1 => &mut state.vif1,
+    };
     vif::take(
-        &mut state.unit,
+        unit,
         &mut state.path2,
         given,
         memories.data,
@@ -430,7 +452,6 @@ fn rest(pending: Pending, taken: u32) -> Option<Pending> {
 #[cfg(test)]
 mod tests {
     use super::*;
-    use crate::memory;
 
     /// A state with its memories.
     struct Bench {
@@ -443,11 +464,21 @@ mod tests {
 
     impl Bench {
         fn new(words: &[u32], log: usize) -> Bench {
+            Bench::on(1, words, log)
+        }
+
+        /// On a channel, with its unit's memories.
+        fn on(channel: u32, words: &[u32], log: usize) -> Bench {
+            let sizes = Model::of_channel(channel).sizes();
+            let state = State {
+                channel,
+                ..State::reset()
+            };
             Bench {
-                state: State::reset(),
+                state,
                 main: words.iter().flat_map(|word| word.to_le_bytes()).collect(),
-                data: vec![0; memory::DATA_WORDS],
-                code: vec![0; memory::CODE_BYTES],
+                data: vec![0; sizes.data_words()],
+                code: vec![0; sizes.code_bytes()],
                 log: vec![0; log],
             }
         }
@@ -487,6 +518,99 @@ mod tests {
         let mut bench = Bench::new(&words, 0);
         assert_eq!(bench.run(5), (91, 5));
         assert_eq!(bench.run(0), (0, 0));
+    }
+
+    #[test]
+    fn tag_words_to_vif0() {
+        let words = [END << 28, 0, 0x0700_0005, 0x3000_0000, 1, 2, 3, 4];
+        let mut bench = Bench::on(0, &words, 0);
+        bench.state.tte = true;
+        assert_eq!(bench.run(u64::MAX), (0, 3));
+        assert_eq!(bench.state.vif0.registers.mark, 5);
+        assert_eq!(bench.state.vif0.waiting.unwrap().due, 4);
+        assert_eq!(bench.state.vif1, Unit::reset(Model::Vif1));
+        // A start on channel 1 keeps the code that waits, and VIF1 takes the words there.
+        assert_eq!(start(&mut bench.state, 1, 0, true), Ok(()));
+        assert_eq!(bench.run(0), (2, 0));
+        bench.data.resize(4_096, 0);
+        assert_eq!(bench.run(0), (3, 0));
+        bench.code.resize(16_384, 0);
+        assert_eq!(bench.run(u64::MAX), (0, 3));
+        assert_eq!(bench.state.vif0.waiting, bench.state.vif1.waiting);
+    }
+
+    #[test]
+    fn lengths_by_the_channel() {
+        let end = [END << 28, 0, 0, 0];
+        for (channel, data, code) in [
+            (0, 1_024, 4_096),
+            (1, 4_096, 16_384),
+            (2, 4_096, 16_384),
+            (3, 4_096, 16_384),
+            (u32::MAX, 4_096, 16_384),
+        ] {
+            let mut bench = Bench::on(channel, &end, 0);
+            assert_eq!((bench.data.len(), bench.code.len()), (data, code));
+            let answer = if channel > 2 { (5, 0) } else { (0, 1) };
+            assert_eq!(bench.run(1), answer);
+            bench.code.pop();
+            assert_eq!(bench.run(1), (3, 0));
+            bench.data.pop();
+            assert_eq!(bench.run(1), (2, 0));
+        }
+    }
+
+    #[test]
+    fn range_on_every_channel() {
+        let changes: [fn(&mut State); 8] = [
+            |state| state.vif0.registers.ofst = 1,
+            |state| state.vif0.registers.base = 1,
+            |state| state.vif0.registers.tops = 1,
+            |state| state.vif0.registers.top = 1,
+            |state| state.vif0.registers.dbf = true,
+            |state| state.vif0.registers.mskpath3 = true,
+            |state| state.vif0.registers.mode = 3,
+            |state| state.vif1.registers.mode = 3,
+        ];
+        for channel in 0..3 {
+            for change in changes {
+                let mut bench = Bench::on(channel, &[END << 28, 0, 0, 0], 0);
+                assert_eq!(bench.run(0), (90, 0));
+                change(&mut bench.state);
+                assert_eq!(bench.run(0), (5, 0));
+                for to in 0..3 {
+                    assert_eq!(start(&mut bench.state, to, 0, false), Err(5));
+                }
+            }
+        }
+    }
+
+    #[test]
+    fn starts_on_channels() {
+        for (channel, tte, answer) in [
+            (0, false, Ok(())),
+            (0, true, Ok(())),
+            (1, true, Ok(())),
+            (2, false, Ok(())),
+            (2, true, Err(5)),
+            (3, false, Err(5)),
+        ] {
+            let mut state = State::reset();
+            assert_eq!(start(&mut state, channel, 16, tte), answer);
+        }
+        let pending = |channel, address| {
+            let mut state = State::reset();
+            state.channel = channel;
+            state.payload = Some(Pending {
+                address,
+                words: 4 - address / 4,
+            });
+            in_range(&state)
+        };
+        for channel in 0..3 {
+            let fits = [0, 4, 8, 12].map(|address| pending(channel, address));
+            assert_eq!(fits, [true, channel != 2, channel != 2, channel != 2]);
+        }
     }
 
     #[test]

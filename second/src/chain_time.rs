@@ -2,7 +2,7 @@
 
 use crate::chain::{self, Memories, State};
 use crate::log::MOST_NUMBERS;
-use crate::memory::{CODE_BYTES, DATA_WORDS};
+use crate::model::Model;
 use crate::words::{put_number, put_word, word, QUADWORD, WORD};
 
 pub const MOST_QUADWORDS: usize = 65_535;
@@ -28,9 +28,8 @@ fn parts(input: &[u8]) -> Option<(u32, &[u8])> {
     let channel = word(input, 1);
     let count = word(input, 2) as usize;
     let main = &input[HEADER_WORDS * WORD..];
-    let fits = matches!(channel, 1 | 2)
-        && (1..=MOST_QUADWORDS).contains(&count)
-        && main.len() == count * QUADWORD;
+    let fits =
+        channel <= 2 && (1..=MOST_QUADWORDS).contains(&count) && main.len() == count * QUADWORD;
     fits.then_some((channel, main))
 }
 
@@ -38,10 +37,11 @@ fn parts(input: &[u8]) -> Option<(u32, &[u8])> {
 pub fn result(input: &[u8]) -> Option<Vec<u8>> {
     let (channel, main) = parts(input)?;
     let rounds = word(input, 0);
+    let sizes = Model::of_channel(channel).sizes();
     let mut memories = Memories {
         main,
-        data: &mut vec![0; DATA_WORDS],
-        code: &mut vec![0; CODE_BYTES],
+        data: &mut vec![0; sizes.data_words()],
+        code: &mut vec![0; sizes.code_bytes()],
         log: &mut vec![0; MOST_NUMBERS],
     };
     let mut state = State::reset();
@@ -84,6 +84,18 @@ mod tests {
         assert_eq!((number(&given, 0), word(&given, 2)), (18, 0));
         assert_eq!(number(&given, 3), 256 + 5);
         assert_eq!(result(&input(0, 1, &main)), Some(vec![0; 20]));
+    }
+
+    #[test]
+    fn memories_of_vif0() {
+        // S-32 at quadword 255, two writes.
+        let codes = [0x0100_0101, 0x6002_00FF, 1, 2];
+        let main = [&[0x7000_0001, 0, 0, 0], &codes[..]].concat();
+        for channel in [0, 1] {
+            let given = result(&input(1, channel, &main)).unwrap();
+            assert_eq!((number(&given, 0), word(&given, 2)), (5, 0));
+            assert_eq!(number(&given, 3), 4 + 8);
+        }
     }
 
     #[test]

@@ -1,5 +1,6 @@
 //! Running another program on an input, and comparing bytes.
 
+use std::collections::HashMap;
 use std::io::{Read, Write};
 use std::process::{Command, Stdio};
 
@@ -78,12 +79,59 @@ pub fn table(rows: &[(String, u64)]) -> String {
         .collect()
 }
 
+/// The rows of counts that are kept by name, with these names and no others.
+pub fn named_rows(by_name: &HashMap<String, u64>, names: Vec<String>) -> Vec<(String, u64)> {
+    let unknown: Vec<&String> = by_name.keys().filter(|n| !names.contains(n)).collect();
+    assert!(unknown.is_empty(), "counts without a row: {unknown:?}");
+    let with_count = |name: String| {
+        let count = by_name.get(&name).copied().unwrap_or(0);
+        (name, count)
+    };
+    names.into_iter().map(with_count).collect()
+}
+
 /// The names of the counts that are zero.
 pub fn zeros(rows: &[(String, u64)]) -> Vec<&str> {
     rows.iter()
         .filter(|(_, count)| *count == 0)
         .map(|(name, _)| name.as_str())
         .collect()
+}
+
+/// Prints the counts of a comparison without a difference; an error where one is zero.
+pub fn report(rows: &[(String, u64)]) -> Result<(), String> {
+    print!("{}", table(rows));
+    let missing = zeros(rows);
+    if !missing.is_empty() {
+        return Err(format!("never reached: {}", missing.join("; ")));
+    }
+    println!("no difference");
+    Ok(())
+}
+
+/// What both results have from byte `line` on.
+pub fn describe_ends(theirs: &[u8], ours: &[u8], line: usize) -> String {
+    let text = |bytes: &[u8]| {
+        let end = bytes.len().min(line + 80);
+        let text = String::from_utf8_lossy(&bytes[line.min(end)..end]);
+        text.escape_debug().to_string()
+    };
+    format!("program: {}\n  ours: {}", text(theirs), text(ours))
+}
+
+/// Where each case of a file starts, a damaged last one too, by the length of the first case of
+/// some bytes.
+pub fn case_starts(file: &[u8], length: impl Fn(&[u8]) -> Option<usize>) -> Vec<usize> {
+    let mut starts = Vec::new();
+    let mut at = 0;
+    while at < file.len() {
+        starts.push(at);
+        match length(&file[at..]) {
+            Some(length) => at += length,
+            None => break,
+        }
+    }
+    starts
 }
 
 /// Seeds with commas between.

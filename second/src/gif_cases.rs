@@ -1,5 +1,6 @@
 //! GIF case files and their results.
 
+use crate::compare;
 use crate::gif::{self, Path};
 use crate::gif_counts::Counts;
 use crate::log;
@@ -165,16 +166,10 @@ pub fn results(file: &[u8], counts: &mut Counts) -> Results {
 
 /// Where each case of a file starts, a damaged last one too.
 pub fn case_starts(file: &[u8]) -> Vec<usize> {
-    let mut starts = Vec::new();
-    let mut at = 0;
-    while at < file.len() {
-        starts.push(at);
-        match first_case(&file[at..]) {
-            Found::Whole(_, length) => at += length,
-            Found::Damaged(_) => break,
-        }
-    }
-    starts
+    compare::case_starts(file, |bytes| match first_case(bytes) {
+        Found::Whole(_, length) => Some(length),
+        Found::Damaged(_) => None,
+    })
 }
 
 fn run_case(case: &Case, index: usize, results: &mut Results, counts: &mut Counts) {

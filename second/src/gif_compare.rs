@@ -1,6 +1,6 @@
 //! Another program's GIF results against our own.
 
-use crate::compare::{first_difference, table, zeros, Program};
+use crate::compare::{describe_ends, first_difference, report, Program};
 use crate::gif_cases::{self, case_starts, describe_case, describe_result, Results, HEADER};
 use crate::gif_counts::Counts;
 use crate::gif_generate::generate;
@@ -22,13 +22,7 @@ pub fn compare(program: &Program, seeds: &[u64], quadwords: u64) -> Result<(), S
     }
     let mut rows = counts.rows();
     rows.push(("damaged files".to_string(), damaged_files));
-    print!("{}", table(&rows));
-    let missing = zeros(&rows);
-    if !missing.is_empty() {
-        return Err(format!("never reached: {}", missing.join("; ")));
-    }
-    println!("no difference");
-    Ok(())
+    report(&rows)
 }
 
 fn compare_file(program: &Program, file: &[u8], counts: &mut Counts) -> Result<(), String> {
@@ -44,18 +38,9 @@ fn explain(file: &[u8], own: &Results, theirs: &[u8], at: usize) -> String {
     let lengths = format!("{} bytes, ours {}", theirs.len(), own.bytes.len());
     if own.damage.is_some_and(|line| at >= line) || at >= own.bytes.len() {
         let line = own.damage.unwrap_or(own.bytes.len());
-        let text = |bytes: &[u8]| {
-            let end = bytes.len().min(line + 80);
-            String::from_utf8_lossy(&bytes[line.min(end)..end])
-                .escape_debug()
-                .to_string()
-        };
+        let ends = describe_ends(theirs, &own.bytes, line);
         let case = own.starts.last().map_or(0, |start| start.case);
-        return format!(
-            "differs after the last result, that of case {case}: {lengths}\n  program: {}\n  ours: {}",
-            text(theirs),
-            text(&own.bytes)
-        );
+        return format!("differs after the last result, that of case {case}: {lengths}\n  {ends}");
     }
     let index = own.starts.partition_point(|start| start.offset <= at) - 1;
     let start = &own.starts[index];

@@ -129,7 +129,7 @@ fn edge_cases(random: &mut Random) -> Vec<Case> {
 }
 
 /// Lengths of logs and entries used at the limits of refusal 4.
-fn edge_logs() -> Vec<(u32, u64)> {
+pub fn edge_logs() -> Vec<(u32, u64)> {
     let one = log::length(1);
     let most = log::MOST_NUMBERS as u32;
     let entries = log::MOST_ENTRIES;

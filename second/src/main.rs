@@ -12,6 +12,7 @@ mod capture_points;
 mod chain;
 mod chain_time;
 mod compare;
+mod filled;
 mod gif;
 mod gif_cases;
 mod gif_compare;
@@ -20,6 +21,7 @@ mod gif_generate;
 mod gif_time;
 mod log;
 mod memory;
+mod model;
 mod random;
 mod refusals;
 mod sheet;
@@ -55,11 +57,11 @@ usage:
   second time-gif < INPUT > RESULT
   second vif [--counts] < CASES > RESULTS
   second generate-vif SEED WORDS > CASES
-  second points-vif mask|filling > CASES
+  second points-vif mask|filling|vif0 > CASES
   second compare-vif PROGRAM SEED[,SEED..] WORDS
   second capture [--counts] < CASES > RESULTS
   second generate-capture SEED RUNS > CASES
-  second points-capture mask|filling > CASES
+  second points-capture mask|filling|vif0 > CASES
   second compare-capture PROGRAM SEED[,SEED..] RUNS
   second bench-chain PROGRAM
   second time-chain < INPUT > RESULT

@@ -14,16 +14,22 @@ pub const SPR: u32 = 12;
 pub const CALL: u32 = 13;
 pub const OUTSIDE: u32 = 14;
 
-// At a word of VIF1.
+// At a word of a VIF unit.
 pub const COMMAND: u32 = 20;
 pub const FORMAT: u32 = 21;
 pub const CYCLE: u32 = 22;
 pub const MODE: u32 = 23;
 pub const PLACE: u32 = 24;
+pub const TOPS: u32 = 26;
 
 // At a quadword of the GIF; 31 at MSCAL, MSCALF and MSCNT too.
 pub const DESCRIPTOR: u32 = 30;
 pub const ROOM: u32 = 31;
+
+/// Those of a tag's step, in order.
+pub const TAG_STEP: [u32; 5] = [TADR, ADDR, SPR, CALL, OUTSIDE];
+/// Those of a word's or a quadword's step on VIF1 and the GIF.
+pub const WORD_STEP: [u32; 7] = [COMMAND, FORMAT, CYCLE, MODE, PLACE, DESCRIPTOR, ROOM];
 
 // The builder's.
 pub const MARK: u32 = 40;

@@ -1,13 +1,19 @@
 //! Test sheets: the chain built from one, its steps and its plain meaning.
 
 use crate::log::Entry;
-use crate::memory::{INSTRUCTIONS, QUADWORDS};
+use crate::memory;
 use crate::refusals;
 
 /// The longest sheet in bytes.
 pub const MOST_SHEET: usize = 131_072;
 pub const MARK: [u8; 2] = [0x9E, 0x51];
 pub const HEADER: usize = 6;
+
+/// The memories that sheets are for, VIF1's, whatever channel a state holds.
+pub const QUADWORDS: u32 = memory::VIF1.quadwords;
+pub const INSTRUCTIONS: u32 = memory::VIF1.instructions;
+pub const DATA_WORDS: usize = memory::VIF1.data_words();
+pub const CODE_BYTES: usize = memory::VIF1.code_bytes();
 
 const CNT_TAG: u32 = 0x1000_0000;
 const END_TAG: u32 = 0x7000_0000;
@@ -295,7 +301,7 @@ mod tests {
     use super::*;
     use crate::chain::{self, Memories, State};
     use crate::log;
-    use crate::memory::{CODE_BYTES, DATA_WORDS, MOST_MAIN};
+    use crate::memory::MOST_MAIN;
     use crate::random::Random;
 
     /// The chain as words.

@@ -1,9 +1,12 @@
 //! Sheet case files and their results.
 
 use crate::chain::{self, State};
+use crate::compare;
+use crate::filled::{self, UnitMemories};
 use crate::gif_cases::fill_number;
 use crate::log;
 use crate::memory::cases::{MOST_CODE, MOST_DATA, MOST_LOG, MOST_MAIN};
+use crate::model::Model;
 use crate::refusals;
 use crate::sheet::{self, Refusal};
 use crate::sheet_check::broken;
@@ -12,7 +15,7 @@ use crate::state_block::{self, describe_state, read_state, write_state, StateBlo
 use crate::vif;
 use crate::words::{number, put_number, put_word, word, WORD};
 
-pub const MARK: u32 = 0x5448_5354;
+pub const MARK: u32 = 0x3248_5354;
 pub const MOST_SHEET: u32 = 131_088;
 pub const MOST_OUTPUT: u32 = 1_048_608;
 /// The word of a case at which the state block starts.
@@ -81,7 +84,7 @@ pub fn put_bytes(out: &mut Vec<u8>, bytes: &[u8]) {
     out.resize(out.len().next_multiple_of(WORD), 0);
 }
 
-/// Data memory, code memory and log.
+/// VIF1's data memory and code memory, and the log.
 #[derive(Clone, PartialEq, Eq)]
 pub struct Filled {
     pub data: Vec<u32>,
@@ -91,17 +94,18 @@ pub struct Filled {
 
 impl Filled {
     pub fn new(case: &Case) -> Filled {
-        let number = |add: u64, i: u32| fill_number(case.fill.wrapping_add(add), i as u64);
+        let memories = UnitMemories::new(case.fill, case.data_length, case.code_length);
         Filled {
-            data: (0..case.data_length).map(|i| number(0, i) as u32).collect(),
-            code: (0..case.code_length).map(|i| number(1, i) as u8).collect(),
-            log: (0..case.log_length).map(|i| number(2, i)).collect(),
+            data: memories.data,
+            code: memories.code,
+            log: filled::log(case.fill, case.log_length),
         }
     }
 
     /// Tests for the refusals 2, 3 and 4.
     pub fn check(&self, used: u64) -> Result<(), u32> {
-        vif::check_lengths(self.data.len(), self.code.len(), self.log.len(), used)
+        let (data, code, log) = (self.data.len(), self.code.len(), self.log.len());
+        vif::check_lengths(Model::Vif1, data, code, log, used)
     }
 
     pub fn write(&self, out: &mut Vec<u8>) {
@@ -246,7 +250,7 @@ fn lend<'a>(memories: &'a mut Filled, main: &'a [u8]) -> chain::Memories<'a> {
 /// Builds the chain in main memory and starts it. A refusal changes nothing.
 fn start(case: &Case, ran: &mut Ran) -> Result<State, Refusal> {
     let memories = lend(&mut ran.memories, &ran.main);
-    chain::check_lengths(&memories, case.used()).map_err(|refusal| (refusal, 0))?;
+    chain::check_lengths(Model::Vif1, &memories, case.used()).map_err(|refusal| (refusal, 0))?;
     let mut state = read_state(&case.state).ok_or((refusals::RANGE, 0))?;
     chain::start(&mut state, 1, case.address, false).map_err(|refusal| (refusal, 0))?;
     let room = ran.main.get_mut(case.address as usize..);
@@ -329,16 +333,7 @@ pub fn results(file: &[u8], counts: &mut Counts) -> Results {
 
 /// Where each case of a file starts, a damaged last one too.
 pub fn case_starts(file: &[u8]) -> Vec<usize> {
-    let mut starts = Vec::new();
-    let mut at = 0;
-    while at < file.len() {
-        starts.push(at);
-        match first_case(&file[at..]) {
-            Some((_, length)) => at += length,
-            None => break,
-        }
-    }
-    starts
+    compare::case_starts(file, |bytes| Some(first_case(bytes)?.1))
 }
 
 /// The pieces of a result with their words, by part.
@@ -416,9 +411,8 @@ pub fn describe_case(case: &Case) -> String {
 #[cfg(test)]
 mod tests {
     use super::*;
-    use crate::memory::{CODE_BYTES, DATA_WORDS};
-    use crate::sheet::record_bytes;
-    use crate::state_block::{chain_word, put_part, set_used, unit_word, STMASK, UNIT};
+    use crate::sheet::{record_bytes, CODE_BYTES, DATA_WORDS};
+    use crate::state_block::{chain_word, put_part, set_used, unit_word, STMASK, VIF0, VIF1};
 
     /// A start record at address 32 of 128 bytes, from the reset state.
     fn case() -> Case {
@@ -526,6 +520,30 @@ mod tests {
         assert_eq!(answers(&case)[2..], [(0, 0), (0, 0)]);
     }
 
+    /// Sheets go by VIF1's sizes and to VIF1, also where the state was saved on channel 0.
+    #[test]
+    fn states_on_channel_0() {
+        let mut case = changed(|case| {
+            case.state[chain_word::CHANNEL] = 0;
+            case.state[VIF0 + unit_word::MARK] = 77;
+            case.state[VIF0 + unit_word::WAITING] = STMASK;
+            case.state[VIF0 + unit_word::DUE] = 1;
+        });
+        assert_eq!(answers(&case), [(0, 48), (0, 0), (0, 0), (0, 0)]);
+        let ran = Outcome::new(&case).ran;
+        assert_eq!((ran.steps, ran.state[chain_word::CHANNEL]), (6, 1));
+        assert_eq!(ran.state[VIF0..], case.state[VIF0..]);
+        assert_eq!(ran.state[VIF1 + unit_word::DBF], 1);
+        case.code_length = 4_096;
+        assert_eq!(answers(&case)[2..], [(3, 0), (3, 0)]);
+        case.data_length = 1_024;
+        assert_eq!(answers(&case)[2..], [(2, 0), (2, 0)]);
+        case.state[chain_word::ENDED] = 2;
+        assert_eq!(answers(&case)[2..], [(2, 0), (2, 0)]);
+        let wrong = changed(|case| case.state[VIF0 + unit_word::TOPS] = 1);
+        assert_eq!(answers(&wrong)[2..], [(0, 0), (5, 0)]);
+    }
+
     #[test]
     fn addresses() {
         for (address, answer) in [
@@ -566,7 +584,7 @@ mod tests {
         assert_eq!((none.ran.state[ended], none.ran.state[junk]), (2, 9));
         for due in [0, 2, u32::MAX] {
             let stmask = changed(|case| {
-                let at = UNIT + unit_word::WAITING;
+                let at = VIF1 + unit_word::WAITING;
                 put_part(&mut case.state, at, &[STMASK, 0, due, 7]);
             });
             let none = Outcome::new(&stmask);

@@ -3,9 +3,9 @@
 use crate::chain::{self, State};
 use crate::gif::Place;
 use crate::log;
-use crate::memory::{CODE_BYTES, DATA_WORDS, MOST_MAIN};
+use crate::memory::MOST_MAIN;
 use crate::refusals;
-use crate::sheet;
+use crate::sheet::{self, CODE_BYTES, DATA_WORDS};
 use crate::sheet_cases::{Case, Outcome};
 use crate::state_block::{read_state, write_state, StateBlock};
 
@@ -56,7 +56,7 @@ fn fits(case: &Case) -> bool {
 
 /// Whether the state is in range with nothing waiting and path 2 idle.
 fn clean(state: &State) -> bool {
-    chain::in_range(state) && state.unit.waiting.is_none() && state.path2.place == Place::Idle
+    chain::in_range(state) && state.vif1.waiting.is_none() && state.path2.place == Place::Idle
 }
 
 /// What is wrong with the run of a case; none where nothing is.
@@ -104,11 +104,12 @@ fn state_right(case: &Case, after: &StateBlock, used: u64) -> bool {
         ended: true,
         used,
         path3: before.path3,
-        unit: state.unit,
+        vif0: before.vif0,
+        vif1: state.vif1,
         path2: state.path2,
         ..State::reset()
     };
-    let (old, new) = (&before.unit.registers, &state.unit.registers);
+    let (old, new) = (&before.vif1.registers, &state.vif1.registers);
     *after == write_state(&ended)
         && clean(&state)
         && (old.ofst, old.base, old.itops) == (new.ofst, new.base, new.itops)
@@ -130,7 +131,7 @@ fn main_after(case: &Case) -> Vec<u8> {
 mod tests {
     use super::*;
     use crate::sheet_points;
-    use crate::state_block::{chain_word, put_part, unit_word, PATH2, STMASK, UNIT};
+    use crate::state_block::{chain_word, put_part, unit_word, PATH2, STMASK, VIF1};
 
     /// The bench points, each with our own outcome.
     fn outcomes() -> Vec<(Case, Outcome)> {
@@ -183,7 +184,7 @@ mod tests {
             |c| c.address += 8,
             |c| c.address = 1 << 20,
             // A code that waits, path 2 inside a tag, a state out of range.
-            |c| put_part(&mut c.state, UNIT + unit_word::WAITING, &[STMASK, 0, 1]),
+            |c| put_part(&mut c.state, VIF1 + unit_word::WAITING, &[STMASK, 0, 1]),
             |c| put_part(&mut c.state, PATH2, &[0, 1, 0, 1, 0, 1, 0, 0, 1]),
             |c| c.state[chain_word::CHANNEL] = 3,
         ];

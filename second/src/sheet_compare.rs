@@ -1,6 +1,6 @@
 //! Another program's sheet results against our own.
 
-use crate::compare::{first_difference, table, zeros, Program};
+use crate::compare::{describe_ends, first_difference, report, Program};
 use crate::memory::cases::{MOST_CODE, MOST_DATA, MOST_LOG, MOST_MAIN};
 use crate::random::Random;
 use crate::sheet_cases::{
@@ -39,13 +39,7 @@ pub fn compare(program: &Program, seeds: &[u64], count: u64) -> Result<(), Strin
         "bench points".to_string(),
         sheet_points::points().len() as u64,
     ));
-    print!("{}", table(&rows));
-    let missing = zeros(&rows);
-    if !missing.is_empty() {
-        return Err(format!("never reached: {}", missing.join("; ")));
-    }
-    println!("no difference");
-    Ok(())
+    report(&rows)
 }
 
 fn compare_batches(program: &Program, file: &[u8], counts: &mut Counts) -> Result<(), String> {
@@ -82,17 +76,10 @@ fn explain(file: &[u8], own: &Results, theirs: &[u8], at: usize, first: usize) -
     let lengths = format!("{} bytes, ours {}", theirs.len(), own.bytes.len());
     if own.damage.is_some_and(|line| at >= line) || at >= own.bytes.len() {
         let line = own.damage.unwrap_or(own.bytes.len());
-        let text = |bytes: &[u8]| {
-            let end = bytes.len().min(line + 80);
-            String::from_utf8_lossy(&bytes[line.min(end)..end])
-                .escape_debug()
-                .to_string()
-        };
+        let ends = describe_ends(theirs, &own.bytes, line);
         return format!(
-            "differs after the results of {} cases: {lengths}\n  program: {}\n  ours: {}",
-            own.starts.len(),
-            text(theirs),
-            text(&own.bytes)
+            "differs after the results of {} cases: {lengths}\n  {ends}",
+            own.starts.len()
         );
     }
     let index = own.starts.partition_point(|&start| start <= at) - 1;
@@ -213,6 +200,7 @@ fn filling_not_zero(file: &[u8]) -> Vec<u8> {
 #[cfg(test)]
 mod tests {
     use super::*;
+    use crate::compare::zeros;
     use crate::sheet_cases::results;
 
     fn own(file: &[u8]) -> Results {

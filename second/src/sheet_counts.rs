@@ -2,14 +2,20 @@
 
 use crate::capture_counts::junk_beside_stmask;
 use crate::chain::{self, State};
+use crate::compare::named_rows;
 use crate::gif::Place;
 use crate::log;
-use crate::memory::{CODE_BYTES, DATA_WORDS, INSTRUCTIONS, MOST_MAIN, QUADWORDS};
+use crate::memory::{self, MOST_MAIN};
 use crate::refusals;
-use crate::sheet::{self, Kind, Record, Refusal, HEADER, MARK};
+use crate::sheet::{
+    self, Kind, Record, Refusal, CODE_BYTES, DATA_WORDS, HEADER, INSTRUCTIONS, MARK, QUADWORDS,
+};
 use crate::sheet_cases::{Case, Outcome};
 use crate::sheet_check::{foretold, End};
-use crate::state_block::{read_state, waiting_name, waiting_number, write_state, WAITING};
+use crate::state_block::{
+    chain_word, put_part, read_state, waiting_name, waiting_number, write_state, RESET_UNIT, VIF0,
+    WAITING,
+};
 use std::collections::HashMap;
 
 const KINDS: [&str; 4] = ["data", "code", "GS", "start"];
@@ -34,16 +40,6 @@ const RECORD_PAIRS: [(u32, u32); 8] = [
     (refusals::COUNT, refusals::ADDRESS),
     (refusals::ADDRESS, refusals::CUT),
     (refusals::ADDRESS, refusals::PAD),
-];
-/// The refusals of a run's steps that a built chain can meet.
-const STEPS: [u32; 7] = [
-    refusals::COMMAND,
-    refusals::FORMAT,
-    refusals::CYCLE,
-    refusals::MODE,
-    refusals::PLACE,
-    refusals::DESCRIPTOR,
-    refusals::ROOM,
 ];
 /// At entry.
 const LENGTHS: [u32; 3] = [refusals::DATA, refusals::CODE, refusals::LOG];
@@ -82,6 +78,7 @@ impl Counts {
         }
         self.note_output(case);
         self.note_answers(case, outcome);
+        self.note_vif0(case, outcome);
         self.note_lengths(case);
         self.note_wrong_together(case);
         if outcome.ran.answer.is_ok() {
@@ -237,6 +234,31 @@ impl Counts {
         }
     }
 
+    /// Notes what a state saved on channel 0, and VIF0's block in any state, lead to.
+    fn note_vif0(&mut self, case: &Case, outcome: &Outcome) {
+        let small = memory::VIF0;
+        let data = case.data_length as usize == small.data_words();
+        let code = case.code_length as usize == small.code_bytes();
+        let channel_0 = case.state[chain_word::CHANNEL] == 0;
+        for (part, refusal) in [
+            ("meaning", outcome.meant.answer.err()),
+            ("build and run", outcome.ran.answer.err()),
+        ] {
+            let refusal = refusal.map(|refusal| refusal.0).filter(|_| channel_0);
+            let name = format!("{part}: refused 2 on channel 0, VIF0's size");
+            self.add_if(&name, refusal == Some(refusals::DATA) && data);
+            let name = format!("{part}: refused 3 on channel 0, VIF0's size");
+            self.add_if(&name, refusal == Some(refusals::CODE) && code);
+        }
+        let mut mended = case.state;
+        put_part(&mut mended, VIF0, &RESET_UNIT);
+        let right = |block| read_state(block).is_some_and(|state| chain::in_range(&state));
+        let vif0_wrong = right(&mended) && !right(&case.state);
+        let refused = outcome.ran.answer == Err((refusals::RANGE, 0));
+        let name = "build and run: refused 5, VIF0's block alone is wrong";
+        self.add_if(name, refused && vif0_wrong);
+    }
+
     fn note_out_of_range(&mut self, case: &Case) {
         let address = case.address;
         let wrong = [
@@ -323,7 +345,7 @@ impl Counts {
         self.add_if("runs from a block with words that mean nothing", junk);
         self.note_place(case);
         self.note_allowance(case, outcome);
-        if let Some(waiting) = &state.unit.waiting {
+        if let Some(waiting) = &state.vif1.waiting {
             let name = waiting_name(waiting_number(&waiting.payload));
             self.add(&format!("runs with {name} waiting"));
             let done = outcome.ran.answer == Ok(chain::DONE);
@@ -402,13 +424,17 @@ impl Counts {
     }
 
     fn note_whole_from(&mut self, state: &State, main: usize) {
-        let registers = &state.unit.registers;
+        let registers = &state.vif1.registers;
         let mut reset = State::reset();
         reset.used = state.used;
         let outside = !chain::pending_inside(state, main);
         let rows = [
             ("the reset state", *state == reset),
+            ("channel 0", state.channel == 0),
+            ("channel 0 with TTE on", state.channel == 0 && state.tte),
             ("channel 2", state.channel == 2),
+            ("a code waiting on VIF0", state.vif0.waiting.is_some()),
+            ("other registers of VIF0", state.vif0 != reset.vif0),
             ("TTE on", state.tte),
             ("a chain that has ended", state.ended),
             ("a stack of 1", state.depth == 1),
@@ -458,13 +484,7 @@ impl Counts {
         row("data records that wrap".to_string(), self.wraps[0]);
         row("code records that wrap".to_string(), self.wraps[1]);
         row("code records, n odd".to_string(), self.odd_code);
-        let names = names();
-        let unknown: Vec<&String> = self.by_name.keys().filter(|n| !names.contains(n)).collect();
-        assert!(unknown.is_empty(), "counts without a row: {unknown:?}");
-        for name in names {
-            let count = self.by_name.get(&name).copied().unwrap_or(0);
-            rows.push((name, count));
-        }
+        rows.extend(named_rows(&self.by_name, names()));
         rows
     }
 }
@@ -573,9 +593,10 @@ fn add_answer_names(names: &mut Vec<String>) {
     let entry = [&[refusals::MAIN], &LENGTHS[..], &[refusals::RANGE]].concat();
     let run = with(&entry, &sheet, refusals::OUTPUT);
     add("build and run", "done", &run);
+    // A built chain can meet each refusal of a word.
     for number in [chain::ALLOWANCE_USED, chain::INTERRUPT]
         .iter()
-        .chain(&STEPS)
+        .chain(&refusals::WORD_STEP)
     {
         names.push(format!("build and run: run answers {number}"));
     }
@@ -687,6 +708,11 @@ const NAMES: &[&str] = &[
     "refused 46, its first 131,072 bytes are a sheet",
     "refused 46, a record is wrong too",
     "a record refused, output empty",
+    "meaning: refused 2 on channel 0, VIF0's size",
+    "meaning: refused 3 on channel 0, VIF0's size",
+    "build and run: refused 2 on channel 0, VIF0's size",
+    "build and run: refused 3 on channel 0, VIF0's size",
+    "build and run: refused 5, VIF0's block alone is wrong",
     "build and run: refused 5, no state",
     "build and run: refused 5, a state out of range",
     "build and run: refused 5, words that mean nothing, STMASK with other than one word due",
@@ -714,6 +740,10 @@ const NAMES: &[&str] = &[
     "runs cut by the allowance, all else well",
     "whole runs in all",
     "whole runs from the reset state",
+    "whole runs from channel 0",
+    "whole runs from channel 0 with TTE on",
+    "whole runs from a code waiting on VIF0",
+    "whole runs from other registers of VIF0",
     "whole runs from channel 2",
     "whole runs from TTE on",
     "whole runs from a chain that has ended",

@@ -5,10 +5,11 @@ use crate::chain::State;
 use crate::gif::{Format, Path, Place, Tag};
 use crate::gif_generate::{random_held_block, random_no_path_block};
 use crate::log;
+use crate::memory;
 use crate::memory::cases::{MOST_CODE, MOST_DATA};
-use crate::memory::{CODE_BYTES, DATA_WORDS, INSTRUCTIONS, QUADWORDS};
+use crate::model::Model;
 use crate::random::Random;
-use crate::sheet::{self, record_bytes};
+use crate::sheet::{self, record_bytes, CODE_BYTES, DATA_WORDS, INSTRUCTIONS, QUADWORDS};
 use crate::sheet_cases::Case;
 use crate::sheet_random::{
     any_state, case_around, good_record, random_bytes, random_record, random_sheet, sheet_of,
@@ -16,7 +17,7 @@ use crate::sheet_random::{
 };
 use crate::state_block::{
     chain_word, put_part, set_used, unit_word, write_path, write_state, StateBlock, PATH2, PATHS,
-    UNIT, UNPACK,
+    UNPACK, VIF0, VIF1, ZERO_ON_VIF0,
 };
 use crate::vif::{Payload, Unit, Waiting};
 use crate::vif_generate::{code_word, random_waiting_unit, stmask_block, NOT_ONE};
@@ -49,6 +50,7 @@ pub fn edge_cases(random: &mut Random) -> Vec<Case> {
     edges.add_logs();
     edges.add_cases_wrong_together();
     edges.add_states();
+    edges.add_channel_0();
     edges.add_waiting_codes();
     edges.add_bodies_as_codes();
     edges.add_places();
@@ -427,11 +429,12 @@ impl Edges<'_> {
 
     /// Puts the state out of range, or the address.
     fn spoil_start(&mut self, case: &mut Case) {
-        match self.random.below(5) {
+        match self.random.below(6) {
             0 => case.address |= self.random.pick(&[1, 4, 8, 15]),
             1 => case.address |= 1 << 31,
-            2 => case.state[chain_word::CHANNEL] = self.random.pick(&[0, 3]),
+            2 => case.state[chain_word::CHANNEL] = self.random.pick(&[3, 256]),
             3 => case.state[chain_word::TADR] = 8,
+            4 => case.state[VIF0 + unit_word::TOPS] = 1,
             _ => case.state[chain_word::ENDED] = 2,
         }
     }
@@ -443,7 +446,7 @@ impl Edges<'_> {
             let mut block = self.random.pick(&blocks);
             // The first few with STMASK and other than one word due.
             if let Some(&due) = NOT_ONE.get(i) {
-                put_part(&mut block, UNIT, &stmask_block(due));
+                put_part(&mut block, VIF1, &stmask_block(due));
             }
             self.add_block(block);
         }
@@ -457,6 +460,36 @@ impl Edges<'_> {
         }
     }
 
+    /// States saved on channel 0: the lengths tested are VIF1's, the chain is VIF1's, and VIF0 is
+    /// as it was.
+    fn add_channel_0(&mut self) {
+        let small = memory::VIF0;
+        let (data, code) = (small.data_words() as u32, small.code_bytes() as u32);
+        let right = (DATA_LENGTH, CODE_LENGTH);
+        for lengths in [right, right, (data, code), (data, right.1), (right.0, code)] {
+            for ended in [0, 2] {
+                let vif0 = random_waiting_unit(self.random, Model::Vif0);
+                let state = State {
+                    channel: 0,
+                    vif0,
+                    ..State::reset()
+                };
+                let mut block = write_state(&state);
+                block[chain_word::ENDED] = ended;
+                self.add_block(block);
+                if let Some(case) = self.cases.last_mut() {
+                    (case.data_length, case.code_length) = lengths;
+                }
+            }
+        }
+        for register in ZERO_ON_VIF0 {
+            let mut block = write_state(&State::reset());
+            block[chain_word::CHANNEL] = self.random.below(3) as u32;
+            block[VIF0 + register] = 1;
+            self.add_block(block);
+        }
+    }
+
     fn add_block(&mut self, block: StateBlock) {
         let mut case = self.whole_case();
         let used = case.used();
@@ -467,12 +500,12 @@ impl Edges<'_> {
 
     /// Codes of every kind that wait, and tags on path 2.
     fn add_waiting_codes(&mut self) {
-        let (waiting_at, due_at) = (UNIT + unit_word::WAITING, UNIT + unit_word::DUE);
+        let (waiting_at, due_at) = (VIF1 + unit_word::WAITING, VIF1 + unit_word::DUE);
         let mut seen = [0; UNPACK as usize + 1];
         while seen[1..].iter().any(|&count| count < 3) {
-            let unit = random_waiting_unit(self.random);
+            let unit = random_waiting_unit(self.random, Model::Vif1);
             let mut block = write_state(&State {
-                unit,
+                vif1: unit,
                 ..State::reset()
             });
             let seen = &mut seen[block[waiting_at] as usize];
@@ -586,13 +619,13 @@ impl Edges<'_> {
 /// A state in which STROW waits for four words.
 fn strow_waits() -> State {
     State {
-        unit: Unit {
+        vif1: Unit {
             waiting: Some(Waiting {
                 payload: Payload::Strow,
                 interrupt: false,
                 due: 4,
             }),
-            ..Unit::default()
+            ..Unit::reset(Model::Vif1)
         },
         ..State::reset()
     }
@@ -627,6 +660,6 @@ mod tests {
             });
             assert!(met, "{number}");
         }
-        assert!(cases.len() < 640, "{}", cases.len());
+        assert!(cases.len() < 650, "{}", cases.len());
     }
 }

@@ -2,10 +2,10 @@
 
 use crate::chain::State;
 use crate::log::{self, ENTRY};
-use crate::memory::{CODE_BYTES, DATA_WORDS};
+use crate::sheet::{CODE_BYTES, DATA_WORDS};
 use crate::sheet_cases::{describe_place, put_bytes, Case, Filled};
 use crate::state_block::{
-    chain_word, path_word, set_used, unit_word, write_state, PATH2, STATE_WORDS, UNIT,
+    chain_word, path_word, set_used, unit_word, write_state, PATH2, STATE_WORDS, VIF1,
 };
 use crate::words::{put_number, put_word, WORD};
 
@@ -71,7 +71,7 @@ fn start_at_5() -> Point {
         code: &[],
         log: &[[256, 5]],
         // DBF flips.
-        state: &[ENDED, (UNIT + unit_word::DBF, 1)],
+        state: &[ENDED, (VIF1 + unit_word::DBF, 1)],
     }
 }
 
@@ -102,7 +102,7 @@ fn data_at_1023() -> Point {
         code: &[],
         log: &[],
         // CL 1, WL 1.
-        state: &[ENDED, (UNIT + unit_word::CL, 1), (UNIT + unit_word::WL, 1)],
+        state: &[ENDED, (VIF1 + unit_word::CL, 1), (VIF1 + unit_word::WL, 1)],
     }
 }
 

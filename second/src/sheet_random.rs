@@ -4,12 +4,13 @@ use crate::capture_generate::{add_junk, random_state};
 use crate::chain::{self, Pending, State};
 use crate::gif::Place;
 use crate::log;
-use crate::memory::{CODE_BYTES, DATA_WORDS, INSTRUCTIONS, MOST_MAIN, QUADWORDS};
+use crate::memory::MOST_MAIN;
+use crate::model::Model;
 use crate::random::Random;
-use crate::sheet::{self, record_bytes, Kind};
+use crate::sheet::{self, record_bytes, Kind, CODE_BYTES, DATA_WORDS, INSTRUCTIONS, QUADWORDS};
 use crate::sheet_cases::Case;
 use crate::state_block::{write_state, StateBlock};
-use crate::vif::Registers;
+use crate::vif::Unit;
 use crate::vif_generate::{random_code, Taste};
 use crate::words::put_word;
 
@@ -40,7 +41,8 @@ fn codes(random: &mut Random, bytes: usize) -> Vec<u8> {
     while out.len() < bytes {
         let interrupt = (random.percent(6) as u32) << 31;
         let number = (out.len() / 4 % 4) as u32;
-        let code = random_code(random, &Registers::default(), number, &taste);
+        let unit = Unit::reset(Model::Vif1);
+        let code = random_code(random, &unit, number, &taste);
         put_word(&mut out, code | interrupt);
     }
     out
@@ -242,7 +244,7 @@ pub fn enough(random: &mut Random, steps: u64) -> u64 {
         steps,
         steps + 1,
         steps + few,
-        few << 32 | steps / 2,
+        (few << 32) | (steps / 2),
         1 << 63,
         u64::MAX,
         u64::MAX,
@@ -267,7 +269,7 @@ fn clean_state(random: &mut Random, main_length: u32) -> State {
         return State::reset();
     }
     let mut state = any_state(random, main_length);
-    state.unit.waiting = None;
+    state.vif1.waiting = None;
     state.path2.place = Place::Idle;
     if random.percent(50) {
         state.path2.q = random.word();

@@ -2,6 +2,7 @@
 
 use crate::chain::{self, Pending, State};
 use crate::gif::{self, Path, Place};
+use crate::model::Model;
 use crate::vif::{Mpg, Payload, Registers, Unit, Waiting, ADDRESSES};
 use crate::vif_unpack::{Format, Unpack};
 
@@ -72,12 +73,15 @@ pub mod chain_word {
 pub const PATH_WORDS: usize = path_word::DUE + 1;
 pub const UNIT_WORDS: usize = unit_word::HELD + 3;
 pub const CHAIN_WORDS: usize = chain_word::USED + 2;
-pub const STATE_WORDS: usize = CHAIN_WORDS + UNIT_WORDS + 2 * PATH_WORDS;
+pub const STATE_WORDS: usize = CHAIN_WORDS + 2 * UNIT_WORDS + 2 * PATH_WORDS;
 
 /// Where the other blocks start in a state block.
-pub const UNIT: usize = CHAIN_WORDS;
-pub const PATH2: usize = UNIT + UNIT_WORDS;
+pub const VIF1: usize = CHAIN_WORDS;
+pub const PATH2: usize = VIF1 + UNIT_WORDS;
 pub const PATH3: usize = PATH2 + PATH_WORDS;
+pub const VIF0: usize = PATH3 + PATH_WORDS;
+/// The units.
+pub const UNITS: [(Model, usize); 2] = [(Model::Vif1, VIF1), (Model::Vif0, VIF0)];
 /// The paths with their numbers.
 pub const PATHS: [(u32, usize); 2] = [(2, PATH2), (3, PATH3)];
 
@@ -109,7 +113,7 @@ pub fn waiting_name(number: u32) -> &'static str {
     WAITING[number as usize - 1]
 }
 
-/// The registers with a limit, by their word: name and greatest value.
+/// The registers with a limit, by their word: name and greatest value on VIF1.
 pub const REGISTERS: [(&str, u32); unit_word::LIMITED] = [
     ("CL", 255),
     ("WL", 255),
@@ -124,6 +128,24 @@ pub const REGISTERS: [(&str, u32); unit_word::LIMITED] = [
     ("MSKPATH3", 1),
     ("MARK", 65_535),
 ];
+
+/// The words of registers that are zero on VIF0.
+pub const ZERO_ON_VIF0: [usize; 6] = [
+    unit_word::OFST,
+    unit_word::BASE,
+    unit_word::TOPS,
+    unit_word::TOP,
+    unit_word::DBF,
+    unit_word::MSKPATH3,
+];
+
+/// The greatest value of a register with a limit, by its word.
+pub fn limit(model: Model, register: usize) -> u32 {
+    if model == Model::Vif0 && ZERO_ON_VIF0.contains(&register) {
+        return 0;
+    }
+    REGISTERS[register].1
+}
 
 pub fn bit(word: u32) -> Option<bool> {
     match word {
@@ -206,8 +228,9 @@ pub fn write_path(path: &Path) -> PathBlock {
 }
 
 /// The unit of a block; none where it exists in no unit.
-pub fn read_unit(block: &UnitBlock) -> Option<Unit> {
+pub fn read_unit(model: Model, block: &UnitBlock) -> Option<Unit> {
     Some(Unit {
+        model,
         registers: read_registers(block)?,
         waiting: match block[unit_word::WAITING] {
             NONE => None,
@@ -355,7 +378,8 @@ pub fn read_state(block: &StateBlock) -> Option<State> {
             words,
         }),
         used: used(block),
-        unit: read_unit(&part(block, UNIT))?,
+        vif0: read_unit(Model::Vif0, &part(block, VIF0))?,
+        vif1: read_unit(Model::Vif1, &part(block, VIF1))?,
         path2: read_path(&part(block, PATH2))?,
         path3: read_path(&part(block, PATH3))?,
     })
@@ -376,7 +400,8 @@ pub fn write_state(state: &State) -> StateBlock {
         block[chain_word::PAYLOAD_AT] = pending.address;
     }
     set_used(&mut block, state.used);
-    put_part(&mut block, UNIT, &write_unit(&state.unit));
+    put_part(&mut block, VIF0, &write_unit(&state.vif0));
+    put_part(&mut block, VIF1, &write_unit(&state.vif1));
     put_part(&mut block, PATH2, &write_path(&state.path2));
     put_part(&mut block, PATH3, &write_path(&state.path3));
     block
@@ -438,7 +463,7 @@ pub fn describe_unit(block: &UnitBlock) -> String {
 pub fn describe_state(block: &StateBlock) -> String {
     format!(
         "state: channel {}, TADR {:X}, TTE {}, ended {}, stack of {} {:X?}, tag words {} at {:X}, \
-         payload {} words at {:X}, entries used {}\n    {}\n    2 {}\n    3 {}",
+         payload {} words at {:X}, entries used {}\n    VIF1 {}\n    2 {}\n    3 {}\n    VIF0 {}",
         block[chain_word::CHANNEL],
         block[chain_word::TADR],
         block[chain_word::TTE],
@@ -450,21 +475,24 @@ pub fn describe_state(block: &StateBlock) -> String {
         block[chain_word::PAYLOAD_WORDS],
         block[chain_word::PAYLOAD_AT],
         used(block),
-        describe_unit(&part(block, UNIT)),
+        describe_unit(&part(block, VIF1)),
         describe_path(&part(block, PATH2)),
         describe_path(&part(block, PATH3)),
+        describe_unit(&part(block, VIF0)),
     )
 }
 
 #[cfg(test)]
 mod tests {
     use super::*;
+    use crate::model::MODELS;
 
     /// The numbers of docs/FORMATS.md.
     #[test]
     fn sizes_and_places() {
         assert_eq!((CHAIN_WORDS, UNIT_WORDS, PATH_WORDS), (13, 32, 9));
-        assert_eq!((UNIT, PATH2, PATH3, STATE_WORDS), (13, 45, 54, 63));
+        assert_eq!((VIF1, PATH2, PATH3, VIF0), (13, 45, 54, 63));
+        assert_eq!(STATE_WORDS, 95);
         assert_eq!((unit_word::COL, unit_word::WAITING), (17, 21));
     }
 
@@ -483,12 +511,15 @@ mod tests {
         ] {
             block[at] = word;
         }
-        assert_eq!(read_unit(&block).map(|unit| write_unit(&unit)), Some(block));
+        for model in MODELS {
+            let written = read_unit(model, &block).map(|unit| write_unit(&unit));
+            assert_eq!(written, Some(block));
+        }
         for waiting in NONE..UNPACK {
             let mut block = block;
             block[unit_word::WAITING] = waiting;
             block[unit_word::DUE] = 1;
-            let written = write_unit(&read_unit(&block).unwrap());
+            let written = write_unit(&read_unit(Model::Vif0, &block).unwrap());
             let unused = first_unused(waiting);
             assert_eq!(written[..unused], block[..unused]);
             assert!(written[unused..].iter().all(|&word| word == 0));
@@ -500,7 +531,11 @@ mod tests {
         let mut block: StateBlock = std::array::from_fn(|i| i as u32 + 100);
         let chain = [1, 16, 1, 0, 2, 32, 48, 1, 24, 3, 4, 7, 8];
         put_part(&mut block, 0, &chain);
-        put_part(&mut block, UNIT, &write_unit(&Unit::default()));
+        for (model, at) in UNITS {
+            let mut unit = Unit::reset(model);
+            unit.registers.mark = at as u32;
+            put_part(&mut block, at, &write_unit(&unit));
+        }
         for (number, at) in PATHS {
             put_part(&mut block, at, &[number, 1, number - 2, 3, 1, 5, 6, 7, 8]);
         }
@@ -508,6 +543,8 @@ mod tests {
         assert_eq!(write_state(&state), block);
         assert_eq!((state.stack, state.used), ([32, 48], 8 << 32 | 7));
         assert_eq!((state.path2.q, state.path3.q), (2, 3));
+        let marks = [state.vif0, state.vif1].map(|unit| (unit.model, unit.registers.mark));
+        assert_eq!(marks, [(Model::Vif0, 63), (Model::Vif1, 13)]);
         // What lies above the depth and beside nothing pending means nothing.
         let empty = [
             (chain_word::DEPTH, 1),
@@ -533,10 +570,14 @@ mod tests {
             (chain_word::ENDED, 2),
             (chain_word::DEPTH, 3),
             (chain_word::TAG_WORDS, 2),
-            (UNIT + unit_word::DBF, 2),
-            (UNIT + unit_word::MSKPATH3, 2),
-            (UNIT + unit_word::WAITING, 8),
-            (UNIT + unit_word::WAITING, STMASK),
+            (VIF1 + unit_word::DBF, 2),
+            (VIF1 + unit_word::MSKPATH3, 2),
+            (VIF1 + unit_word::WAITING, 8),
+            (VIF1 + unit_word::WAITING, STMASK),
+            (VIF0 + unit_word::DBF, 2),
+            (VIF0 + unit_word::MSKPATH3, 2),
+            (VIF0 + unit_word::WAITING, 8),
+            (VIF0 + unit_word::WAITING, STMASK),
             (PATH2 + path_word::PLACE, 2),
             (PATH3 + path_word::PLACE, 2),
         ];

@@ -1,12 +1,14 @@
 //! What the writes of UNPACK reached in VIF cases.
 
-use crate::memory::QUADWORDS;
+use crate::compare::named_rows;
+use crate::model::Model;
 use crate::vif::{Registers, MOST_NUM};
 use crate::vif_unpack::{Cycle, Format, Unpack};
 use std::collections::HashMap;
 
 /// A step that may write: a word of payload, or a code that has none.
 pub struct Step<'a> {
+    pub model: Model,
     /// Before the step.
     pub registers: &'a Registers,
     pub unpack: &'a Unpack,
@@ -29,6 +31,11 @@ impl Step<'_> {
             Some((due, _)) => self.unpack.written(self.cycle(), due),
             None => (0, self.unpack.count),
         }
+    }
+
+    /// How often the place of write `i` goes round the end of data memory.
+    fn rounds(&self, i: u32) -> u32 {
+        self.unpack.position(self.cycle(), i) / self.model.sizes().quadwords
     }
 
     fn completes(&self) -> bool {
@@ -146,12 +153,11 @@ impl Counts {
     }
 
     fn note_vector(&mut self, step: &Step, i: u32, fields: [u32; 4], rows: &mut Rows) {
-        let position = step.unpack.position(step.cycle(), i);
+        let rounds = step.rounds(i);
         let five = step.unpack.format.is_five_bits();
         let above = i % step.registers.wl > 3;
-        self.add_if("vectors written round the end", position >= QUADWORDS);
-        let twice = position >= 2 * QUADWORDS;
-        self.add_if("vectors written twice round the end", twice);
+        self.add_if("vectors written round the end", rounds > 0);
+        self.add_if("vectors written twice round the end", rounds > 1);
         self.add_if("vectors with i mod WL above 3", above);
         let ignored = five && step.registers.mode > 0;
         self.add_if("V4-5 vectors with MODE set", ignored);
@@ -181,8 +187,7 @@ impl Counts {
 
     fn note_fill(&mut self, step: &Step, i: u32, rows: &Rows) {
         let cycle = step.cycle();
-        let position = step.unpack.position(cycle, i);
-        self.add_if("fills written round the end", position >= QUADWORDS);
+        self.add_if("fills written round the end", step.rounds(i) > 0);
         self.add_if("fills with i mod WL above 3", i % cycle.wl > 3);
         self.add_if("fills of V4-5", step.unpack.format.is_five_bits());
         for (field, code) in step.unpack.codes(step.registers, i).into_iter().enumerate() {
@@ -239,13 +244,7 @@ impl Counts {
     pub fn rows(&self) -> Vec<(String, u64)> {
         let mut rows = self.format_rows();
         rows.extend(self.write_rows());
-        let names = names();
-        let unknown: Vec<&String> = self.by_name.keys().filter(|n| !names.contains(n)).collect();
-        assert!(unknown.is_empty(), "counts without a row: {unknown:?}");
-        for name in names {
-            let count = self.by_name.get(&name).copied().unwrap_or(0);
-            rows.push((name, count));
-        }
+        rows.extend(named_rows(&self.by_name, names()));
         rows
     }
 

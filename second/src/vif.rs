@@ -1,18 +1,23 @@
-//! VIF1 by itself: a unit takes one word at a time, or one quadword inside
-//! DIRECT and DIRECTHL.
+//! A VIF unit by itself: it takes one word at a time, or one quadword inside DIRECT
+//! and DIRECTHL.
 
 use crate::gif;
 use crate::log::{self, Entries};
-use crate::memory::{CODE_BYTES, DATA_WORDS, INSTRUCTIONS};
+use crate::model::Model;
 use crate::refusals;
 use crate::vif_unpack::{Cycle, Format, Unpack};
 
 /// What the ten bits of BASE, OFST, TOPS, TOP, ITOPS, ITOP and an UNPACK's address count.
 pub const ADDRESSES: u32 = 1_024;
+/// What the eleven bits of an MPG's address count.
+pub const MPG_ADDRESSES: u32 = 2_048;
 /// What DIRECT with IMM 0 takes.
 pub const MOST_DIRECT: u32 = 65_536;
 /// What UNPACK and MPG with NUM 0 take.
 pub const MOST_NUM: u32 = 256;
+
+const DIRECT: u32 = 0x50;
+const DIRECTHL: u32 = 0x51;
 
 const ENTRY_MSCAL: u64 = 256;
 const ENTRY_MSCALF: u64 = 257;
@@ -61,7 +66,7 @@ pub enum Payload {
 
 #[derive(Clone, Copy, PartialEq, Eq, Debug)]
 pub struct Mpg {
-    /// Where the first instruction goes.
+    /// Where the first instruction goes, before the memory's end is looked at.
     pub address: u32,
     /// Instructions, 1 to 256 where in range.
     pub count: u32,
@@ -75,10 +80,21 @@ pub struct Waiting {
     pub due: u32,
 }
 
-#[derive(Clone, Copy, PartialEq, Eq, Debug, Default)]
+#[derive(Clone, Copy, PartialEq, Eq, Debug)]
 pub struct Unit {
+    pub model: Model,
     pub registers: Registers,
     pub waiting: Option<Waiting>,
+}
+
+impl Unit {
+    pub fn reset(model: Model) -> Unit {
+        Unit {
+            model,
+            registers: Registers::default(),
+            waiting: None,
+        }
+    }
 }
 
 /// The next word: word 0 with its whole quadword, or a later word alone.
@@ -142,14 +158,22 @@ pub enum Code {
 }
 
 impl Code {
-    /// Reads a code; refuses what no registers would make legal.
-    pub fn decode(word: u32) -> Result<Code, u32> {
+    /// Reads a code of a unit; refuses what no registers would make legal.
+    pub fn decode(model: Model, word: u32) -> Result<Code, u32> {
+        if !model.has(command_of(word)) {
+            return Err(refusals::COMMAND);
+        }
+        Code::decode_any(word)
+    }
+
+    /// Reads a code that either unit has.
+    fn decode_any(word: u32) -> Result<Code, u32> {
         let imm = word & 0xFFFF;
         let num = word >> 16 & 0xFF;
         let ten = imm % ADDRESSES;
         let count = if num == 0 { MOST_NUM } else { num };
         let quadwords = if imm == 0 { MOST_DIRECT } else { imm };
-        let code = match word >> 24 & 0x7F {
+        let code = match command_of(word) {
             0x00 => Code::Nop,
             0x01 => Code::Stcycl {
                 cl: imm & 0xFF,
@@ -172,11 +196,11 @@ impl Code {
             0x30 => Code::Strow,
             0x31 => Code::Stcol,
             0x4A => Code::Mpg(Mpg {
-                address: imm % INSTRUCTIONS,
+                address: imm % MPG_ADDRESSES,
                 count,
             }),
-            0x50 => Code::Direct(quadwords),
-            0x51 => Code::Directhl(quadwords),
+            DIRECT => Code::Direct(quadwords),
+            DIRECTHL => Code::Directhl(quadwords),
             command @ 0x60..=0x7F => Code::Unpack {
                 format: Format::from_number(command & 15).ok_or(refusals::FORMAT)?,
                 masked: command >> 4 & 1 == 1,
@@ -191,6 +215,12 @@ impl Code {
     }
 }
 
+/// The CMD of a word.
+#[inline]
+pub fn command_of(word: u32) -> u32 {
+    word >> 24 & 0x7F
+}
+
 /// Gives the next word to the unit, or the next quadword to path 2 where DIRECT
 /// waits. A refusal hands back its number and changes nothing.
 pub fn take(
@@ -202,33 +232,30 @@ pub fn take(
     log: &mut [u64],
     used: &mut u64,
 ) -> Result<Taken, u32> {
-    check_lengths(data.len(), code.len(), log.len(), *used)?;
+    check_lengths(unit.model, data.len(), code.len(), log.len(), *used)?;
     if !in_range(unit) || !gif::path_in_range(path) {
         return Err(refusals::RANGE);
     }
     let registers = &mut unit.registers;
     let Some(waiting) = &mut unit.waiting else {
         let word = given.word();
-        unit.waiting = take_code(registers, word, data, log, used)?;
+        unit.waiting = take_code(unit.model, registers, word, data, log, used)?;
         return Ok(Taken {
             quadword: false,
             interrupt: unit.waiting.is_none() && word >> 31 == 1,
         });
     };
-    let mut taken = Taken {
-        quadword: false,
-        interrupt: false,
-    };
-    if let Payload::Direct | Payload::Directhl = waiting.payload {
-        let Given::Quadword(quadword) = given else {
-            return Err(refusals::PLACE);
-        };
-        gif::take(path, used, log, quadword)?;
-        taken.quadword = true;
-    } else {
-        waiting.take_word(registers, given.word(), data, code);
+    let direct = matches!(waiting.payload, Payload::Direct | Payload::Directhl);
+    match given {
+        Given::Quadword(quadword) if direct => gif::take(path, used, log, quadword)?,
+        Given::Word(_) if direct => return Err(refusals::PLACE),
+        _ => waiting.take_word(unit.model, registers, given.word(), data, code),
     }
     waiting.due -= 1;
+    let mut taken = Taken {
+        quadword: direct,
+        interrupt: false,
+    };
     if waiting.due == 0 {
         taken.interrupt = waiting.interrupt;
         unit.waiting = None;
@@ -241,6 +268,7 @@ impl Waiting {
     #[inline(always)]
     fn take_word(
         &mut self,
+        model: Model,
         registers: &mut Registers,
         word: u32,
         data: &mut [u32],
@@ -250,19 +278,26 @@ impl Waiting {
             Payload::Stmask => registers.mask = word,
             Payload::Strow => registers.row[4 - self.due as usize] = word,
             Payload::Stcol => registers.col[4 - self.due as usize] = word,
-            Payload::Mpg(mpg) => mpg.take_word(self.due, word, code),
-            Payload::Unpack(unpack) => unpack.take_word(registers, self.due, word, data),
+            Payload::Mpg(mpg) => mpg.take_word(model, self.due, word, code),
+            Payload::Unpack(unpack) => unpack.take_word(model, registers, self.due, word, data),
             Payload::Direct | Payload::Directhl => {}
         }
     }
 }
 
-/// Tests for the refusals 2, 3 and 4.
-pub fn check_lengths(data: usize, code: usize, log: usize, used: u64) -> Result<(), u32> {
-    if data != DATA_WORDS {
+/// Tests for the refusals 2, 3 and 4, with the sizes of a unit.
+pub fn check_lengths(
+    model: Model,
+    data: usize,
+    code: usize,
+    log: usize,
+    used: u64,
+) -> Result<(), u32> {
+    let sizes = model.sizes();
+    if data != sizes.data_words() {
         return Err(refusals::DATA);
     }
-    if code != CODE_BYTES {
+    if code != sizes.code_bytes() {
         return Err(refusals::CODE);
     }
     if !log::in_range(log, used) {
@@ -287,17 +322,20 @@ pub fn in_range(unit: &Unit) -> bool {
         && addresses.iter().all(|&address| address < ADDRESSES)
         && registers.mode <= 2
         && registers.mark <= 65_535
+        && (unit.model.has_tops() || registers.are_zero_on_vif0())
         && unit
             .waiting
             .as_ref()
-            .is_none_or(|waiting| waiting_in_range(registers, waiting))
+            .is_none_or(|waiting| waiting_in_range(unit.model, registers, waiting))
 }
 
-fn waiting_in_range(registers: &Registers, waiting: &Waiting) -> bool {
+fn waiting_in_range(model: Model, registers: &Registers, waiting: &Waiting) -> bool {
     let right = match &waiting.payload {
         Payload::Mpg(mpg) => mpg.in_range(),
         Payload::Unpack(unpack) => unpack.in_range() && registers.cycle().is_legal(),
-        _ => true,
+        Payload::Direct => model.has(DIRECT),
+        Payload::Directhl => model.has(DIRECTHL),
+        Payload::Stmask | Payload::Strow | Payload::Stcol => true,
     };
     right && (1..=waiting.payload.all_units(registers)).contains(&waiting.due)
 }
@@ -318,7 +356,7 @@ impl Payload {
 
 impl Mpg {
     pub fn in_range(&self) -> bool {
-        self.address < INSTRUCTIONS && (1..=MOST_NUM).contains(&self.count)
+        self.address < MPG_ADDRESSES && (1..=MOST_NUM).contains(&self.count)
     }
 
     pub fn all_words(&self) -> u32 {
@@ -326,39 +364,41 @@ impl Mpg {
     }
 
     /// The byte address of the word that comes with `due` still due.
-    pub fn byte_address(&self, due: u32) -> usize {
+    fn byte_address(&self, model: Model, due: u32) -> usize {
         let taken = self.all_words() - due;
-        let instruction = (self.address + taken / 2) % INSTRUCTIONS;
+        let instruction = (self.address + taken / 2) % model.sizes().instructions;
         (8 * instruction + 4 * (taken % 2)) as usize
     }
 
-    fn take_word(&self, due: u32, word: u32, code: &mut [u8]) {
-        let at = self.byte_address(due);
+    fn take_word(&self, model: Model, due: u32, word: u32, code: &mut [u8]) {
+        let at = self.byte_address(model, due);
         code[at..at + 4].copy_from_slice(&word.to_le_bytes());
     }
 }
 
 /// A word that is a code; hands back what waits afterwards.
 fn take_code(
+    model: Model,
     registers: &mut Registers,
     word: u32,
     data: &mut [u32],
     log: &mut [u64],
     used: &mut u64,
 ) -> Result<Option<Waiting>, u32> {
-    let code = Code::decode(word)?;
+    let code = Code::decode(model, word)?;
     match code {
-        Code::Mscal(imm) => call(registers, ENTRY_MSCAL, imm, log, used)?,
-        Code::Mscalf(imm) => call(registers, ENTRY_MSCALF, imm, log, used)?,
-        Code::Mscnt => call(registers, ENTRY_MSCNT, 0, log, used)?,
-        Code::Unpack { .. } if !registers.cycle().is_legal() => return Err(refusals::CYCLE),
+        Code::Mscal(_) | Code::Mscalf(_) | Code::Mscnt => {
+            log::append(log, used, &start_entry(&code))?;
+            registers.start(model);
+        }
+        Code::Unpack { add_tops, .. } => check_unpack(model, registers, add_tops)?,
         _ => registers.set(&code),
     }
     let Some((payload, due)) = code.payload(registers) else {
         return Ok(None);
     };
     if let (Payload::Unpack(unpack), 0) = (&payload, due) {
-        unpack.fill_all(registers, data);
+        unpack.fill_all(model, registers, data);
         return Ok(None);
     }
     Ok(Some(Waiting {
@@ -369,6 +409,26 @@ fn take_code(
 }
 
 impl Registers {
+    /// Whether all are zero that nothing on VIF0 writes.
+    fn are_zero_on_vif0(&self) -> bool {
+        [self.ofst, self.base, self.tops, self.top] == [0; 4] && !self.dbf && !self.mskpath3
+    }
+
+    /// What MSCAL, MSCALF and MSCNT do to the registers.
+    fn start(&mut self, model: Model) {
+        self.itop = self.itops;
+        if !model.has_tops() {
+            return;
+        }
+        self.top = self.tops;
+        self.dbf = !self.dbf;
+        self.tops = if self.dbf {
+            (self.base + self.ofst) % ADDRESSES
+        } else {
+            self.base
+        };
+    }
+
     /// What a code does to the registers, MSCAL, MSCALF and MSCNT left out.
     fn set(&mut self, code: &Code) {
         match *code {
@@ -424,26 +484,27 @@ impl Code {
     }
 }
 
-/// MSCAL, MSCALF and MSCNT.
-fn call(
-    registers: &mut Registers,
-    register: u64,
-    value: u32,
-    log: &mut [u64],
-    used: &mut u64,
-) -> Result<(), u32> {
-    let mut entry = Entries::default();
-    entry.add(register, value as u64);
-    log::append(log, used, &entry)?;
-    registers.itop = registers.itops;
-    registers.top = registers.tops;
-    registers.dbf = !registers.dbf;
-    registers.tops = if registers.dbf {
-        (registers.base + registers.ofst) % ADDRESSES
-    } else {
-        registers.base
-    };
+/// Tests for the refusals 22 and 26, in this order.
+fn check_unpack(model: Model, registers: &Registers, add_tops: bool) -> Result<(), u32> {
+    if !registers.cycle().is_legal() {
+        return Err(refusals::CYCLE);
+    }
+    if add_tops && !model.has_tops() {
+        return Err(refusals::TOPS);
+    }
     Ok(())
+}
+
+/// The log entry of MSCAL, MSCALF and MSCNT; none of another code.
+fn start_entry(code: &Code) -> Entries {
+    let mut entry = Entries::default();
+    match *code {
+        Code::Mscal(imm) => entry.add(ENTRY_MSCAL, imm as u64),
+        Code::Mscalf(imm) => entry.add(ENTRY_MSCALF, imm as u64),
+        Code::Mscnt => entry.add(ENTRY_MSCNT, 0),
+        _ => {}
+    }
+    entry
 }
 
 #[cfg(test)]
@@ -455,14 +516,22 @@ mod tests {
         unit: Unit,
         data: Vec<u32>,
         code: Vec<u8>,
+        log: Vec<u64>,
+        used: u64,
     }
 
     impl Bench {
         fn new() -> Bench {
+            Bench::of(Model::Vif1)
+        }
+
+        fn of(model: Model) -> Bench {
             Bench {
-                unit: Unit::default(),
-                data: vec![0; DATA_WORDS],
-                code: vec![0; CODE_BYTES],
+                unit: Unit::reset(model),
+                data: vec![0; model.sizes().data_words()],
+                code: vec![0; model.sizes().code_bytes()],
+                log: vec![0; 8],
+                used: 0,
             }
         }
 
@@ -477,8 +546,8 @@ mod tests {
                 Given::Word(word),
                 &mut self.data,
                 &mut self.code,
-                &mut [],
-                &mut 0,
+                &mut self.log,
+                &mut self.used,
             )
         }
 
@@ -558,7 +627,7 @@ mod tests {
                     interrupt: false,
                     due,
                 }),
-                ..Unit::default()
+                ..Unit::reset(Model::Vif1)
             };
             (unit.registers.cl, unit.registers.wl) = (cl, wl);
             in_range(&unit)
@@ -570,6 +639,131 @@ mod tests {
         for due in 0..=4 {
             assert!(!fits(0, 3, due) && !fits(2, 0, due) && !fits(0, 0, due));
         }
+    }
+
+    #[test]
+    fn sizes_of_vif0() {
+        let mut bench = Bench::of(Model::Vif0);
+        assert_eq!((bench.data.len(), bench.code.len()), (1_024, 4_096));
+        bench.run(&[0x0100_0101, 0x6002_00FF, 5, 6]);
+        assert_eq!(
+            (bench.quadword(255), bench.quadword(0)),
+            (&[5; 4][..], &[6; 4][..])
+        );
+        bench.run(&[0x4A02_01FF, 1, 2, 3, 4]);
+        assert_eq!(bench.code[4_088..], [1, 0, 0, 0, 2, 0, 0, 0]);
+        assert_eq!(bench.code[..8], [3, 0, 0, 0, 4, 0, 0, 0]);
+        bench.data.push(0);
+        assert_eq!(bench.give(0), Err(2));
+        bench.data.truncate(1_024);
+        bench.code.resize(16_384, 0);
+        assert_eq!(bench.give(0), Err(3));
+    }
+
+    #[test]
+    fn codes_of_vif0() {
+        for command in [0x02, 0x03, 0x06, 0x11, 0x13, 0x15, 0x50, 0x51] {
+            let mut bench = Bench::of(Model::Vif0);
+            assert_eq!(bench.give(command << 24 | 1), Err(20), "{command:02X}");
+            assert_eq!(bench.unit, Unit::reset(Model::Vif0));
+            assert!(Bench::new().give(command << 24 | 1).is_ok());
+        }
+        let mut bench = Bench::of(Model::Vif0);
+        // FLUSHE, and MARK with its bit 31 set.
+        bench.run(&[0x1000_0000]);
+        let mark = bench.give(0x8700_1234).unwrap();
+        assert_eq!((mark.interrupt, bench.unit.registers.mark), (true, 0x1234));
+    }
+
+    /// UNPACK with bit 15 where WL is 0, where it is not, and in a format that is refused.
+    #[test]
+    fn order_of_21_22_and_26() {
+        let mut bench = Bench::of(Model::Vif0);
+        assert_eq!(bench.give(0x6001_8000), Err(22));
+        assert_eq!(bench.give(0x6301_8000), Err(21));
+        bench.run(&[0x0100_0101]);
+        assert_eq!(bench.give(0x6001_8000), Err(26));
+        assert_eq!(bench.give(0xE001_C3FF), Err(26));
+        assert_eq!(bench.give(0x6301_8000), Err(21));
+        bench.run(&[0x6001_4000, 7]);
+        // With CL 0 there would be no payload.
+        bench.run(&[0x0100_0100]);
+        assert_eq!(bench.give(0x6001_8000), Err(26));
+        assert_eq!(bench.quadword(0), [7; 4]);
+    }
+
+    #[test]
+    fn program_starts_on_vif0() {
+        let mut bench = Bench::of(Model::Vif0);
+        bench.run(&[0x0400_0007, 0x1400_FFFF]);
+        let mut started = Registers::default();
+        (started.itops, started.itop) = (7, 7);
+        assert_eq!(bench.unit.registers, started);
+        bench.run(&[0x0400_03FF, 0x1700_0009]);
+        (started.itops, started.itop) = (1_023, 1_023);
+        assert_eq!(bench.unit.registers, started);
+        assert_eq!(
+            (bench.used, &bench.log[..4]),
+            (2, &[256, 65_535, 258, 0][..])
+        );
+        // The same on VIF1, with BASE 3 and OFST 2, changes TOP, DBF and TOPS as well.
+        let mut bench = Bench::new();
+        bench.run(&[0x0300_0003, 0x0200_0002, 0x1400_0000]);
+        let registers = bench.unit.registers;
+        assert_eq!((registers.top, registers.dbf, registers.tops), (3, true, 5));
+    }
+
+    #[test]
+    fn range_of_vif0() {
+        let changes: [fn(&mut Registers); 6] = [
+            |registers| registers.ofst = 1,
+            |registers| registers.base = 1,
+            |registers| registers.tops = 1,
+            |registers| registers.top = 1,
+            |registers| registers.dbf = true,
+            |registers| registers.mskpath3 = true,
+        ];
+        for change in changes {
+            let [vif0, vif1] = [Model::Vif0, Model::Vif1].map(|model| {
+                let mut unit = Unit::reset(model);
+                change(&mut unit.registers);
+                in_range(&unit)
+            });
+            assert_eq!((vif0, vif1), (false, true));
+        }
+        let mut unit = Unit::reset(Model::Vif0);
+        (unit.registers.itops, unit.registers.itop) = (1_023, 1_023);
+        assert!(in_range(&unit));
+        unit.registers.itop = 1_024;
+        assert!(!in_range(&unit));
+    }
+
+    #[test]
+    fn what_waits_on_vif0() {
+        let waits = |model, payload| {
+            let waiting = Waiting {
+                payload,
+                interrupt: false,
+                due: 1,
+            };
+            in_range(&Unit {
+                waiting: Some(waiting),
+                ..Unit::reset(model)
+            })
+        };
+        let mpg = |address| Payload::Mpg(Mpg { address, count: 1 });
+        for (payload, right) in [
+            (Payload::Stmask, true),
+            (Payload::Strow, true),
+            (Payload::Stcol, true),
+            (mpg(2_047), true),
+            (mpg(2_048), false),
+            (Payload::Direct, false),
+            (Payload::Directhl, false),
+        ] {
+            assert_eq!(waits(Model::Vif0, payload), right, "{payload:?}");
+        }
+        assert!(waits(Model::Vif1, Payload::Direct) && waits(Model::Vif1, Payload::Directhl));
     }
 
     #[test]

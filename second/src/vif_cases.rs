@@ -1,30 +1,33 @@
 //! VIF case files and their results.
 
+use crate::compare;
+use crate::filled::{self, UnitMemories};
 use crate::gif::Path;
-use crate::gif_cases::fill_number;
 use crate::memory::cases::{MOST_CODE, MOST_DATA, MOST_LOG};
+use crate::model::Model;
 use crate::refusals;
 use crate::state_block::{
     describe_path, describe_unit, read_path, read_unit, write_path, write_unit, PathBlock,
     UnitBlock, PATH_WORDS, UNIT_WORDS,
 };
 use crate::vif::{self, Given, Unit};
-use crate::vif_counts::{Call, Counts};
+use crate::vif_counts::{Call, Counts, UnitCounts};
 use crate::words::{number, put_number, put_word, word, WORD};
 
-pub const MARK: u32 = 0x4649_5654;
+pub const MARK: u32 = 0x3249_5654;
 pub const MOST_GROUPS: u32 = 65_535;
 pub const MOST_WORDS: u32 = 262_144;
 pub const MOST_CALLS: u32 = 65_535;
 /// The words of a case at which its blocks start.
 const UNIT_AT: usize = 8;
 const PATH_AT: usize = UNIT_AT + UNIT_WORDS;
-/// The words of a case with the first word's number, the groups and the words.
+/// The words of a case with the first word's number, the groups, the words and the unit.
 pub const NUMBER: usize = PATH_AT + PATH_WORDS;
 pub const GROUPS: usize = NUMBER + 1;
 pub const WORDS: usize = GROUPS + 1;
+pub const MODEL: usize = WORDS + 1;
 /// The words of a case before its groups.
-pub const HEADER: usize = WORDS + 1;
+pub const HEADER: usize = MODEL + 1;
 /// After the answers of a group.
 const ANSWERS_END: u32 = u32::MAX;
 /// Added to a refusal's number.
@@ -34,6 +37,7 @@ pub const INTERRUPT: u32 = 256;
 
 #[derive(Clone)]
 pub struct Case {
+    pub model: Model,
     pub data_length: u32,
     pub code_length: u32,
     pub log_length: u32,
@@ -55,12 +59,13 @@ impl Case {
         put_word(out, self.log_length);
         put_number(out, self.used);
         put_number(out, self.fill);
-        let lengths = [
+        let last = [
             self.number,
             self.groups.len() as u32,
             self.words.len() as u32,
+            (self.model == Model::Vif1) as u32,
         ];
-        for &w in self.unit.iter().chain(&self.path).chain(&lengths) {
+        for &w in self.unit.iter().chain(&self.path).chain(&last) {
             put_word(out, w);
         }
         for &w in self.groups.iter().chain(&self.words) {
@@ -84,6 +89,7 @@ pub struct Standing {
     /// None where a block of the case exists in no unit or path.
     pub both: Option<(Unit, Path)>,
     given: (UnitBlock, PathBlock),
+    model: Model,
     pub used: u64,
     pub data: Vec<u32>,
     pub code: Vec<u8>,
@@ -92,14 +98,15 @@ pub struct Standing {
 
 impl Standing {
     pub fn new(case: &Case) -> Standing {
-        let number = |add: u64, i: u32| fill_number(case.fill.wrapping_add(add), i as u64);
+        let memories = UnitMemories::new(case.fill, case.data_length, case.code_length);
         Standing {
-            both: read_unit(&case.unit).zip(read_path(&case.path)),
+            both: read_both(case.model, &case.unit, &case.path),
             given: (case.unit, case.path),
+            model: case.model,
             used: case.used,
-            data: (0..case.data_length).map(|i| number(0, i) as u32).collect(),
-            code: (0..case.code_length).map(|i| number(1, i) as u8).collect(),
-            log: (0..case.log_length).map(|i| number(2, i)).collect(),
+            data: memories.data,
+            code: memories.code,
+            log: filled::log(case.fill, case.log_length),
         }
     }
 
@@ -125,9 +132,9 @@ impl Standing {
 
     /// The refusal where a block exists in no unit or path.
     fn refusal(&self) -> u32 {
-        vif::check_lengths(self.data.len(), self.code.len(), self.log.len(), self.used)
-            .err()
-            .unwrap_or(refusals::RANGE)
+        let (data, code, log) = (self.data.len(), self.code.len(), self.log.len());
+        let checked = vif::check_lengths(self.model, data, code, log, self.used);
+        checked.err().unwrap_or(refusals::RANGE)
     }
 
     pub fn blocks(&self) -> (UnitBlock, PathBlock) {
@@ -140,8 +147,13 @@ impl Standing {
     /// Writes unit and path as blocks and reads them back.
     pub fn restore(&mut self) {
         let (unit, path) = self.blocks();
-        self.both = read_unit(&unit).zip(read_path(&path));
+        self.both = read_both(self.model, &unit, &path);
     }
+}
+
+/// None where a block exists in no unit or path.
+fn read_both(model: Model, unit: &UnitBlock, path: &PathBlock) -> Option<(Unit, Path)> {
+    read_unit(model, unit).zip(read_path(path))
 }
 
 /// A code memory by words, the last one filled up with zero bytes.
@@ -182,6 +194,7 @@ fn limits_kept(bytes: &[u8]) -> bool {
         (NUMBER, 3),
         (GROUPS, MOST_GROUPS),
         (WORDS, MOST_WORDS),
+        (MODEL, 1),
     ];
     limits.iter().all(|&(at, most)| word(bytes, at) <= most)
 }
@@ -203,6 +216,10 @@ pub fn first_case(bytes: &[u8]) -> Option<(Case, usize)> {
     let words =
         |from: usize, to: usize| -> Vec<u32> { (from..to).map(|i| word(bytes, i)).collect() };
     let case = Case {
+        model: match word(bytes, MODEL) {
+            0 => Model::Vif0,
+            _ => Model::Vif1,
+        },
         data_length: word(bytes, 1),
         code_length: word(bytes, 2),
         log_length: word(bytes, 3),
@@ -241,45 +258,23 @@ pub fn results(file: &[u8], counts: &mut Counts) -> Results {
 
 /// Where each case of a file starts, a damaged last one too.
 pub fn case_starts(file: &[u8]) -> Vec<usize> {
-    let mut starts = Vec::new();
-    let mut at = 0;
-    while at < file.len() {
-        starts.push(at);
-        match first_case(&file[at..]) {
-            Some((_, length)) => at += length,
-            None => break,
-        }
-    }
-    starts
+    compare::case_starts(file, |bytes| Some(first_case(bytes)?.1))
 }
 
 fn run_case(case: &Case, index: usize, results: &mut Results, counts: &mut Counts) {
     let mut standing = Standing::new(case);
-    let mut data_before = standing.data.clone();
-    let mut code_before = code_words(&standing.code);
-    let mut log_before = standing.log.clone();
+    let mut shown = ShownUnit::new(&standing.data, &standing.code);
+    let mut shown_log = standing.log.clone();
     let mut at = 0;
+    let counts = counts.of(case.model);
     counts.note_case(case);
     for (group, &calls) in case.groups.iter().enumerate() {
         let offset = results.bytes.len();
         let first_word = at;
         let mut done = 0;
         while done < calls && at < case.words.len() {
-            let before = standing.both;
-            let used_before = standing.used;
-            let given = case.given(at);
-            let answer = standing.take(given);
+            let answer = make_call(case, at, done == 0, &mut standing, counts);
             put_word(&mut results.bytes, answer);
-            counts.note(&Call {
-                before,
-                used_before,
-                given,
-                number: (case.number + at as u32) % 4,
-                answer,
-                now: &standing,
-                restored: done == 0,
-                first: at == 0,
-            });
             at += if taken_quadword(answer) { 4 } else { 1 };
             done += 1;
         }
@@ -298,15 +293,56 @@ fn run_case(case: &Case, index: usize, results: &mut Results, counts: &mut Count
         for &w in unit.iter().chain(&path) {
             put_word(out, w);
         }
-        let code_words = code_words(&standing.code);
-        write_changes(out, &mut data_before, &standing.data, |out, w| {
-            put_word(out, w)
-        });
-        write_changes(out, &mut code_before, &code_words, put_word);
-        write_changes(out, &mut log_before, &standing.log, put_number);
+        shown.write_changes(out, &standing.data, &standing.code);
+        write_changes(out, &mut shown_log, &standing.log, put_number);
         standing.restore();
     }
     counts.note_end(&standing, at < case.words.len());
+}
+
+/// Gives word `at` and hands back the answer.
+fn make_call(
+    case: &Case,
+    at: usize,
+    restored: bool,
+    standing: &mut Standing,
+    counts: &mut UnitCounts,
+) -> u32 {
+    let (before, used_before) = (standing.both, standing.used);
+    let given = case.given(at);
+    let answer = standing.take(given);
+    counts.note(&Call {
+        before,
+        used_before,
+        given,
+        number: (case.number + at as u32) % 4,
+        answer,
+        now: standing,
+        restored,
+        first: at == 0,
+    });
+    answer
+}
+
+/// A unit's memories by words, as the last result showed them.
+pub struct ShownUnit {
+    data: Vec<u32>,
+    code: Vec<u32>,
+}
+
+impl ShownUnit {
+    pub fn new(data: &[u32], code: &[u8]) -> ShownUnit {
+        ShownUnit {
+            data: data.to_vec(),
+            code: code_words(code),
+        }
+    }
+
+    /// Writes what is not as it was shown.
+    pub fn write_changes(&mut self, out: &mut Vec<u8>, data: &[u32], code: &[u8]) {
+        write_changes(out, &mut self.data, data, put_word);
+        write_changes(out, &mut self.code, &code_words(code), put_word);
+    }
 }
 
 /// Whether an answer says that a quadword was taken.
@@ -420,7 +456,8 @@ fn describe_answer(answer: u32) -> String {
 /// The head of a case and its words from `first` to before `end`.
 pub fn describe_case(case: &Case, first: usize, end: usize) -> String {
     let mut text = format!(
-        "    D {}, C {}, L {}, entries used {}, fill {:016X}, first number {}, {} groups, {} words\n    {}\n    {}\n    words from {first}:",
+        "    {}, D {}, C {}, L {}, entries used {}, fill {:016X}, first number {}, {} groups, {} words\n    {}\n    {}\n    words from {first}:",
+        case.model.name(),
         case.data_length,
         case.code_length,
         case.log_length,

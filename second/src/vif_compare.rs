@@ -1,11 +1,11 @@
 //! Another program's VIF results against our own.
 
-use crate::compare::{first_difference, table, zeros, Program};
+use crate::compare::{describe_ends, first_difference, report, Program};
 use crate::memory::cases::{MOST_CODE, MOST_DATA, MOST_LOG};
 use crate::random::Random;
 use crate::vif_cases::{
-    self, case_starts, describe_case, describe_group, first_case, Results, GROUPS, HEADER, NUMBER,
-    WORDS,
+    self, case_starts, describe_case, describe_group, first_case, Results, GROUPS, HEADER, MODEL,
+    NUMBER, WORDS,
 };
 use crate::vif_counts::Counts;
 use crate::vif_generate::generate;
@@ -30,13 +30,7 @@ pub fn compare(program: &Program, seeds: &[u64], words: u64) -> Result<(), Strin
     let mut rows = counts.rows();
     rows.push(("damaged files".to_string(), damaged_files));
     rows.push(("points worked by hand".to_string(), points));
-    print!("{}", table(&rows));
-    let missing = zeros(&rows);
-    if !missing.is_empty() {
-        return Err(format!("never reached: {}", missing.join("; ")));
-    }
-    println!("no difference");
-    Ok(())
+    report(&rows)
 }
 
 fn compare_file(program: &Program, file: &[u8], counts: &mut Counts) -> Result<(), String> {
@@ -52,18 +46,9 @@ fn explain(file: &[u8], own: &Results, theirs: &[u8], at: usize) -> String {
     let lengths = format!("{} bytes, ours {}", theirs.len(), own.bytes.len());
     if own.damage.is_some_and(|line| at >= line) || at >= own.bytes.len() {
         let line = own.damage.unwrap_or(own.bytes.len());
-        let text = |bytes: &[u8]| {
-            let end = bytes.len().min(line + 80);
-            String::from_utf8_lossy(&bytes[line.min(end)..end])
-                .escape_debug()
-                .to_string()
-        };
+        let ends = describe_ends(theirs, &own.bytes, line);
         let case = own.starts.last().map_or(0, |start| start.case);
-        return format!(
-            "differs after the last result, that of case {case}: {lengths}\n  program: {}\n  ours: {}",
-            text(theirs),
-            text(&own.bytes)
-        );
+        return format!("differs after the last result, that of case {case}: {lengths}\n  {ends}");
     }
     let index = own.starts.partition_point(|start| start.offset <= at) - 1;
     let start = &own.starts[index];
@@ -153,6 +138,7 @@ fn spoil_case(made: &mut Vec<(String, Vec<u8>)>, file: &[u8], start: usize, inde
         ("first number", NUMBER, 3),
         ("g", GROUPS, vif_cases::MOST_GROUPS),
         ("n", WORDS, vif_cases::MOST_WORDS),
+        ("unit", MODEL, 1),
     ];
     for (name, at, most) in limits {
         spoil(&format!("{name} at its limit"), at, most);

@@ -1,15 +1,18 @@
-//! What VIF cases reached.
+//! What VIF cases reached, by unit.
 
+use crate::compare::named_rows;
 use crate::gif::{self, Path, Place};
 use crate::log;
-use crate::memory::{CODE_BYTES, DATA_WORDS, INSTRUCTIONS};
+use crate::model::{Model, ONLY_VIF1};
 use crate::refusals;
 use crate::state_block::{
-    self, read_path, read_unit, unit_word, waiting_name, waiting_number, write_unit, UnitBlock,
-    REGISTERS, WAITING,
+    self, limit, read_path, read_unit, unit_word, waiting_name, waiting_number, write_unit,
+    UnitBlock, REGISTERS, WAITING,
 };
 use crate::unpack_counts;
-use crate::vif::{self, Code, Given, Payload, Registers, Unit, Waiting, ADDRESSES};
+use crate::vif::{
+    self, command_of, Code, Given, Mpg, Payload, Registers, Unit, Waiting, ADDRESSES, MPG_ADDRESSES,
+};
 use crate::vif_cases::{Case, Standing, INTERRUPT, REFUSED};
 use crate::vif_unpack::{Cycle, Format};
 use std::collections::HashMap;
@@ -29,37 +32,46 @@ pub struct Call<'a> {
     pub first: bool,
 }
 
-/// The names of codes by `kind`.
-const KINDS: [&str; 21] = [
-    "NOP", "STCYCL", "OFFSET", "BASE", "ITOP", "STMOD", "MSKPATH3", "MARK", "FLUSHE", "FLUSH",
-    "FLUSHA", "MSCAL", "MSCALF", "MSCNT", "STMASK", "STROW", "STCOL", "MPG", "DIRECT", "DIRECTHL",
-    "UNPACK",
+/// The codes by `kind`: CMD, the lowest for UNPACK, and name.
+const KINDS: [(u32, &str); 21] = [
+    (0x00, "NOP"),
+    (0x01, "STCYCL"),
+    (0x02, "OFFSET"),
+    (0x03, "BASE"),
+    (0x04, "ITOP"),
+    (0x05, "STMOD"),
+    (0x06, "MSKPATH3"),
+    (0x07, "MARK"),
+    (0x10, "FLUSHE"),
+    (0x11, "FLUSH"),
+    (0x13, "FLUSHA"),
+    (0x14, "MSCAL"),
+    (0x15, "MSCALF"),
+    (0x17, "MSCNT"),
+    (0x20, "STMASK"),
+    (0x30, "STROW"),
+    (0x31, "STCOL"),
+    (0x4A, "MPG"),
+    (0x50, "DIRECT"),
+    (0x51, "DIRECTHL"),
+    (UNPACK, "UNPACK"),
 ];
+const DIRECT: u32 = 0x50;
+const UNPACK: u32 = 0x60;
+/// The first code that waits for payload; the others follow in the order of `WAITING`.
+const FIRST_WAITING: usize = 14;
 
-fn kind(code: &Code) -> usize {
-    match code {
-        Code::Nop => 0,
-        Code::Stcycl { .. } => 1,
-        Code::Offset(_) => 2,
-        Code::Base(_) => 3,
-        Code::Itop(_) => 4,
-        Code::Stmod(_) => 5,
-        Code::Mskpath3(_) => 6,
-        Code::Mark(_) => 7,
-        Code::Flushe => 8,
-        Code::Flush => 9,
-        Code::Flusha => 10,
-        Code::Mscal(_) => 11,
-        Code::Mscalf(_) => 12,
-        Code::Mscnt => 13,
-        Code::Stmask => 14,
-        Code::Strow => 15,
-        Code::Stcol => 16,
-        Code::Mpg(_) => 17,
-        Code::Direct(_) => 18,
-        Code::Directhl(_) => 19,
-        Code::Unpack { .. } => 20,
-    }
+/// The place of a code that exists.
+fn kind(word: u32) -> usize {
+    let command = command_of(word).min(UNPACK);
+    let place = KINDS.iter().position(|&(number, _)| number == command);
+    place.expect("a code that exists")
+}
+
+/// The codes of a unit that wait for payload: their places in `WAITING`, and names.
+fn waiting_codes(model: Model) -> impl Iterator<Item = (usize, &'static str)> {
+    let codes = WAITING.into_iter().enumerate();
+    codes.filter(move |(number, _)| model.has(KINDS[FIRST_WAITING + number].0))
 }
 
 /// The bits of a code that say nothing.
@@ -77,8 +89,41 @@ fn unused_bits(code: &Code) -> u32 {
     }
 }
 
-#[derive(Default)]
+/// What the cases of each unit reached.
 pub struct Counts {
+    vif0: UnitCounts,
+    vif1: UnitCounts,
+}
+
+impl Default for Counts {
+    fn default() -> Counts {
+        Counts {
+            vif0: UnitCounts::new(Model::Vif0),
+            vif1: UnitCounts::new(Model::Vif1),
+        }
+    }
+}
+
+impl Counts {
+    pub fn of(&mut self, model: Model) -> &mut UnitCounts {
+        match model {
+            Model::Vif0 => &mut self.vif0,
+            Model::Vif1 => &mut self.vif1,
+        }
+    }
+
+    /// Every count by name.
+    pub fn rows(&self) -> Vec<(String, u64)> {
+        let mut rows = self.vif1.rows();
+        for (name, count) in self.vif0.rows() {
+            rows.push((format!("VIF0: {name}"), count));
+        }
+        rows
+    }
+}
+
+pub struct UnitCounts {
+    model: Model,
     by_name: HashMap<String, u64>,
     cases: u64,
     groups: u64,
@@ -94,7 +139,25 @@ pub struct Counts {
     unpack: unpack_counts::Counts,
 }
 
-impl Counts {
+impl UnitCounts {
+    fn new(model: Model) -> UnitCounts {
+        UnitCounts {
+            model,
+            by_name: HashMap::new(),
+            cases: 0,
+            groups: 0,
+            calls: 0,
+            words: 0,
+            quadwords: 0,
+            codes: [0; 21],
+            codes_with_unused_bits: [0; 21],
+            interrupts: [0; 21],
+            payload_words: [0; 7],
+            completed: [0; 7],
+            unpack: unpack_counts::Counts::default(),
+        }
+    }
+
     fn add(&mut self, name: &str) {
         self.add_if(name, true);
     }
@@ -112,7 +175,7 @@ impl Counts {
 
     pub fn note_case(&mut self, case: &Case) {
         self.cases += 1;
-        if let Some(unit) = read_unit(&case.unit) {
+        if let Some(unit) = read_unit(self.model, &case.unit) {
             let junk = write_unit(&unit) != case.unit;
             self.add_if("unit blocks with words that mean nothing", junk);
         }
@@ -150,7 +213,7 @@ impl Counts {
     /// Notes the end of a case.
     pub fn note_end(&mut self, now: &Standing, words_left: bool) {
         self.add_if("cases with words left over", words_left);
-        if let Some((unit, _)) = &now.both {
+        if let Some((unit, _)) = now.both.as_ref().filter(|(unit, _)| vif::in_range(unit)) {
             if let Some(waiting) = &unit.waiting {
                 let name = waiting_name(waiting_number(&waiting.payload));
                 self.add(&format!("cases that end with {name} waiting"));
@@ -188,59 +251,64 @@ impl Counts {
         }
     }
 
+    /// Notes a length that is wrong, and what is wrong next.
     fn note_lengths(&mut self, call: &Call, refusal: u32) {
         let now = call.now;
-        let good_code = now.code.len() == CODE_BYTES;
-        let good_log = log::in_range(now.log.len(), now.used);
-        let good_range = call
+        let range = call
             .before
             .as_ref()
             .is_some_and(|(unit, path)| vif::in_range(unit) && gif::path_in_range(path));
+        let right = [
+            (
+                refusals::CODE,
+                now.code.len() == self.model.sizes().code_bytes(),
+            ),
+            (refusals::LOG, log::in_range(now.log.len(), now.used)),
+            (refusals::RANGE, range),
+        ];
+        let next = right.iter().find(|(next, right)| *next > refusal && !right);
+        self.add(&match next {
+            Some((next, _)) => format!("refused {refusal}, {next} would be next"),
+            None => format!("refused {refusal}, nothing else wrong"),
+        });
         match refusal {
-            refusals::DATA => {
-                let short = now.data.len() < DATA_WORDS;
-                self.add(if short {
-                    "refused 2, data memory too short"
-                } else {
-                    "refused 2, data memory too long"
-                });
-                self.add_if("refused 2, 3 would be next", !good_code);
-                self.add_if("refused 2, 4 would be next", good_code && !good_log);
-                let only = good_code && good_log;
-                self.add_if("refused 2, 5 would be next", only && !good_range);
-                self.add_if("refused 2, nothing else wrong", only && good_range);
-            }
-            refusals::CODE => {
-                let short = now.code.len() < CODE_BYTES;
-                self.add(if short {
-                    "refused 3, code memory too short"
-                } else {
-                    "refused 3, code memory too long"
-                });
-                self.add_if("refused 3, 4 would be next", !good_log);
-                self.add_if("refused 3, 5 would be next", good_log && !good_range);
-                self.add_if("refused 3, nothing else wrong", good_log && good_range);
-            }
-            _ => {
-                let length = now.log.len();
-                self.add(if !log::is_whole(length) {
-                    "refused 4, log length odd"
-                } else if length > log::MOST_NUMBERS {
-                    "refused 4, log too long"
-                } else if log::numbers_wrap(now.used) <= length as u64 {
-                    "refused 4, twice the entries used wraps"
-                } else {
-                    "refused 4, too many entries used"
-                });
-                self.add_if("refused 4, 5 would be next", !good_range);
-                self.add_if("refused 4, nothing else wrong", good_range);
-            }
+            refusals::LOG => self.note_log(now),
+            _ => self.note_memory(now, refusal),
         }
+    }
+
+    /// Notes a data memory or code memory of a wrong length.
+    fn note_memory(&mut self, now: &Standing, refusal: u32) {
+        let (sizes, other) = (self.model.sizes(), self.model.other().sizes());
+        let (data, code) = (now.data.len(), now.code.len());
+        let (name, length, right, of_other) = match refusal {
+            refusals::DATA => ("data", data, sizes.data_words(), other.data_words()),
+            _ => ("code", code, sizes.code_bytes(), other.code_bytes()),
+        };
+        let how = if length < right { "short" } else { "long" };
+        self.add(&format!("refused {refusal}, {name} memory too {how}"));
+        let name = format!("refused {refusal}, the other unit's {name} memory");
+        self.add_if(&name, length == of_other);
+        let both = (data, code) == (other.data_words(), other.code_bytes());
+        self.add_if("refused 2, both memories the other unit's", both);
+    }
+
+    fn note_log(&mut self, now: &Standing) {
+        let length = now.log.len();
+        self.add(if !log::is_whole(length) {
+            "refused 4, log length odd"
+        } else if length > log::MOST_NUMBERS {
+            "refused 4, log too long"
+        } else if log::numbers_wrap(now.used) <= length as u64 {
+            "refused 4, twice the entries used wraps"
+        } else {
+            "refused 4, too many entries used"
+        });
     }
 
     fn note_range(&mut self, call: &Call) {
         let (unit_block, path_block) = call.now.blocks();
-        let fields = wrong_fields(&unit_block);
+        let fields = wrong_fields(self.model, &unit_block);
         let path_wrong = match read_path(&path_block) {
             None => Some("refused 5, path block in no path"),
             Some(path) if !gif::path_in_range(&path) => Some("refused 5, path out of range"),
@@ -270,20 +338,16 @@ impl Counts {
 
     fn note_code(&mut self, registers: &Registers, call: &Call) {
         let word = call.given.word();
-        let code = Code::decode(word).expect("a code taken is legal");
-        let kind = kind(&code);
+        let code = Code::decode(self.model, word).expect("a code taken is legal");
+        let kind = kind(word);
         self.codes[kind] += 1;
         self.codes_with_unused_bits[kind] += (word & unused_bits(&code) != 0) as u64;
-        if call.answer & INTERRUPT != 0 {
-            self.interrupts[kind] += 1;
-        }
+        self.interrupts[kind] += (call.answer & INTERRUPT != 0) as u64;
         match code {
             Code::Offset(_) => {
                 self.add_if("OFFSET with DBF 1", registers.dbf);
-                self.add_if(
-                    "OFFSET with TOPS not BASE",
-                    registers.tops != registers.base,
-                );
+                let moves = registers.tops != registers.base;
+                self.add_if("OFFSET with TOPS not BASE", moves);
             }
             Code::Base(base) => {
                 self.add_if("BASE with TOPS not the new BASE", registers.tops != base);
@@ -293,11 +357,7 @@ impl Counts {
                 self.add_if("MSCNT with IMM", imm && code == Code::Mscnt);
                 self.note_start(registers, &call.now.both.as_ref().unwrap().0.registers);
             }
-            Code::Mpg(mpg) => {
-                self.add_if("MPG with NUM 0", word >> 16 & 0xFF == 0);
-                self.add_if("MPG with IMM from 2,048 up", word & 0xFFFF >= INSTRUCTIONS);
-                self.add_if("MPG with one instruction", mpg.count == 1);
-            }
+            Code::Mpg(mpg) => self.note_mpg(word, &mpg),
             Code::Direct(quadwords) | Code::Directhl(quadwords) => {
                 self.add_if("DIRECT with IMM 0", quadwords == vif::MOST_DIRECT);
                 self.add(&format!("DIRECT in word {}", call.number));
@@ -305,31 +365,48 @@ impl Counts {
             Code::Unpack {
                 address, add_tops, ..
             } => {
-                let high = add_tops && address + registers.tops >= ADDRESSES;
-                self.add_if("UNPACK with TOPS added", add_tops && registers.tops != 0);
-                self.add_if("UNPACK, address + TOPS from 1,024 up", high);
-                self.add_if("UNPACK without TOPS", !add_tops && registers.tops != 0);
+                if self.model.has_tops() {
+                    self.note_tops(registers.tops, address, add_tops);
+                }
                 self.note_without_payload(registers, &code, call);
             }
             _ => {}
         }
     }
 
+    fn note_mpg(&mut self, word: u32, mpg: &Mpg) {
+        self.add_if("MPG with NUM 0", word >> 16 & 0xFF == 0);
+        let high = word & 0xFFFF >= MPG_ADDRESSES;
+        self.add_if("MPG with IMM from 2,048 up", high);
+        self.add_if("MPG with one instruction", mpg.count == 1);
+    }
+
+    fn note_tops(&mut self, tops: u32, address: u32, add_tops: bool) {
+        let high = add_tops && address + tops >= ADDRESSES;
+        self.add_if("UNPACK with TOPS added", add_tops && tops != 0);
+        self.add_if("UNPACK, address + TOPS from 1,024 up", high);
+        self.add_if("UNPACK without TOPS", !add_tops && tops != 0);
+    }
+
     /// Notes what MSCAL, MSCALF and MSCNT do to the registers.
     fn note_start(&mut self, registers: &Registers, now: &Registers) {
+        self.add_if("ITOP changes", now.itop != registers.itop);
+        if !self.model.has_tops() {
+            return;
+        }
         let high = now.dbf && registers.base + registers.ofst >= ADDRESSES;
         self.add_if("DBF flips to 0", registers.dbf);
         self.add_if("DBF flips to 1", !registers.dbf);
         self.add_if("BASE + OFST from 1,024 up", high);
         self.add_if("TOP changes", now.top != registers.top);
         self.add_if("TOP and TOPS differ afterwards", now.top != now.tops);
-        self.add_if("ITOP changes", now.itop != registers.itop);
     }
 
     /// Notes an UNPACK whose writes all belong to the code's own step.
     fn note_without_payload(&mut self, registers: &Registers, code: &Code, call: &Call) {
         if let Some((Payload::Unpack(unpack), 0)) = code.payload(registers) {
             self.unpack.note(&unpack_counts::Step {
+                model: self.model,
                 registers,
                 unpack: &unpack,
                 payload: None,
@@ -344,24 +421,33 @@ impl Counts {
         let word = call.given.word();
         let interrupt = word >> 31 == 1;
         self.add_if("codes refused with their bit 31 set", interrupt);
+        // What is refused with 26 where nothing else is wrong.
+        let bit_15 = !self.model.has_tops() && word >> 15 & 1 == 1;
         match refusal {
-            refusals::COMMAND => self.add("refused 20"),
+            refusals::COMMAND if self.model.has(command_of(word)) => self.add("refused 20"),
+            refusals::COMMAND => self.add(&format!("refused 20, {}", KINDS[kind(word)].1)),
             refusals::FORMAT => {
                 self.add(&format!("refused 21, vn {}", word >> 26 & 3));
                 let legal = registers.cycle().is_legal();
                 self.add_if("refused 21 with WL for 22", !legal);
+                self.add_if("refused 21, 26 would be next", legal && bit_15);
+                self.add_if("refused 21, 22 and 26 would be next", !legal && bit_15);
             }
-            refusals::CYCLE if registers.cl == 0 => self.add("refused 22, CL 0"),
-            refusals::CYCLE => self.add("refused 22, CL not 0"),
+            refusals::CYCLE => {
+                self.add(if registers.cl == 0 {
+                    "refused 22, CL 0"
+                } else {
+                    "refused 22, CL not 0"
+                });
+                self.add_if("refused 22, 26 would be next", bit_15);
+            }
+            refusals::TOPS => {
+                self.add("refused 26");
+                let no_payload = registers.cl == 0;
+                self.add_if("refused 26 with CL 0", no_payload);
+            }
             refusals::MODE => self.add("refused 23"),
-            _ => {
-                let name = match word >> 24 & 0x7F {
-                    0x14 => "MSCAL",
-                    0x15 => "MSCALF",
-                    _ => "MSCNT",
-                };
-                self.add(&format!("refused 31, {name}"));
-            }
+            _ => self.add(&format!("refused 31, {}", KINDS[kind(word)].1)),
         }
     }
 
@@ -388,19 +474,16 @@ impl Counts {
         let last = waiting.due == 1;
         if last {
             self.completed[number] += 1;
-            self.interrupts[14 + number] += (call.answer & INTERRUPT != 0) as u64;
+            self.interrupts[FIRST_WAITING + number] += (call.answer & INTERRUPT != 0) as u64;
         }
         match &waiting.payload {
-            Payload::Mpg(mpg) => {
-                let taken = mpg.all_words() - waiting.due;
-                let wraps = mpg.address + taken / 2 >= INSTRUCTIONS;
-                self.add_if("MPG words stored round the end", wraps);
-                let whole = last && mpg.count == vif::MOST_NUM;
-                self.add_if("MPG of 256 instructions completed", whole);
-            }
+            Payload::Mpg(mpg) => self.note_instructions(mpg, waiting.due, call.restored),
             Payload::Direct | Payload::Directhl => self.note_direct(path, last, call),
             Payload::Unpack(unpack) => {
+                let high = unpack.address >= self.model.sizes().quadwords && call.restored;
+                self.add_if("UNPACK from a block, its address above the end", high);
                 self.unpack.note(&unpack_counts::Step {
+                    model: self.model,
                     registers,
                     unpack,
                     payload: Some((waiting.due, call.given.word())),
@@ -411,6 +494,18 @@ impl Counts {
             }
             _ => {}
         }
+    }
+
+    /// Notes a word of MPG's payload that comes with `due` still due.
+    fn note_instructions(&mut self, mpg: &Mpg, due: u32, restored: bool) {
+        let taken = mpg.all_words() - due;
+        let instructions = self.model.sizes().instructions;
+        let wraps = mpg.address + taken / 2 >= instructions;
+        self.add_if("MPG words stored round the end", wraps);
+        let high = mpg.address >= instructions && restored;
+        self.add_if("MPG from a block, its address above the end", high);
+        let whole = due == 1 && mpg.count == vif::MOST_NUM;
+        self.add_if("MPG of 256 instructions completed", whole);
     }
 
     fn note_direct(&mut self, path: &Path, last: bool, call: &Call) {
@@ -434,8 +529,13 @@ impl Counts {
         row("groups", self.groups);
         row("calls", self.calls);
         row("words taken", self.words);
-        row("quadwords taken", self.quadwords);
-        for (i, kind) in KINDS.iter().enumerate() {
+        if self.model.has(DIRECT) {
+            row("quadwords taken", self.quadwords);
+        }
+        for (i, (command, kind)) in KINDS.iter().enumerate() {
+            if !self.model.has(*command) {
+                continue;
+            }
             row(&format!("codes taken, {kind}"), self.codes[i]);
             row(
                 &format!("codes taken with unused bits set, {kind}"),
@@ -443,7 +543,7 @@ impl Counts {
             );
             row(&format!("interrupts completed, {kind}"), self.interrupts[i]);
         }
-        for (i, kind) in WAITING.iter().enumerate() {
+        for (i, kind) in waiting_codes(self.model) {
             row(
                 &format!("payload units taken, {kind}"),
                 self.payload_words[i],
@@ -451,12 +551,7 @@ impl Counts {
             row(&format!("payloads completed, {kind}"), self.completed[i]);
         }
         rows.extend(self.unpack.rows());
-        let names = names();
-        assert!(self.by_name.keys().all(|name| names.contains(name)));
-        for name in names {
-            let count = self.by_name.get(&name).copied().unwrap_or(0);
-            rows.push((name, count));
-        }
+        rows.extend(named_rows(&self.by_name, names(self.model)));
         rows
     }
 }
@@ -466,20 +561,21 @@ impl Counts {
 fn junk_beside_stmask(block: &UnitBlock) -> bool {
     let mut mended = *block;
     mended[unit_word::DUE] = 1;
-    let junk = read_unit(&mended).is_some_and(|unit| write_unit(&unit) != mended);
+    let junk = read_unit(Model::Vif1, &mended).is_some_and(|unit| write_unit(&unit) != mended);
     block[unit_word::WAITING] == state_block::STMASK && block[unit_word::DUE] != 1 && junk
 }
 
 /// The fields of a unit block that are out of their range, by name.
-pub fn wrong_fields(block: &UnitBlock) -> Vec<String> {
-    let mut wrong: Vec<String> = REGISTERS
-        .iter()
-        .zip(block)
-        .filter(|((_, limit), word)| *word > limit)
-        .map(|((name, _), _)| name.to_string())
+pub fn wrong_fields(model: Model, block: &UnitBlock) -> Vec<String> {
+    let mut wrong: Vec<String> = (0..unit_word::LIMITED)
+        .filter(|&register| block[register] > limit(model, register))
+        .map(|register| REGISTERS[register].0.to_string())
         .collect();
     match block[unit_word::WAITING] {
         state_block::NONE => {}
+        number if never_waits(model, number) => {
+            wrong.push(format!("{} waiting", waiting_name(number)));
+        }
         number @ state_block::STMASK..=state_block::UNPACK => {
             let name = waiting_name(number);
             let fields = wrong_waiting_fields(block);
@@ -490,12 +586,18 @@ pub fn wrong_fields(block: &UnitBlock) -> Vec<String> {
     wrong
 }
 
+/// Whether a number is that of a code that waits on VIF1 alone, and the unit is VIF0.
+fn never_waits(model: Model, number: u32) -> bool {
+    let direct = matches!(number, state_block::DIRECT | state_block::DIRECTHL);
+    direct && !model.has(DIRECT)
+}
+
 /// The fields of the waiting code that are out of their range.
 fn wrong_waiting_fields(block: &UnitBlock) -> Vec<&'static str> {
     let waiting = block[unit_word::WAITING];
     let (due, count) = (block[unit_word::DUE], block[unit_word::COUNT]);
     let addresses = match waiting {
-        state_block::MPG => Some(INSTRUCTIONS),
+        state_block::MPG => Some(MPG_ADDRESSES),
         state_block::UNPACK => Some(ADDRESSES),
         _ => None,
     };
@@ -550,10 +652,14 @@ fn counted_without_fills(block: &UnitBlock) -> bool {
 }
 
 /// All names that `wrong_fields` gives.
-pub fn field_names() -> Vec<String> {
+pub fn field_names(model: Model) -> Vec<String> {
     let mut names: Vec<String> = REGISTERS.iter().map(|(name, _)| name.to_string()).collect();
     names.push("waiting code".to_string());
-    for name in WAITING {
+    for (number, name) in WAITING.iter().enumerate() {
+        if never_waits(model, number as u32 + 1) {
+            names.push(format!("{name} waiting"));
+            continue;
+        }
         for field in ["interrupt", "due 0", "due too many"] {
             names.push(format!("{name} {field}"));
         }
@@ -569,20 +675,44 @@ pub fn field_names() -> Vec<String> {
 }
 
 /// The names of the counts that are kept by name.
-fn names() -> Vec<String> {
+fn names(model: Model) -> Vec<String> {
+    let own = match model {
+        Model::Vif0 => vif0_names(),
+        Model::Vif1 => vif1_names(),
+    };
     let mut names: Vec<String> = NAMES.iter().map(|name| name.to_string()).collect();
+    names.extend(own);
     let mut add = |name: String| names.push(name);
-    for field in field_names() {
+    for field in field_names(model) {
         add(format!("refused 5, {field}"));
     }
-    for name in WAITING {
+    for (_, name) in waiting_codes(model) {
         add(format!("waiting at a case's start, {name}"));
         add(format!("waiting at a later group's start, {name}"));
         add(format!("cases that end with {name} waiting"));
     }
-    for name in ["MSCAL", "MSCALF", "MSCNT"] {
+    for name in ["MSCAL", "MSCNT"] {
         add(format!("refused 31, {name}"));
     }
+    for vn in 0..3 {
+        add(format!("refused 21, vn {vn}"));
+    }
+    names
+}
+
+/// The names that only VIF0 has.
+fn vif0_names() -> Vec<String> {
+    let mut names: Vec<String> = VIF0_NAMES.iter().map(|name| name.to_string()).collect();
+    for command in ONLY_VIF1 {
+        names.push(format!("refused 20, {}", KINDS[kind(command << 24)].1));
+    }
+    names
+}
+
+/// The names that only VIF1 has.
+fn vif1_names() -> Vec<String> {
+    let mut names: Vec<String> = VIF1_NAMES.iter().map(|name| name.to_string()).collect();
+    let mut add = |name: String| names.push(name);
     for format in ["Packed", "Reglist", "Image"] {
         add(format!("DIRECT quadwords, {format}"));
         add(format!("refused 31 inside DIRECT, {format}"));
@@ -592,9 +722,6 @@ fn names() -> Vec<String> {
     }
     for number in 1..4 {
         add(format!("refused 24, word {number}"));
-    }
-    for vn in 0..3 {
-        add(format!("refused 21, vn {vn}"));
     }
     names
 }
@@ -610,12 +737,15 @@ const NAMES: &[&str] = &[
     "groups that end inside an instruction",
     "groups that end inside a GIF tag",
     "cases with words left over",
+    "refused 2, the other unit's data memory",
+    "refused 2, both memories the other unit's",
     "refused 2, data memory too short",
     "refused 2, data memory too long",
     "refused 2, 3 would be next",
     "refused 2, 4 would be next",
     "refused 2, 5 would be next",
     "refused 2, nothing else wrong",
+    "refused 3, the other unit's code memory",
     "refused 3, code memory too short",
     "refused 3, code memory too long",
     "refused 3, 4 would be next",
@@ -636,11 +766,32 @@ const NAMES: &[&str] = &[
     "refused 22, CL 0",
     "refused 22, CL not 0",
     "refused 23",
-    "refused 30 inside DIRECT",
-    "refused 31 inside DIRECT, at a tag",
     "codes refused with their bit 31 set",
     "log exactly full after a write",
     "taken without a write, log full",
+    "ITOP changes",
+    "MSCNT with IMM",
+    "MPG with NUM 0",
+    "MPG with IMM from 2,048 up",
+    "MPG with one instruction",
+    "MPG words stored round the end",
+    "MPG of 256 instructions completed",
+];
+
+const VIF0_NAMES: &[&str] = &[
+    "refused 21, 26 would be next",
+    "refused 21, 22 and 26 would be next",
+    "refused 22, 26 would be next",
+    "refused 26",
+    "refused 26 with CL 0",
+    "MPG from a block, its address above the end",
+    "UNPACK from a block, its address above the end",
+];
+
+const VIF1_NAMES: &[&str] = &[
+    "refused 31, MSCALF",
+    "refused 30 inside DIRECT",
+    "refused 31 inside DIRECT, at a tag",
     "OFFSET with DBF 1",
     "OFFSET with TOPS not BASE",
     "BASE with TOPS not the new BASE",
@@ -649,13 +800,6 @@ const NAMES: &[&str] = &[
     "BASE + OFST from 1,024 up",
     "TOP changes",
     "TOP and TOPS differ afterwards",
-    "ITOP changes",
-    "MSCNT with IMM",
-    "MPG with NUM 0",
-    "MPG with IMM from 2,048 up",
-    "MPG with one instruction",
-    "MPG words stored round the end",
-    "MPG of 256 instructions completed",
     "DIRECT with IMM 0",
     "DIRECT quadwords, tags",
     "DIRECT completed inside a GIF tag",

@@ -2,45 +2,45 @@
 
 use crate::gif::Place;
 use crate::gif_generate::{
-    random_block as random_gif_block, random_held_block, random_log, random_no_path_block,
-    random_out_of_range_block, random_tag, tag_quadword,
+    edge_logs, random_block as random_gif_block, random_held_block, random_log,
+    random_no_path_block, random_out_of_range_block, random_tag, tag_quadword,
 };
 use crate::log;
-use crate::memory::cases::{MOST_CODE, MOST_DATA, MOST_LOG};
-use crate::memory::{CODE_BYTES, DATA_WORDS, INSTRUCTIONS, QUADWORDS};
+use crate::memory::cases::{MOST_CODE, MOST_DATA};
+use crate::model::{Model, MODELS, ONLY_VIF1};
 use crate::random::Random;
 use crate::refusals;
 use crate::state_block::{
-    self, first_unused, path_word, unit_word, write_unit, PathBlock, UnitBlock, IDLE_PATH,
-    REGISTERS, RESET_UNIT, UNIT_WORDS,
+    self, first_unused, limit, path_word, unit_word, write_unit, PathBlock, UnitBlock, IDLE_PATH,
+    RESET_UNIT, UNIT_WORDS,
 };
 use crate::unpack_counts::all_formats;
 use crate::vif::{
-    Code, Given, Mpg, Payload, Registers, Unit, Waiting, ADDRESSES, MOST_DIRECT, MOST_NUM,
+    command_of, Code, Given, Mpg, Payload, Registers, Unit, Waiting, ADDRESSES, MOST_DIRECT,
+    MOST_NUM, MPG_ADDRESSES,
 };
 use crate::vif_cases::{taken_quadword, Case, Standing, REFUSED};
 use crate::vif_points;
 use crate::vif_unpack::{Format, Unpack};
 
-/// The right lengths of the memories, as cases give them.
-const DATA: u32 = DATA_WORDS as u32;
-const CODE: u32 = CODE_BYTES as u32;
 const FILL: u64 = 0x0123_4567_89AB_CDEF;
 /// Words due that a waiting STMASK cannot have.
 pub const NOT_ONE: [u32; 5] = [0, 2, 3, 257, u32::MAX];
 
-/// A case file of about `words` words, or more where the fixed part has more.
+/// A case file: the fixed cases, and cases by chance with about `words` words.
 pub fn generate(seed: u64, words: u64) -> Vec<u8> {
     let mut random = Random::new(seed);
     let mut file = Vec::new();
-    let mut made = 0;
-    let mut cases = fixed_cases();
-    cases.extend(vif_points::all().iter().map(|point| point.case()));
-    add_edge_cases(&mut random, &mut cases);
-    for case in cases {
-        made += case.words.len() as u64;
-        case.write(&mut file);
+    let mut cases = Vec::new();
+    for model in MODELS {
+        cases.extend(fixed_cases(model));
     }
+    cases.extend(vif_points::all().iter().map(|point| point.case()));
+    for model in MODELS {
+        add_edge_cases(&mut random, model, &mut cases);
+    }
+    cases.iter().for_each(|case| case.write(&mut file));
+    let mut made = 0;
     while made < words {
         let case = random_case(&mut random, words - made);
         made += case.words.len().max(1) as u64;
@@ -76,7 +76,7 @@ impl Maker {
 
     /// A case with right lengths of the memories and no entries used.
     fn with(unit: &Unit, entries: u64, number: u32) -> Maker {
-        Maker::new(plain_case(write_unit(unit), entries, number))
+        Maker::new(plain_case(unit.model, write_unit(unit), entries, number))
     }
 
     fn unit(&self) -> Option<&Unit> {
@@ -194,11 +194,19 @@ impl Maker {
     }
 }
 
+/// The right lengths of a unit's memories, as cases give them.
+pub fn lengths(model: Model) -> (u32, u32) {
+    let sizes = model.sizes();
+    (sizes.data_words() as u32, sizes.code_bytes() as u32)
+}
+
 /// A case with room for so many entries in the log.
-pub fn plain_case(unit: UnitBlock, entries: u64, number: u32) -> Case {
+pub fn plain_case(model: Model, unit: UnitBlock, entries: u64, number: u32) -> Case {
+    let (data_length, code_length) = lengths(model);
     Case {
-        data_length: DATA,
-        code_length: CODE,
+        model,
+        data_length,
+        code_length,
         log_length: log::length(entries),
         used: 0,
         fill: FILL,
@@ -234,28 +242,29 @@ fn random_groups(random: &mut Random, calls: u32) -> Vec<u32> {
 }
 
 /// The bench points and other cases that are the same in every file.
-fn fixed_cases() -> Vec<Case> {
-    let mut cases = unpack_points();
+fn fixed_cases(model: Model) -> Vec<Case> {
+    let mut cases = unpack_points(model);
     // MPG at 2,047, two instructions.
-    cases.push(fed(0, &[code_word(0x4A, 2, 2_047), 1, 2, 3, 4]));
+    cases.push(fed(model, 0, &[code_word(0x4A, 2, 2_047), 1, 2, 3, 4]));
     // DIRECT as a sheet's kind 3 record has it.
-    let mut maker = Maker::with(&Unit::default(), 2, 0);
+    let mut maker = Maker::with(&Unit::reset(model), 2, 0);
     maker.words(&[0, 0, 0, code_word(0x50, 0, 2)]);
     maker.quadword(0x0000_0000_0000_000E_1000_0000_0000_8001);
     maker.quadword(0x0042_0000_0000_0000_7777);
     cases.push(maker.finish());
-    cases.push(two_starts());
+    cases.push(two_starts(model));
     // STMOD 3: refused 23, MODE stays.
     let stmod = |mode| code_word(0x05, 0, mode);
-    cases.push(fed(0, &[stmod(2), stmod(3), stmod(0xFFFF), stmod(1)]));
+    let modes = [stmod(2), stmod(3), stmod(0xFFFF), stmod(1)];
+    cases.push(fed(model, 0, &modes));
     // No groups, and no words.
-    cases.push(plain_case(RESET_UNIT, 0, 0));
-    let mut case = plain_case(RESET_UNIT, 1, 0);
+    cases.push(plain_case(model, RESET_UNIT, 0, 0));
+    let mut case = plain_case(model, RESET_UNIT, 1, 0);
     case.groups = vec![0, 3, 0];
     cases.push(case);
     // STMASK with other than one word due: refused, both blocks as given.
     for due in NOT_ONE {
-        let mut case = plain_case(stmask_block(due), 4, due % 4);
+        let mut case = plain_case(model, stmask_block(due), 4, due % 4);
         case.path[path_word::FIRST_HELD..].fill(due);
         let mut maker = Maker::new(case);
         maker.words(&[0, 0x0102_0304]);
@@ -269,14 +278,14 @@ fn fixed_cases() -> Vec<Case> {
 }
 
 /// Words given to a unit after reset, with a log of so many entries.
-fn fed(entries: u64, words: &[u32]) -> Case {
-    let mut maker = Maker::with(&Unit::default(), entries, 0);
+fn fed(model: Model, entries: u64, words: &[u32]) -> Case {
+    let mut maker = Maker::with(&Unit::reset(model), entries, 0);
     maker.words(words);
     maker.finish()
 }
 
 /// The bench points of UNPACK; where a MARK comes last, it shows that the payload has ended.
-fn unpack_points() -> Vec<Case> {
+fn unpack_points(model: Model) -> Vec<Case> {
     let one = stcycl(1, 1);
     let s_8 = |imm| code_word(0x62, 1, imm);
     let s_32 = |num| code_word(0x60, num, 0);
@@ -306,12 +315,14 @@ fn unpack_points() -> Vec<Case> {
         // CL 2, WL 3, NUM 4: accepted, three vectors.
         &[&[stcycl(2, 3), s_32(4), 1, 2, 3, mark]],
     ];
-    points.iter().map(|words| fed(0, &words.concat())).collect()
+    let cases = points.iter().map(|words| fed(model, 0, &words.concat()));
+    cases.collect()
 }
 
 /// MSCAL moves TOP, DBF and TOPS; the third has no room.
-fn two_starts() -> Case {
+fn two_starts(model: Model) -> Case {
     fed(
+        model,
         2,
         &[
             code_word(0x03, 0, 1_000),
@@ -335,17 +346,20 @@ pub fn stmask_block(due: u32) -> UnitBlock {
     block
 }
 
-fn add_edge_cases(random: &mut Random, cases: &mut Vec<Case>) {
-    add_length_cases(random, cases);
-    add_path_cases(random, cases);
-    add_field_cases(random, cases);
-    add_waiting_cases(random, cases);
-    add_command_cases(random, cases);
-    add_unpack_cases(random, cases);
-    add_cycle_cases(random, cases);
-    add_long_cases(random, cases);
-    add_direct_cases(random, cases);
-    add_call_cases(random, cases);
+fn add_edge_cases(random: &mut Random, model: Model, cases: &mut Vec<Case>) {
+    add_length_cases(random, model, cases);
+    add_path_cases(random, model, cases);
+    add_field_cases(random, model, cases);
+    add_waiting_cases(random, model, cases);
+    add_command_cases(random, model, cases);
+    add_unpack_cases(random, model, cases);
+    add_tops_cases(random, model, cases);
+    add_cycle_cases(random, model, cases);
+    add_long_cases(random, model, cases);
+    if model == Model::Vif1 {
+        add_direct_cases(random, cases);
+    }
+    add_call_cases(random, model, cases);
 }
 
 /// A case of a few words, whatever its blocks are.
@@ -368,22 +382,31 @@ fn short_case(random: &mut Random, mut case: Case) -> Case {
 }
 
 /// Each length from both sides, and several inputs wrong at once.
-fn add_length_cases(random: &mut Random, cases: &mut Vec<Case>) {
-    let case = plain_case(RESET_UNIT, 4, 0);
-    for data_length in [0, 1, DATA - 4, DATA - 1, DATA + 1, MOST_DATA] {
+fn add_length_cases(random: &mut Random, model: Model, cases: &mut Vec<Case>) {
+    let case = plain_case(model, RESET_UNIT, 4, 0);
+    let ((data, code), (other_data, other_code)) = (lengths(model), lengths(model.other()));
+    for data_length in [0, 1, data - 4, data - 1, data + 1, other_data, MOST_DATA] {
         let case = Case {
             data_length,
             ..case.clone()
         };
         cases.push(short_case(random, case));
     }
-    for code_length in [0, 1, CODE - 4, CODE - 1, CODE + 1, CODE + 4, MOST_CODE] {
+    let near = [code - 4, code - 1, code + 1, code + 4];
+    for code_length in [&near[..], &[0, 1, other_code, MOST_CODE]].concat() {
         let case = Case {
             code_length,
             ..case.clone()
         };
         cases.push(short_case(random, case));
     }
+    // The memories of the other unit.
+    let lent = Case {
+        data_length: other_data,
+        code_length: other_code,
+        ..case.clone()
+    };
+    cases.push(short_case(random, lent));
     for (log_length, used) in edge_logs() {
         let mut maker = Maker::new(Case {
             log_length,
@@ -400,40 +423,16 @@ fn add_length_cases(random: &mut Random, cases: &mut Vec<Case>) {
     }
 }
 
-/// Lengths of logs and entries used at the limits of refusal 4.
-fn edge_logs() -> Vec<(u32, u64)> {
-    let one = log::length(1);
-    let most = log::MOST_NUMBERS as u32;
-    let entries = log::MOST_ENTRIES;
-    vec![
-        (0, 0),
-        (0, 1),
-        (1, 0),
-        (one, 1),
-        (one, 2),
-        (one, log::WRAPS),
-        (one, log::WRAPS + 1),
-        (one, u64::MAX),
-        (log::length(32), 1 << 32),
-        (most - 1, 0),
-        (most, entries - 1),
-        (most, entries),
-        (most, entries + 1),
-        (most + 1, 0),
-        (most + one, 0),
-        (MOST_LOG, 0),
-    ]
-}
-
 /// Makes wrong what the bits 0 to 5 say: data memory, code memory, entries used, a register, the
 /// path's range, a block that exists in no unit or path.
 fn spoil_case(random: &mut Random, case: &mut Case, wrong: u32) {
     let bit = |i: u32| wrong >> i & 1 == 1;
+    let (data, code) = lengths(case.model);
     if bit(0) {
-        case.data_length = random.pick(&[DATA - 1, DATA + 1]);
+        case.data_length = random.pick(&[data - 1, data + 1]);
     }
     if bit(1) {
-        case.code_length = random.pick(&[CODE - 1, CODE + 1]);
+        case.code_length = random.pick(&[code - 1, code + 1]);
     }
     if bit(2) {
         case.used = 5;
@@ -453,15 +452,15 @@ fn spoil_case(random: &mut Random, case: &mut Case, wrong: u32) {
 }
 
 /// Paths out of range and in no path, beside a good unit.
-fn add_path_cases(random: &mut Random, cases: &mut Vec<Case>) {
+fn add_path_cases(random: &mut Random, model: Model, cases: &mut Vec<Case>) {
     for _ in 0..20 {
         for path in [
             random_held_block(random),
             random_out_of_range_block(random),
             random_no_path_block(random),
         ] {
-            let unit = random_waiting_unit(random);
-            let mut case = plain_case(write_unit(&unit), 4, 0);
+            let unit = random_waiting_unit(random, model);
+            let mut case = plain_case(model, write_unit(&unit), 4, 0);
             // Words that mean nothing are kept beside a path that is none.
             case.unit[UNIT_WORDS - 1] = random.word();
             case.path = path;
@@ -471,35 +470,36 @@ fn add_path_cases(random: &mut Random, cases: &mut Vec<Case>) {
 }
 
 /// Each field of the unit block at its limits and just outside.
-fn add_field_cases(random: &mut Random, cases: &mut Vec<Case>) {
-    for (field, (_, limit)) in REGISTERS.into_iter().enumerate() {
+fn add_field_cases(random: &mut Random, model: Model, cases: &mut Vec<Case>) {
+    for field in 0..unit_word::LIMITED {
+        let limit = limit(model, field);
         let any = random.word() % 1_000;
         let values = [limit, limit + 1, limit + 1 + any, u32::MAX];
         let blocks = values.map(|value| changed(&RESET_UNIT, &[(field, value)]));
-        add_blocks(random, cases, &blocks);
+        add_blocks(random, model, cases, &blocks);
     }
     for code in [8, 9, 15, 256, 257, u32::MAX] {
-        let unit = write_unit(&random_unit(random));
+        let unit = write_unit(&random_unit(random, model));
         let block = changed(&unit, &[(unit_word::WAITING, code)]);
-        add_blocks(random, cases, &[block]);
+        add_blocks(random, model, cases, &[block]);
     }
     let unused: Vec<UnitBlock> = (state_block::NONE..state_block::UNPACK)
         .map(block_with_unused)
         .collect();
-    add_blocks(random, cases, &unused);
-    for payload in some_payloads(random) {
-        let blocks = payload_blocks(random, payload);
-        add_blocks(random, cases, &blocks);
+    add_blocks(random, model, cases, &unused);
+    for payload in some_payloads(random, model) {
+        let blocks = payload_blocks(random, model, payload);
+        add_blocks(random, model, cases, &blocks);
     }
     for format in all_formats() {
-        let blocks = filling_blocks(random, format);
-        add_blocks(random, cases, &blocks);
+        let blocks = filling_blocks(random, model, format);
+        add_blocks(random, model, cases, &blocks);
     }
 }
 
-fn add_blocks(random: &mut Random, cases: &mut Vec<Case>, blocks: &[UnitBlock]) {
+fn add_blocks(random: &mut Random, model: Model, cases: &mut Vec<Case>, blocks: &[UnitBlock]) {
     for &block in blocks {
-        let case = plain_case(block, 4, 0);
+        let case = plain_case(model, block, 4, 0);
         cases.push(short_case(random, case));
     }
 }
@@ -519,15 +519,15 @@ fn block_with_unused(waiting: u32) -> UnitBlock {
     block[unit_word::WAITING] = waiting;
     block[unit_word::INTERRUPT] = 1;
     block[unit_word::DUE] = 1;
-    block[unit_word::ADDRESS] = INSTRUCTIONS - 1;
+    block[unit_word::ADDRESS] = MPG_ADDRESSES - 1;
     block[unit_word::COUNT] = MOST_NUM;
     block[first_unused(waiting)..].fill(u32::MAX);
     block
 }
 
 /// Blocks in which a payload waits, right but for a field at or over its limits.
-fn payload_blocks(random: &mut Random, payload: Payload) -> Vec<UnitBlock> {
-    let mut unit = random_unit(random);
+fn payload_blocks(random: &mut Random, model: Model, payload: Payload) -> Vec<UnitBlock> {
+    let mut unit = random_unit(random, model);
     set_cycle(&mut unit.registers, cycle_with_payload(random));
     let all = payload.all_units(&unit.registers);
     unit.waiting = Some(Waiting {
@@ -543,7 +543,7 @@ fn payload_blocks(random: &mut Random, payload: Payload) -> Vec<UnitBlock> {
         changes.push(vec![(unit_word::INTERRUPT, interrupt)]);
     }
     let addresses = match payload {
-        Payload::Mpg(_) => INSTRUCTIONS,
+        Payload::Mpg(_) => MPG_ADDRESSES,
         Payload::Unpack(_) => ADDRESSES,
         _ => 0,
     };
@@ -596,12 +596,12 @@ fn add_unpack_changes(changes: &mut Vec<Vec<(usize, u32)>>) {
 
 /// Blocks in which an UNPACK waits beside a WL above CL, with the words due at the limits that
 /// its vectors set, and at those that as many vectors as writes would set.
-fn filling_blocks(random: &mut Random, format: Format) -> Vec<UnitBlock> {
+fn filling_blocks(random: &mut Random, model: Model, format: Format) -> Vec<UnitBlock> {
     let mut blocks = Vec::new();
     for (cl, wl) in [(1, 2), (2, 3), (3, 5), (1, 255), (254, 255)] {
         let count = random.pick(&[2, 3, 7, 12, 255, 256]);
-        let unpack = random_unpack(random, format, count);
-        let mut unit = random_unit(random);
+        let unpack = random_unpack(random, model, format, count);
+        let mut unit = random_unit(random, model);
         set_cycle(&mut unit.registers, stcycl(cl, wl));
         let all = unpack.all_words(unit.registers.cycle());
         let plain = format.words_of(count);
@@ -618,47 +618,53 @@ fn filling_blocks(random: &mut Random, format: Format) -> Vec<UnitBlock> {
 }
 
 /// Each kind of payload, UNPACK in each format.
-fn some_payloads(random: &mut Random) -> Vec<Payload> {
+fn some_payloads(random: &mut Random, model: Model) -> Vec<Payload> {
     let mut payloads = vec![
         Payload::Stmask,
         Payload::Strow,
         Payload::Stcol,
-        Payload::Mpg(random_mpg(random, 4)),
+        Payload::Mpg(random_mpg(random, model, 4)),
         Payload::Direct,
         Payload::Directhl,
     ];
     for format in all_formats() {
         let count = random.within(1..=7) as u32;
-        payloads.push(Payload::Unpack(random_unpack(random, format, count)));
+        let unpack = random_unpack(random, model, format, count);
+        payloads.push(Payload::Unpack(unpack));
     }
     payloads
 }
 
 /// Each waiting code with each number of units due, run to its end.
-fn add_waiting_cases(random: &mut Random, cases: &mut Vec<Case>) {
+fn add_waiting_cases(random: &mut Random, model: Model, cases: &mut Vec<Case>) {
     let mut payloads = vec![Payload::Stmask, Payload::Strow, Payload::Stcol];
     for count in [1, 2, 5] {
-        payloads.push(Payload::Mpg(Mpg {
-            address: random.pick(&[0, INSTRUCTIONS - 2, INSTRUCTIONS - 1]),
-            count,
-        }));
+        let end = near_end(random, model.sizes().instructions, MPG_ADDRESSES, 2);
+        let address = random.pick(&[0, end, end]);
+        payloads.push(Payload::Mpg(Mpg { address, count }));
     }
     for payload in payloads {
         let cycle = legal_cycle(random);
-        add_each_due(random, cases, payload, cycle);
+        add_each_due(random, model, cases, payload, cycle);
     }
     for format in all_formats() {
         for count in [1, 2, 3, 5] {
             for cycle in [skipping_cycle(random), filling_cycle(random)] {
-                let unpack = random_unpack(random, format, count);
-                add_each_due(random, cases, Payload::Unpack(unpack), cycle);
+                let unpack = random_unpack(random, model, format, count);
+                add_each_due(random, model, cases, Payload::Unpack(unpack), cycle);
             }
         }
     }
+    if model == Model::Vif1 {
+        add_waiting_direct_cases(random, cases);
+    }
+}
+
+fn add_waiting_direct_cases(random: &mut Random, cases: &mut Vec<Case>) {
     for payload in [Payload::Direct, Payload::Directhl] {
         for due in [1, 2, 3, MOST_DIRECT] {
             for number in 0..4 {
-                let mut unit = random_unit(random);
+                let mut unit = random_unit(random, Model::Vif1);
                 unit.waiting = Some(Waiting {
                     payload,
                     interrupt: random.percent(50),
@@ -671,8 +677,14 @@ fn add_waiting_cases(random: &mut Random, cases: &mut Vec<Case>) {
 }
 
 /// A payload under this STCYCL with each number of words due.
-fn add_each_due(random: &mut Random, cases: &mut Vec<Case>, payload: Payload, cycle: u32) {
-    let mut unit = random_unit(random);
+fn add_each_due(
+    random: &mut Random,
+    model: Model,
+    cases: &mut Vec<Case>,
+    payload: Payload,
+    cycle: u32,
+) {
+    let mut unit = random_unit(random, model);
     set_cycle(&mut unit.registers, cycle);
     for due in 1..=payload.all_units(&unit.registers) {
         unit.waiting = Some(Waiting {
@@ -693,11 +705,11 @@ fn add_waiting_case(random: &mut Random, cases: &mut Vec<Case>, unit: &Unit, num
 }
 
 /// Every CMD with bit 31 clear and set, with its payload.
-fn add_command_cases(random: &mut Random, cases: &mut Vec<Case>) {
+fn add_command_cases(random: &mut Random, model: Model, cases: &mut Vec<Case>) {
     for interrupt in 0..2 {
         for (cl, wl) in [(1, 1), (7, 5), (1, 0), (0, 0), (3, 4), (0, 4)] {
             let cycle = stcycl(cl, wl);
-            let mut maker = Maker::with(&random_unit(random), 32, 0);
+            let mut maker = Maker::with(&random_unit(random, model), 32, 0);
             for command in 0..128 {
                 maker.word(cycle);
                 let num = random.within(1..=5) as u32;
@@ -715,11 +727,11 @@ fn add_command_cases(random: &mut Random, cases: &mut Vec<Case>) {
 }
 
 /// Every format with every M, USN and MODE, under CL and WL of each kind.
-fn add_unpack_cases(random: &mut Random, cases: &mut Vec<Case>) {
+fn add_unpack_cases(random: &mut Random, model: Model, cases: &mut Vec<Case>) {
     for format in all_formats() {
         for mode in 0..3 {
             for flags in 0..4 {
-                let mut maker = Maker::with(&random_unit(random), 0, 0);
+                let mut maker = Maker::with(&random_unit(random, model), 0, 0);
                 for cycle in [
                     skipping_cycle(random),
                     filling_cycle(random),
@@ -727,11 +739,28 @@ fn add_unpack_cases(random: &mut Random, cases: &mut Vec<Case>) {
                 ] {
                     let num = random.pick(&[1, 2, 3, 4, 5, 7, 9, 13]);
                     give_modes(random, &mut maker, cycle, mode);
-                    maker.word(unpack_word(random, format, flags, num));
+                    maker.word(unpack_word(random, model, format, flags, num));
                     maker.run_out(random, 100);
                 }
                 cases.push(maker.finish_in_groups(random));
             }
+        }
+    }
+}
+
+/// UNPACK with and without TOPS, in a format and with WL that are right or refused.
+fn add_tops_cases(random: &mut Random, model: Model, cases: &mut Vec<Case>) {
+    for (cl, wl) in [(1, 1), (3, 2), (2, 3), (0, 3), (0, 0), (5, 0)] {
+        for command in [0x60, 0x6C, 0x7F, 0x63, 0x77, 0x7B] {
+            let mut maker = Maker::with(&random_unit(random, model), 0, 0);
+            maker.word(stcycl(cl, wl));
+            for bits in [0x8000, 0xC000, 0, 0x4000] {
+                let interrupt = (random.percent(40) as u32) << 31;
+                let address = random.word() % ADDRESSES;
+                maker.word(interrupt | code_word(command, 2, bits | address));
+                maker.run_out(random, 20);
+            }
+            cases.push(maker.finish_in_groups(random));
         }
     }
 }
@@ -744,7 +773,7 @@ fn give_modes(random: &mut Random, maker: &mut Maker, cycle: u32, mode: u32) {
 }
 
 /// CL and WL of every relation, each with NUM that ends at several places of a cycle.
-fn add_cycle_cases(random: &mut Random, cases: &mut Vec<Case>) {
+fn add_cycle_cases(random: &mut Random, model: Model, cases: &mut Vec<Case>) {
     for (cl, wl) in [
         (0, 1),
         (0, 3),
@@ -765,40 +794,47 @@ fn add_cycle_cases(random: &mut Random, cases: &mut Vec<Case>) {
     ] {
         for num in [1, cl, cl + 1, wl, wl + 1, 2 * wl - 1, 2 * wl, 0] {
             if num < MOST_NUM {
-                add_cycle_case(random, cases, stcycl(cl, wl), num);
+                add_cycle_case(random, model, cases, stcycl(cl, wl), num);
             }
         }
     }
 }
 
 /// An UNPACK under this STCYCL, run to its end; MARK shows that it ended.
-fn add_cycle_case(random: &mut Random, cases: &mut Vec<Case>, cycle: u32, num: u32) {
+fn add_cycle_case(random: &mut Random, model: Model, cases: &mut Vec<Case>, cycle: u32, num: u32) {
     let format = random.pick(&all_formats());
     let mode = random.below(3) as u32;
     let flags = random.below(4) as u32;
     let interrupt = (random.percent(50) as u32) << 31;
-    let mut maker = Maker::with(&random_unit(random), 0, random.below(4) as u32);
+    let mut maker = Maker::with(&random_unit(random, model), 0, random.below(4) as u32);
     give_modes(random, &mut maker, cycle, mode);
-    maker.word(interrupt | unpack_word(random, format, flags, num));
+    maker.word(interrupt | unpack_word(random, model, format, flags, num));
     maker.run_out(random, 1_024);
     maker.word(code_word(0x07, 0, 0x2345));
     cases.push(maker.finish_in_groups(random));
 }
 
 /// An UNPACK code: M is bit 0 of the flags, USN bit 1.
-fn unpack_word(random: &mut Random, format: Format, flags: u32, num: u32) -> u32 {
+fn unpack_word(random: &mut Random, model: Model, format: Format, flags: u32, num: u32) -> u32 {
     let command = 0x60 | format.number() | (flags & 1) << 4;
-    let near_end = QUADWORDS - random.within(1..=12) as u32;
-    let any = random.word() % QUADWORDS;
-    let address = random.pick(&[0, any, any, near_end]);
-    // The unused bits and the one that adds TOPS are free.
-    let rest = random.word() & 0xBC00;
+    let end = near_end(random, model.sizes().quadwords, ADDRESSES, 12);
+    let any = random.word() % ADDRESSES;
+    let address = random.pick(&[0, any, any, end]);
+    // The unused bits are free, and the one that adds TOPS where the unit has it.
+    let free = if model.has_tops() { 0xBC00 } else { 0x3C00 };
+    let rest = random.word() & free;
     code_word(command, num, address | rest | (flags >> 1) << 14)
 }
 
+/// An address of so many, at most a few before one from which a memory of this size starts again.
+fn near_end(random: &mut Random, size: u32, addresses: u32, few: u64) -> u32 {
+    let rounds = random.within(1..=(addresses / size) as u64) as u32;
+    rounds * size - random.within(1..=few) as u32
+}
+
 /// MPG and every format of UNPACK with NUM 0.
-fn add_long_cases(random: &mut Random, cases: &mut Vec<Case>) {
-    let mut maker = Maker::with(&random_unit(random), 0, 0);
+fn add_long_cases(random: &mut Random, model: Model, cases: &mut Vec<Case>) {
+    let mut maker = Maker::with(&random_unit(random, model), 0, 0);
     let address = random.word() & 0xFFFF;
     maker.word(code_word(0x4A, 0, address));
     maker.run_out(random, 512);
@@ -806,11 +842,11 @@ fn add_long_cases(random: &mut Random, cases: &mut Vec<Case>) {
     cases.push(maker.finish_in_groups(random));
     for format in all_formats() {
         for cycle in [skipping_cycle(random), filling_cycle(random)] {
-            let mut maker = Maker::with(&random_unit(random), 0, 0);
+            let mut maker = Maker::with(&random_unit(random, model), 0, 0);
             let mode = random.pick(&[1, 2, 2]);
             give_modes(random, &mut maker, cycle, mode);
             let flags = random.below(4) as u32;
-            maker.word(unpack_word(random, format, flags, 0));
+            maker.word(unpack_word(random, model, format, flags, 0));
             maker.run_out(random, 1_024);
             maker.word(code_word(0x07, 0, 0x2345));
             cases.push(maker.finish_in_groups(random));
@@ -824,7 +860,7 @@ fn add_direct_cases(random: &mut Random, cases: &mut Vec<Case>) {
         for number in 0..4 {
             for imm in [0, 1, 2] {
                 let interrupt = random.below(2) as u32;
-                let mut maker = Maker::with(&random_unit(random), 8, 0);
+                let mut maker = Maker::with(&random_unit(random, Model::Vif1), 8, 0);
                 maker.pad(number);
                 maker.word(interrupt << 31 | code_word(command, 0, imm));
                 while !maker.wants_quadword() {
@@ -846,7 +882,7 @@ fn add_direct_cases(random: &mut Random, cases: &mut Vec<Case>) {
         ];
         for tag in tags {
             for free in 0..3 {
-                let mut case = plain_case(RESET_UNIT, 4, 3);
+                let mut case = plain_case(Model::Vif1, RESET_UNIT, 4, 3);
                 case.used = 4 - free;
                 let mut maker = Maker::new(case);
                 maker.word(code_word(command, 0, 2));
@@ -859,9 +895,10 @@ fn add_direct_cases(random: &mut Random, cases: &mut Vec<Case>) {
 }
 
 /// MSCAL, MSCALF and MSCNT with a log that has room for three more, and MSCNT again.
-fn add_call_cases(random: &mut Random, cases: &mut Vec<Case>) {
+fn add_call_cases(random: &mut Random, model: Model, cases: &mut Vec<Case>) {
     for free in 0..4 {
-        let mut case = plain_case(write_unit(&random_unit(random)), 20, 0);
+        let unit = write_unit(&random_unit(random, model));
+        let mut case = plain_case(model, unit, 20, 0);
         case.used = 20 - free;
         let mut maker = Maker::new(case);
         for command in [0x14, 0x15, 0x17, 0x17] {
@@ -891,13 +928,14 @@ fn random_case(random: &mut Random, left: u64) -> Case {
     if wanted > 100 && used < 20 && log_length <= log::length(600) && random.percent(60) {
         log_length = log::length(random.within(100..=1_000));
     }
+    let model = random.pick(&[Model::Vif0, Model::Vif1, Model::Vif1]);
     let mut case = Case {
         log_length,
         used,
         fill: random.number(),
-        unit: random_unit_block(random),
+        unit: random_unit_block(random, model),
         path: random_path_block(random),
-        ..plain_case(RESET_UNIT, 0, random.below(4) as u32)
+        ..plain_case(model, RESET_UNIT, 0, random.below(4) as u32)
     };
     if random.percent(4) {
         spoil_lengths(random, &mut case);
@@ -908,11 +946,12 @@ fn random_case(random: &mut Random, left: u64) -> Case {
 }
 
 fn spoil_lengths(random: &mut Random, case: &mut Case) {
+    let (data, code) = lengths(case.model);
     if random.percent(60) {
-        case.data_length = random.pick(&[0, 1, DATA / 4, DATA - 4, DATA - 1, DATA + 1, MOST_DATA]);
+        case.data_length = random.pick(&[0, 1, data / 4, data - 4, data - 1, data + 1, MOST_DATA]);
     }
     if random.percent(60) {
-        case.code_length = random.pick(&[0, 4, CODE / 8, CODE - 1, CODE + 1, CODE + 7, MOST_CODE]);
+        case.code_length = random.pick(&[0, 4, code / 8, code - 1, code + 1, code + 7, MOST_CODE]);
     }
 }
 
@@ -967,7 +1006,7 @@ fn random_word(random: &mut Random, maker: &Maker, taste: &Taste) -> u32 {
     match maker.unit() {
         Some(unit) if unit.waiting.is_none() => {
             let interrupt = random.percent(taste.interrupt_percent) as u32;
-            interrupt << 31 | random_code(random, &unit.registers, number, taste)
+            interrupt << 31 | random_code(random, unit, number, taste)
         }
         Some(unit) => match unit.waiting.unwrap().payload {
             Payload::Stmask => random_mask(random),
@@ -977,19 +1016,29 @@ fn random_word(random: &mut Random, maker: &Maker, taste: &Taste) -> u32 {
     }
 }
 
-/// A code with its bit 31 clear.
-pub fn random_code(random: &mut Random, registers: &Registers, number: u32, taste: &Taste) -> u32 {
+/// A code with its bit 31 clear, for a unit in which none waits.
+pub fn random_code(random: &mut Random, unit: &Unit, number: u32, taste: &Taste) -> u32 {
+    if random.percent(taste.illegal_percent) {
+        return illegal_code(random, unit.model);
+    }
+    loop {
+        let word = legal_code(random, unit, number, taste);
+        if unit.model.has(command_of(word)) {
+            return word;
+        }
+    }
+}
+
+/// A code that VIF1 has.
+fn legal_code(random: &mut Random, unit: &Unit, number: u32, taste: &Taste) -> u32 {
     let imm = random.word() & 0xFFFF;
     let num = random.word() & 0xFF;
-    if random.percent(taste.illegal_percent) {
-        return illegal_code(random);
-    }
     let direct_percent = if number == 3 { 30 } else { 1 };
     if random.percent(direct_percent) {
         return random_direct(random);
     }
     if random.percent(taste.unpack_percent) {
-        return random_unpack_code(random, registers, taste);
+        return random_unpack_code(random, unit, taste);
     }
     match random.below(24) {
         0 => code_word(0x00, num, imm),
@@ -1009,7 +1058,7 @@ pub fn random_code(random: &mut Random, registers: &Registers, number: u32, tast
         20 => code_word(0x30, num, imm),
         21 => code_word(0x31, num, imm),
         _ => {
-            let mpg = random_mpg(random, 6);
+            let mpg = random_mpg(random, unit.model, 6);
             let many = random.percent(taste.long_percent);
             let count = if many {
                 random.pick(&[0, num])
@@ -1021,20 +1070,26 @@ pub fn random_code(random: &mut Random, registers: &Registers, number: u32, tast
     }
 }
 
-/// A code that is refused with 20, 21 or 23.
-fn illegal_code(random: &mut Random) -> u32 {
+/// A code that is refused with 20, 21 or 23; on VIF0 with 26 too, where not with 22.
+fn illegal_code(random: &mut Random, model: Model) -> u32 {
     let rest = random.word() & 0x00FF_FFFF;
-    match random.below(6) {
+    match random.below(if model.has_tops() { 6 } else { 8 }) {
         0 => code_word(0x05, 0, 0) | rest | 3,
         1 => {
             let command = random.pick(&[0x63, 0x67, 0x6B, 0x73, 0x77, 0x7B]);
             code_word(command, 0, 0) | rest
         }
+        6.. => {
+            let format = random.pick(&all_formats());
+            let flags = random.below(4) as u32;
+            0x8000 | unpack_word(random, model, format, flags, rest >> 16)
+        }
         _ => loop {
             let near = random.pick(&[0x08, 0x12, 0x16, 0x21, 0x32, 0x4B, 0x49, 0x52, 0x5F, 0x0A]);
             let any = random.below(128) as u32;
-            let word = code_word(random.pick(&[near, any]), 0, 0) | rest;
-            if Code::decode(word) == Err(refusals::COMMAND) {
+            let missing = random.pick(&ONLY_VIF1);
+            let word = code_word(random.pick(&[near, any, missing]), 0, 0) | rest;
+            if Code::decode(model, word) == Err(refusals::COMMAND) {
                 return word;
             }
         },
@@ -1054,8 +1109,8 @@ fn random_direct(random: &mut Random) -> u32 {
 }
 
 /// An UNPACK, or mostly STCYCL where the held CL and WL allow none.
-fn random_unpack_code(random: &mut Random, registers: &Registers, taste: &Taste) -> u32 {
-    if !registers.cycle().is_legal() && random.percent(80) {
+fn random_unpack_code(random: &mut Random, unit: &Unit, taste: &Taste) -> u32 {
+    if !unit.registers.cycle().is_legal() && random.percent(80) {
         return legal_cycle(random);
     }
     let formats = all_formats();
@@ -1066,7 +1121,7 @@ fn random_unpack_code(random: &mut Random, registers: &Registers, taste: &Taste)
         random_num(random)
     };
     let flags = random.below(4) as u32;
-    unpack_word(random, format, flags, num)
+    unpack_word(random, unit.model, format, flags, num)
 }
 
 fn random_num(random: &mut Random) -> u32 {
@@ -1077,24 +1132,24 @@ fn random_num(random: &mut Random) -> u32 {
     }
 }
 
-fn random_mpg(random: &mut Random, most: u64) -> Mpg {
-    let any = random.word() % INSTRUCTIONS;
-    let near_end = INSTRUCTIONS - random.within(1..=4) as u32;
+fn random_mpg(random: &mut Random, model: Model, most: u64) -> Mpg {
+    let any = random.word() % MPG_ADDRESSES;
+    let end = near_end(random, model.sizes().instructions, MPG_ADDRESSES, 4);
     Mpg {
-        address: random.pick(&[any, any, 0, near_end]),
+        address: random.pick(&[any, any, 0, end]),
         count: random.within(1..=most) as u32,
     }
 }
 
 /// An UNPACK under way, with held words that no run need have left.
-fn random_unpack(random: &mut Random, format: Format, count: u32) -> Unpack {
-    let any = random.word() % QUADWORDS;
-    let near_end = QUADWORDS - random.within(1..=6) as u32;
+fn random_unpack(random: &mut Random, model: Model, format: Format, count: u32) -> Unpack {
+    let any = random.word() % ADDRESSES;
+    let end = near_end(random, model.sizes().quadwords, ADDRESSES, 6);
     Unpack {
         format,
         masked: random.percent(50),
         unsigned: random.percent(50),
-        address: random.pick(&[any, 0, near_end]),
+        address: random.pick(&[any, 0, end]),
         count,
         held: std::array::from_fn(|_| payload_word(random)),
     }
@@ -1226,19 +1281,11 @@ fn random_quadword(random: &mut Random, maker: &Maker, b_percent: u64) -> u128 {
 }
 
 /// A unit in range with nothing waiting.
-pub fn random_unit(random: &mut Random) -> Unit {
-    let mut ten = || random.word() % ADDRESSES;
-    let (ofst, base, tops, top, itops, itop) = (ten(), ten(), ten(), ten(), ten(), ten());
+pub fn random_unit(random: &mut Random, model: Model) -> Unit {
     let mut registers = Registers {
-        ofst,
-        base,
-        tops,
-        top,
-        itops,
-        itop,
-        dbf: random.percent(50),
+        itops: random.word() % ADDRESSES,
+        itop: random.word() % ADDRESSES,
         mode: random.below(3) as u32,
-        mskpath3: random.percent(50),
         mark: random.word() & 0xFFFF,
         mask: random_mask(random),
         row: std::array::from_fn(|_| payload_word(random)),
@@ -1252,24 +1299,34 @@ pub fn random_unit(random: &mut Random) -> Unit {
         let any = random.word() & 0xFF;
         registers.wl = random.pick(&[0, any, any]);
     }
+    if model.has_tops() {
+        registers.ofst = random.word() % ADDRESSES;
+        registers.base = random.word() % ADDRESSES;
+        registers.tops = random.word() % ADDRESSES;
+        registers.top = random.word() % ADDRESSES;
+        registers.dbf = random.percent(50);
+        registers.mskpath3 = random.percent(50);
+    }
     Unit {
+        model,
         registers,
         waiting: None,
     }
 }
 
 /// A unit in range inside the payload of a code.
-pub fn random_waiting_unit(random: &mut Random) -> Unit {
-    let mut unit = random_unit(random);
+pub fn random_waiting_unit(random: &mut Random, model: Model) -> Unit {
+    let mut unit = random_unit(random, model);
     let num = random_num(random);
     let count = random.pick(&[num, num, num, 256, 255]);
     let payload = match random.below(14) {
+        4 | 5 if model == Model::Vif0 => Payload::Stcol,
         0 => Payload::Stmask,
         1 => Payload::Strow,
         2 => Payload::Stcol,
         3 => Payload::Mpg(Mpg {
             count,
-            ..random_mpg(random, 1)
+            ..random_mpg(random, model, 1)
         }),
         4 => Payload::Direct,
         5 => Payload::Directhl,
@@ -1277,7 +1334,7 @@ pub fn random_waiting_unit(random: &mut Random) -> Unit {
             set_cycle(&mut unit.registers, cycle_with_payload(random));
             let formats = all_formats();
             let format = random.pick(&formats);
-            Payload::Unpack(random_unpack(random, format, count))
+            Payload::Unpack(random_unpack(random, model, format, count))
         }
     };
     let all = payload.all_units(&unit.registers) as u64;
@@ -1295,13 +1352,13 @@ pub fn random_waiting_unit(random: &mut Random) -> Unit {
     unit
 }
 
-pub fn random_unit_block(random: &mut Random) -> UnitBlock {
+pub fn random_unit_block(random: &mut Random, model: Model) -> UnitBlock {
     match random.below(100) {
         0..=24 => RESET_UNIT,
-        25..=44 => write_unit(&random_unit(random)),
+        25..=44 => write_unit(&random_unit(random, model)),
         45..=51 => {
             // Words that mean nothing for what waits.
-            let mut block = write_unit(&random_waiting_unit(random));
+            let mut block = write_unit(&random_waiting_unit(random, model));
             let waiting = block[unit_word::WAITING];
             if waiting == state_block::UNPACK {
                 return block;
@@ -1314,15 +1371,15 @@ pub fn random_unit_block(random: &mut Random) -> UnitBlock {
             }
             block
         }
-        52..=91 => write_unit(&random_waiting_unit(random)),
-        92..=97 => random_spoiled_block(random),
+        52..=91 => write_unit(&random_waiting_unit(random, model)),
+        92..=97 => random_spoiled_block(random, model),
         _ => std::array::from_fn(|_| random.word()),
     }
 }
 
 /// A block in range but for one or two of its words.
-pub fn random_spoiled_block(random: &mut Random) -> UnitBlock {
-    let mut block = write_unit(&random_waiting_unit(random));
+fn random_spoiled_block(random: &mut Random, model: Model) -> UnitBlock {
+    let mut block = write_unit(&random_waiting_unit(random, model));
     let fields: Vec<usize> = (0..unit_word::LIMITED)
         .chain(unit_word::WAITING..unit_word::HELD)
         .collect();

@@ -1,8 +1,9 @@
-//! Points for VIF1 worked by hand, with literal values: each word and what it writes.
+//! Points for the units worked by hand, with literal values: each word and what it writes.
 
+use crate::model::Model;
 use crate::refusals;
-use crate::state_block::{unit_word, UnitBlock, RESET_UNIT, UNPACK};
-use crate::vif_cases::{Case, Standing, INTERRUPT, REFUSED};
+use crate::state_block::{unit_word, UnitBlock, MPG, RESET_UNIT, UNPACK};
+use crate::vif_cases::{code_words, Case, Standing, INTERRUPT, REFUSED};
 use crate::vif_generate::{code_word, plain_case, stcycl};
 
 /// A field that a write leaves as it was.
@@ -16,11 +17,14 @@ struct Step {
     word: u32,
     answer: u32,
     writes: Vec<Write>,
+    /// The word of code memory that is written, and its value.
+    code: Option<(usize, u32)>,
 }
 
 /// Words given to a unit, from word 0 of a quadword on. A refused word is the last one.
 pub struct Point {
     name: &'static str,
+    model: Model,
     unit: UnitBlock,
     steps: Vec<Step>,
     /// ROW afterwards.
@@ -31,15 +35,21 @@ impl Point {
     fn from(name: &'static str, unit: UnitBlock) -> Point {
         Point {
             name,
+            model: Model::Vif1,
             unit,
             steps: Vec::new(),
             row: [0; 4],
         }
     }
 
-    /// A unit after reset is given words that are taken and write nothing.
+    /// VIF1 after reset is given words that are taken and write nothing.
     fn new(name: &'static str, words: &[u32]) -> Point {
         Point::from(name, RESET_UNIT).then(words)
+    }
+
+    fn on_vif0(mut self) -> Point {
+        self.model = Model::Vif0;
+        self
     }
 
     fn then(mut self, words: &[u32]) -> Point {
@@ -54,7 +64,17 @@ impl Point {
             word,
             answer,
             writes: writes.to_vec(),
+            code: None,
         });
+        self
+    }
+
+    /// A word that is stored as this word of code memory.
+    fn stored(mut self, word: u32, at: usize) -> Point {
+        self = self.step(word, 0, &[]);
+        if let Some(step) = self.steps.last_mut() {
+            step.code = Some((at, word));
+        }
         self
     }
 
@@ -78,13 +98,13 @@ impl Point {
 
     /// How many words come before the first that writes.
     pub fn quiet_words(&self) -> usize {
-        let writes = |step: &Step| !step.writes.is_empty();
+        let writes = |step: &Step| !step.writes.is_empty() || step.code.is_some();
         self.steps.iter().position(writes).unwrap_or(self.words())
     }
 
     /// The case of the point, each word in a group of its own; NOPs fill up the last quadword.
     pub fn case(&self) -> Case {
-        let mut case = plain_case(self.unit, 0, 0);
+        let mut case = plain_case(self.model, self.unit, 0, 0);
         case.words = self.steps.iter().map(|step| step.word).collect();
         case.words.resize(case.words.len().next_multiple_of(4), 0);
         case.groups = vec![1; self.steps.len()];
@@ -97,10 +117,12 @@ impl Point {
         let case = self.case();
         let mut standing = Standing::new(&case);
         let mut data = standing.data.clone();
+        let mut code = code_words(&standing.code);
         for (at, step) in self.steps.iter().enumerate() {
             let answer = standing.take(case.given(at));
-            step.write(&mut data);
-            if answer != step.answer || standing.data != data {
+            step.write(&mut data, &mut code);
+            let same = standing.data == data && code_words(&standing.code) == code;
+            if answer != step.answer || !same {
                 return Err(format!("point {}: word {at}, answer {answer}", self.name));
             }
             standing.restore();
@@ -116,12 +138,15 @@ impl Point {
 }
 
 impl Step {
-    fn write(&self, data: &mut [u32]) {
+    fn write(&self, data: &mut [u32], code: &mut [u32]) {
         for (quadword, fields) in &self.writes {
             let to = &mut data[4 * quadword..4 * quadword + 4];
             for (to, field) in to.iter_mut().zip(fields) {
                 *to = field.unwrap_or(*to);
             }
+        }
+        if let Some((at, word)) = self.code {
+            code[at] = word;
         }
     }
 }
@@ -131,6 +156,7 @@ pub fn named(name: &str) -> Option<Vec<Point>> {
     match name {
         "mask" => Some(mask_points()),
         "filling" => Some(filling_points()),
+        "vif0" => Some(vif0_points()),
         _ => None,
     }
 }
@@ -138,6 +164,7 @@ pub fn named(name: &str) -> Option<Vec<Point>> {
 pub fn all() -> Vec<Point> {
     let mut points = mask_points();
     points.extend(filling_points());
+    points.extend(vif0_points());
     points
 }
 
@@ -374,6 +401,114 @@ fn five_bits() -> Point {
     )
 }
 
+/// The small unit.
+fn vif0_points() -> Vec<Point> {
+    let cycle = stcycl(1, 1);
+    let (s_32, bit_15) = (code_word(0x60, 1, 0), 0x8000);
+    let mut points = vec![
+        vectors_round_the_end(),
+        fills_round_the_end(),
+        filled_without_payload(),
+        address_above_the_end(),
+        mpg_round_the_end(),
+        mpg_address_above_the_end(),
+        waiting_above_the_end(),
+        mpg_waiting_above_the_end(),
+        Point::new("bit 15", &[cycle]).refused(s_32 | bit_15, refusals::TOPS),
+        Point::new("bit 15, CL 0", &[stcycl(0, 1)]).refused(s_32 | bit_15, refusals::TOPS),
+        Point::new("22 before 26", &[stcycl(1, 0)]).refused(s_32 | bit_15, refusals::CYCLE),
+        Point::new("21 before 26", &[cycle]).refused(code_word(0x63, 1, bit_15), refusals::FORMAT),
+        Point::new("21 before 22 and 26", &[stcycl(1, 0)])
+            .refused(code_word(0x7B, 1, bit_15), refusals::FORMAT),
+        Point::from("address 1,024", waiting_unpack(1_024)).refused(1, refusals::RANGE),
+        Point::from("MPG address 2,048", waiting_mpg(2_048)).refused(1, refusals::RANGE),
+    ];
+    for command in [0x02, 0x03, 0x06, 0x11, 0x13, 0x15, 0x50, 0x51] {
+        let missing = Point::new("a code that is missing", &[cycle]);
+        points.push(missing.refused(code_word(command, 0, 1), refusals::COMMAND));
+    }
+    let taken = [(0x00, 0), (0x04, 7), (0x05, 1), (0x07, 9), (0x10, 0)];
+    let taken = taken.map(|(command, imm)| code_word(command, 0, imm));
+    points.push(Point::new("codes that are there", &taken));
+    points.into_iter().map(Point::on_vif0).collect()
+}
+
+/// V4-32, NUM 2, at quadword 255.
+fn vectors_round_the_end() -> Point {
+    Point::new("255 and 0", &[stcycl(1, 1), code_word(0x6C, 2, 255)])
+        .then(&[1, 2, 3])
+        .step(4, 0, &[(255, [1, 2, 3, 4].map(Some))])
+        .then(&[5, 6, 7])
+        .step(8, 0, &[(0, [5, 6, 7, 8].map(Some))])
+}
+
+/// S-32, NUM 4, at quadword 254: vectors 1 and 2, a fill, vector 3.
+fn fills_round_the_end() -> Point {
+    Point::new("fill at 0", &[stcycl(2, 3), code_word(0x60, 4, 254)])
+        .step(1, 0, &[(254, [Some(1); 4])])
+        .step(2, 0, &[(255, [Some(2); 4]), (0, [Some(2); 4])])
+        .step(3, 0, &[(1, [Some(3); 4])])
+}
+
+/// S-32, NUM 0: each of the 256 quadwords in the code's own step.
+fn filled_without_payload() -> Point {
+    let writes: Vec<Write> = (900..1_156).map(|at| (at % 256, [Some(0); 4])).collect();
+    Point::new("CL 0, NUM 0", &[stcycl(0, 255)]).step(code_word(0x60, 0, 900), 0, &writes)
+}
+
+/// S-16, NUM 2, CL 4: quadwords 1,021 and 1,025 are 253 and 1.
+fn address_above_the_end() -> Point {
+    Point::new("address 1,021", &[stcycl(4, 1), code_word(0x61, 2, 1_021)]).step(
+        0x0006_0005,
+        0,
+        &[(253, [Some(5); 4]), (1, [Some(6); 4])],
+    )
+}
+
+fn mpg_round_the_end() -> Point {
+    Point::new("MPG at 511", &[code_word(0x4A, 2, 511)])
+        .stored(0x11, 1_022)
+        .stored(0x22, 1_023)
+        .stored(0x33, 0)
+        .stored(0x44, 1)
+}
+
+/// Instruction 65,535 is 511, and the next is 0.
+fn mpg_address_above_the_end() -> Point {
+    Point::new("MPG at 65,535", &[code_word(0x4A, 2, 0xFFFF)])
+        .stored(0x11, 1_022)
+        .stored(0x22, 1_023)
+        .stored(0x33, 0)
+        .stored(0x44, 1)
+}
+
+/// A unit in which an S-32 of two writes waits with both words due.
+fn waiting_unpack(address: u32) -> UnitBlock {
+    let mut unit = waiting(1, 1, 2);
+    unit[unit_word::ADDRESS] = address;
+    unit[unit_word::COUNT] = 2;
+    unit
+}
+
+fn waiting_above_the_end() -> Point {
+    Point::from("waiting at 1,023", waiting_unpack(1_023))
+        .step(1, 0, &[(255, [Some(1); 4])])
+        .step(2, 0, &[(0, [Some(2); 4])])
+}
+
+/// A unit in which an MPG of two instructions waits with two words due.
+fn waiting_mpg(address: u32) -> UnitBlock {
+    let mut unit = waiting_unpack(address);
+    unit[unit_word::WAITING] = MPG;
+    unit
+}
+
+fn mpg_waiting_above_the_end() -> Point {
+    Point::from("MPG waiting at 1,535", waiting_mpg(1_535))
+        .stored(0x11, 0)
+        .stored(0x22, 1)
+}
+
 #[cfg(test)]
 mod tests {
     use super::*;
@@ -393,6 +528,13 @@ mod tests {
     }
 
     #[test]
+    fn small_unit() {
+        for point in vif0_points() {
+            assert_eq!(point.check(), Ok(()));
+        }
+    }
+
+    #[test]
     fn wrong_values_are_found() {
         let changes: [fn(&mut Point); 3] = [
             |point| point.row[1] += 1,
@@ -400,6 +542,10 @@ mod tests {
             |point| {
                 let quiet = point.quiet_words();
                 match point.steps.get_mut(quiet) {
+                    Some(Step {
+                        code: Some((at, _)),
+                        ..
+                    }) => *at ^= 2,
                     Some(step) => step.writes[0].1[0] = Some(0x0BAD_0BAD),
                     None => point.row = [1; 4],
                 }

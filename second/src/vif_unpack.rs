@@ -1,6 +1,6 @@
 //! UNPACK: from payload words to writes in the data memory.
 
-use crate::memory::QUADWORDS;
+use crate::model::Model;
 use crate::vif::{Registers, ADDRESSES, MOST_NUM};
 
 /// The form of a vector: vl and vn of the code.
@@ -254,7 +254,14 @@ impl Unpack {
     }
 
     /// Takes a payload word and writes the vectors that are now whole, with the fills after each.
-    pub fn take_word(&mut self, registers: &mut Registers, due: u32, word: u32, data: &mut [u32]) {
+    pub fn take_word(
+        &mut self,
+        model: Model,
+        registers: &mut Registers,
+        due: u32,
+        word: u32,
+        data: &mut [u32],
+    ) {
         let cycle = registers.cycle();
         let (first, end) = self.written(cycle, due);
         let window = self.window(cycle, due, word);
@@ -265,16 +272,17 @@ impl Unpack {
             if !fill {
                 fields = window.vector(cycle.vectors(i));
             }
-            self.write(registers, i, fields, if fill { 0 } else { mode }, data);
+            let mode = if fill { 0 } else { mode };
+            self.write(model, registers, i, fields, mode, data);
         }
         let [_, older, last] = self.held;
         self.held = [older, last, word];
     }
 
     /// Makes all writes where there is no payload.
-    pub fn fill_all(&self, registers: &mut Registers, data: &mut [u32]) {
+    pub fn fill_all(&self, model: Model, registers: &mut Registers, data: &mut [u32]) {
         for i in 0..self.count {
-            self.write(registers, i, [0; 4], 0, data);
+            self.write(model, registers, i, [0; 4], 0, data);
         }
     }
 
@@ -282,6 +290,7 @@ impl Unpack {
     #[inline(always)]
     fn write(
         &self,
+        model: Model,
         registers: &mut Registers,
         i: u32,
         fields: [u32; 4],
@@ -289,7 +298,7 @@ impl Unpack {
         data: &mut [u32],
     ) {
         let cycle = registers.cycle();
-        let at = 4 * (self.position(cycle, i) % QUADWORDS) as usize;
+        let at = 4 * (self.position(cycle, i) % model.sizes().quadwords) as usize;
         let quadword = &mut data[at..at + 4];
         if mode == 0 && !self.masked {
             quadword.copy_from_slice(&fields);
