@@ -15,10 +15,15 @@
 
 /* ---- Buffers ---- */
 
-enum { SHEET, MAIN, DATA, CODE, LOG, BLOCK, RESULT, DATA_B, CODE_B, LOG_B, BUFFERS };
+/* Memories are VIF1's, those with a 0 VIF0's; B: of the second board. */
+enum { SHEET, MAIN, DATA, CODE, DATA0, CODE0, LOG, BLOCK, RESULT, DATA_B, CODE_B, DATA0_B, CODE0_B, LOG_B, BUFFERS };
 
-static const char *const names[BUFFERS] = {"sheet", "main memory or output", "data memory", "code memory", "log", "state block", "result",
-                                           "second data memory",     "second code memory",    "second log"};
+static const char *const names[BUFFERS] = {
+    [SHEET] = "sheet",          [MAIN] = "main memory or output",  [DATA] = "data memory",           [CODE] = "code memory",
+    [DATA0] = "VIF0's data memory", [CODE0] = "VIF0's code memory", [LOG] = "log",                    [BLOCK] = "state block",
+    [RESULT] = "result",        [DATA_B] = "second data memory",   [CODE_B] = "second code memory",  [DATA0_B] = "VIF0's second data memory",
+    [CODE0_B] = "VIF0's second code memory", [LOG_B] = "second log",
+};
 
 /* The given and the judge's bytes are allocated as long as they are, for the address sanitizer. The proved library's end at a page that nobody may touch,
  * as the archive itself is not instrumented. */
@@ -221,8 +226,14 @@ static void fill(void *buffer, size_t bytes, uint32_t seed) {
 /* ---- Lengths ---- */
 
 struct lengths {
-    size_t main, data, code, log, block, result;
+    size_t main, data, code, log, block, result, data0, code0;
 };
+
+/* Both units' memories, and the others as given. */
+static struct lengths lengths_of(size_t main, size_t log, size_t result) {
+    return (struct lengths){main, TEJBORUN_VIF1_DATA_WORDS, TEJBORUN_VIF1_CODE_BYTES, log, TEJBORUN_BLOCK_WORDS, result, TEJBORUN_VIF0_DATA_WORDS,
+                            TEJBORUN_VIF0_CODE_BYTES};
+}
 
 static size_t spoiled(struct bytes *in, size_t right) {
     switch (take8(in) % 8) {
@@ -239,10 +250,10 @@ static size_t spoiled(struct bytes *in, size_t right) {
 
 /* One length in eight recipes is wrong. */
 static void spoil(struct bytes *in, struct lengths *n) {
-    size_t *const all[] = {&n->main, &n->data, &n->code, &n->log, &n->block, &n->result};
+    size_t *const all[] = {&n->main, &n->data, &n->code, &n->log, &n->block, &n->result, &n->data0, &n->code0};
     uint32_t which = take8(in);
     if (which < 224) return;
-    size_t *one = all[which % 6];
+    size_t *one = all[which % 8];
     *one = spoiled(in, *one);
 }
 
@@ -283,6 +294,8 @@ static void give_memories(struct bytes *in, const struct lengths *n) {
     fill(give(DATA, 4 * n->data), 4 * n->data, seed);
     fill(give(CODE, n->code), n->code, seed + 1);
     fill(give(LOG, 8 * n->log), 8 * n->log, seed + 2);
+    fill(give(DATA0, 4 * n->data0), 4 * n->data0, seed + 5);
+    fill(give(CODE0, n->code0), n->code0, seed + 6);
 }
 
 static void give_result(size_t numbers) {
@@ -464,12 +477,28 @@ static void put_waiting(struct bytes *in, struct tejborun_unit *unit) {
     unit->due = 1 + take16(in) % all;
 }
 
+/* VIF0: what nothing there writes is 0, and DIRECT never waits. */
+static void put_vif0(struct bytes *in, uint32_t shape, struct tejborun_unit *unit) {
+    if (shape & 32) put_registers(in, unit);
+    if (shape & 64) put_waiting(in, unit);
+    unit->ofst = unit->base = unit->tops = unit->top = unit->dbf = unit->mskpath3 = 0;
+    bool direct = unit->waiting == TEJBORUN_WAITS_DIRECT || unit->waiting == TEJBORUN_WAITS_DIRECTHL;
+    if (direct) unit->waiting = TEJBORUN_WAITS_STROW;
+    if (direct) unit->due = 1 + unit->due % 4;
+}
+
+/* A channel: VIF1's half of the time. */
+static uint32_t channel_of(uint32_t how) {
+    static const uint8_t channels[4] = {1, 2, 1, 0};
+    return channels[how % 4];
+}
+
 /* Where the chain stands. */
 static void put_place(struct bytes *in, struct tejborun_chain *chain, size_t quadwords) {
     uint32_t limit = (uint32_t)quadwords + 2;
-    chain->channel = 1 + take8(in) % 2;
+    chain->channel = channel_of(take8(in));
     chain->tadr = 16 * (take16(in) % limit);
-    chain->tte = chain->channel == 1 ? take8(in) & 1 : 0;
+    chain->tte = chain->channel != 2 ? take8(in) & 1 : 0;
     chain->ended = take8(in) < 32;
     chain->depth = take8(in) % 3;
     for (uint32_t i = 0; i < chain->depth; i++) chain->stack[i] = 16 * (take16(in) % limit % 65537);
@@ -504,6 +533,7 @@ static void give_block(struct bytes *in, const struct lengths *n) {
     if (shape & 4) put_waiting(in, &state.vif1);
     if (shape & 8) put_path(in, &state.path2);
     if (shape & 16) put_path(in, &state.path3);
+    if (shape & 96) put_vif0(in, shape, &state.vif0);
     if (shape >= 192) put_raw(in, (uint32_t *)&state);
     size_t bytes = 4 * n->block;
     uint32_t *to = give(BLOCK, bytes);
@@ -541,6 +571,14 @@ static void close_tag(struct writer *w) {
     memcpy(w->main + 4 * tag, words, 8);
 }
 
+/* Whether the chain is for VIF0: then it has mostly codes that VIF0 has. */
+static bool for_vif0;
+
+static bool lacks(uint32_t command) {
+    static const uint8_t missing[] = {0x02, 0x03, 0x06, 0x11, 0x13, 0x15, 0x50, 0x51};
+    return memchr(missing, (int)command, sizeof missing) != NULL;
+}
+
 static uint32_t legal_code(struct bytes *in) {
     static const uint8_t commands[] = {0x00, 0x01, 0x01, 0x02, 0x03, 0x04, 0x05, 0x05, 0x06, 0x07, 0x10, 0x11, 0x13, 0x14, 0x14, 0x15, 0x17, 0x17, 0x20, 0x30,
                                        0x31, 0x4A, 0x50, 0x51, 0x60, 0x61, 0x62, 0x64, 0x65, 0x66, 0x68, 0x69, 0x6A, 0x6C, 0x6D, 0x6E, 0x6F, 0x70, 0x71, 0x72,
@@ -548,6 +586,8 @@ static uint32_t legal_code(struct bytes *in) {
     uint32_t how = take8(in), num = take8(in), imm = take16(in);
     if (how >= 250) return how << 24 | num << 16 | imm;
     uint32_t command = commands[how % sizeof commands];
+    if (for_vif0 && num % 16 != 15 && lacks(command)) command = 0x6C;
+    if (for_vif0 && num % 16 != 15 && command >= 0x60) imm &= 0x7FFF;
     if (command == 1 && imm % 4 != 0) imm = ((imm & 7) + 1) | (1 + (imm >> 8) % ((imm & 7) + 1)) << 8;
     if (command == 5 && imm % 4 == 3 && num % 8 != 0) imm--;
     if (command >= 0x50 && command < 0x60 && imm % 8 != 0) imm %= 8;
@@ -604,7 +644,7 @@ static void put_piece(struct bytes *in, struct writer *w) {
     case 2:
     case 3:
     case 4: put_word(w, legal_code(in)); break;
-    case 5: op < 128 ? put_gif_tag(in, w) : put_direct(in, w); break;
+    case 5: op < 128 || for_vif0 ? put_gif_tag(in, w) : put_direct(in, w); break;
     case 6: put_word(w, take32(in)); break;
     default: put_filling(in, w); break;
     }
@@ -627,7 +667,7 @@ static void count_run(uint32_t answer) {
     memcpy(&steps, PROVED(RESULT), 8);
     const struct tejborun_state *state = PROVED(BLOCK);
     const struct tejborun_chain *chain = &state->chain;
-    const struct tejborun_unit *unit = &state->vif1;
+    const struct tejborun_unit *unit = chain->channel == 0 ? &state->vif0 : &state->vif1;
     const struct tejborun_path *path2 = &state->path2, *path3 = &state->path3;
     most(&longest_run, steps);
     completed += steps;
@@ -672,7 +712,7 @@ static void fuzz_steps(struct bytes *in) {
 }
 
 static void fuzz_meaning(struct bytes *in) {
-    struct lengths n = {0, TEJBORUN_DATA_WORDS, TEJBORUN_CODE_BYTES, log_numbers(in), TEJBORUN_BLOCK_WORDS, 2};
+    struct lengths n = lengths_of(0, log_numbers(in), 2);
     spoil(in, &n);
     uint64_t used = used_entries(in, n.log);
     give_memories(in, &n);
@@ -696,9 +736,9 @@ static uint32_t call_reset(void) {
 
 static uint32_t call_start(struct bytes *in) {
     uint32_t how = take8(in);
-    uint32_t channel = how < 232 ? 1 + how % 2 : take_odd(in);
+    uint32_t channel = how < 232 ? channel_of(how) : take_odd(in);
     uint32_t tadr = take8(in) < 232 ? 16 * take16(in) : take32(in);
-    uint32_t tte = take8(in) < 232 ? (channel == 1 ? how >> 1 & 1 : how >= 200) : take_odd(in);
+    uint32_t tte = take8(in) < 232 ? (channel != 2 ? how >> 2 & 1 : how >= 200) : take_odd(in);
     uint32_t proved = tejborun_start(PROVED(BLOCK), WORDS(BLOCK), channel, tadr, tte);
     agreed(proved, judge_start(JUDGED(BLOCK), WORDS(BLOCK), channel, tadr, tte));
     return proved;
@@ -706,40 +746,55 @@ static uint32_t call_start(struct bytes *in) {
 
 /* A start on the block that is given, then a reset and another start. */
 static void fuzz_start(struct bytes *in) {
-    struct lengths n = {TEJBORUN_MAIN_BYTES, TEJBORUN_DATA_WORDS, TEJBORUN_CODE_BYTES, 128 * TEJBORUN_ENTRY_NUMBERS, TEJBORUN_BLOCK_WORDS, 2};
+    struct lengths n = lengths_of(TEJBORUN_MAIN_BYTES, 128 * TEJBORUN_ENTRY_NUMBERS, 2);
     spoil(in, &n);
     give_block(in, &n);
     lend_all();
     uint32_t answer = call_start(in);
     const struct tejborun_state *state = PROVED(BLOCK);
     if (WORDS(BLOCK) == TEJBORUN_BLOCK_WORDS) show_kind(10, answer, state->vif1.waiting, state->path2.place * 2 + state->path3.place);
+    if (WORDS(BLOCK) == TEJBORUN_BLOCK_WORDS) show_kind(12, answer, state->vif0.waiting, state->chain.channel);
     call_reset();
     call_start(in);
     call_start(in);
 }
 
-static uint32_t judged_run(uint64_t allowance) {
-    return judge_run(JUDGED(MAIN), BYTES(MAIN), JUDGED(DATA), WORDS(DATA), JUDGED(CODE), BYTES(CODE), JUDGED(LOG), NUMBERS(LOG), JUDGED(BLOCK), WORDS(BLOCK),
-                     allowance, JUDGED(RESULT), NUMBERS(RESULT));
+/* The memories that a run is lent: a data memory, and a code memory. */
+struct memories {
+    int data, code;
+};
+
+/* Those of the block's channel; rarely the other unit's. */
+static struct memories memories_of_channel(struct bytes *in) {
+    static const struct memories vif1 = {DATA, CODE}, vif0 = {DATA0, CODE0};
+    const uint32_t *block = buffers[BLOCK].given;
+    bool on_vif0 = WORDS(BLOCK) > 0 && block[0] == 0;
+    return on_vif0 == (take8(in) < 250) ? vif0 : vif1;
+}
+
+static uint32_t judged_run(struct memories m, uint64_t allowance) {
+    return judge_run(JUDGED(MAIN), BYTES(MAIN), JUDGED(m.data), WORDS(m.data), JUDGED(m.code), BYTES(m.code), JUDGED(LOG), NUMBERS(LOG), JUDGED(BLOCK),
+                     WORDS(BLOCK), allowance, JUDGED(RESULT), NUMBERS(RESULT));
 }
 
 /* The allowance of a run. A chain may never end: a large allowance is given only where the judge came to an end with a smaller one. */
-static uint64_t run_allowance(struct bytes *in) {
+static uint64_t run_allowance(struct bytes *in, struct memories m) {
     uint32_t how = take8(in);
     if (how < 64) return how;
     if (how < 160) return take16(in);
     const uint64_t limit = 20000;
     lend_all();
-    if (judged_run(limit) == TEJBORUN_ALLOWANCE) return limit;
+    if (judged_run(m, limit) == TEJBORUN_ALLOWANCE) return limit;
     return how < 240 ? UINT64_MAX : UINT64_MAX - take32(in);
 }
 
 static void one_run(struct bytes *in) {
-    uint64_t allowance = run_allowance(in);
+    struct memories m = memories_of_channel(in);
+    uint64_t allowance = run_allowance(in, m);
     lend_all();
-    uint32_t proved = tejborun_run(PROVED(MAIN), BYTES(MAIN), PROVED(DATA), WORDS(DATA), PROVED(CODE), BYTES(CODE), PROVED(LOG), NUMBERS(LOG), PROVED(BLOCK),
-                                   WORDS(BLOCK), allowance, PROVED(RESULT), NUMBERS(RESULT));
-    agreed(proved, judged_run(allowance));
+    uint32_t proved = tejborun_run(PROVED(MAIN), BYTES(MAIN), PROVED(m.data), WORDS(m.data), PROVED(m.code), BYTES(m.code), PROVED(LOG), NUMBERS(LOG),
+                                   PROVED(BLOCK), WORDS(BLOCK), allowance, PROVED(RESULT), NUMBERS(RESULT));
+    agreed(proved, judged_run(m, allowance));
     only_read(MAIN);
     count_run(proved);
     keep_all();
@@ -747,13 +802,16 @@ static void one_run(struct bytes *in) {
 
 /* Up to four runs, each on what the one before left; between them perhaps a start. */
 static void fuzz_run(struct bytes *in) {
-    struct lengths n = {main_bytes(in), TEJBORUN_DATA_WORDS, TEJBORUN_CODE_BYTES, log_numbers(in), TEJBORUN_BLOCK_WORDS, 1};
+    size_t bytes = main_bytes(in);
+    struct lengths n = lengths_of(bytes, log_numbers(in), 1);
     spoil(in, &n);
-    uint8_t calls_of[24];
+    uint8_t calls_of[32];
     for (size_t i = 0; i < sizeof calls_of; i++) calls_of[i] = (uint8_t)take8(in);
     give_block(in, &n);
     give_memories(in, &n);
     give_result(n.result);
+    const uint32_t *block = buffers[BLOCK].given;
+    for_vif0 = WORDS(BLOCK) > 0 && block[0] == 0;
     give_main(in, n.main);
     struct bytes order = {calls_of, sizeof calls_of};
     for (uint32_t runs = 1 + take8(&order) % 4; runs > 0; runs--) {
@@ -766,7 +824,8 @@ static void fuzz_run(struct bytes *in) {
 }
 
 static void fuzz_build_and_run(struct bytes *in) {
-    struct lengths n = {main_bytes(in), TEJBORUN_DATA_WORDS, TEJBORUN_CODE_BYTES, log_numbers(in), TEJBORUN_BLOCK_WORDS, 2};
+    size_t bytes = main_bytes(in);
+    struct lengths n = lengths_of(bytes, log_numbers(in), 2);
     uint32_t roomy = take8(in), how = take8(in), quadword = take16(in);
     uint64_t allowance = how < 64 ? take16(in) : UINT64_MAX;
     uint32_t address = how < 240 ? 16 * (how % 2 == 0 ? 0 : quadword % 256) : take32(in);
@@ -802,31 +861,64 @@ static void give_second(int first, int second, size_t bytes) {
     if (common > 0) memcpy(to, buffers[first].given, common);
 }
 
+/* Parts: mostly all, sometimes some, rarely any number. */
+static uint32_t take_parts(struct bytes *in) {
+    uint32_t how = take8(in);
+    if (how < 128) return TEJBORUN_PARTS;
+    return how < 248 ? 1 + how % TEJBORUN_PARTS : take_odd(in);
+}
+
+/* Two boards with their entries used. */
+struct boards {
+    uint64_t used_a, used_b;
+    uint32_t parts;
+};
+
+static uint32_t compared(const struct boards *b) {
+    return tejborun_compare(PROVED(DATA), WORDS(DATA), PROVED(CODE), BYTES(CODE), PROVED(DATA0), WORDS(DATA0), PROVED(CODE0), BYTES(CODE0), PROVED(LOG),
+                            NUMBERS(LOG), b->used_a, PROVED(DATA_B), WORDS(DATA_B), PROVED(CODE_B), BYTES(CODE_B), PROVED(DATA0_B), WORDS(DATA0_B),
+                            PROVED(CODE0_B), BYTES(CODE0_B), PROVED(LOG_B), NUMBERS(LOG_B), b->used_b, b->parts, PROVED(RESULT), NUMBERS(RESULT));
+}
+
+static uint32_t judge_compared(const struct boards *b) {
+    return judge_compare(JUDGED(DATA), WORDS(DATA), JUDGED(CODE), BYTES(CODE), JUDGED(DATA0), WORDS(DATA0), JUDGED(CODE0), BYTES(CODE0), JUDGED(LOG),
+                         NUMBERS(LOG), b->used_a, JUDGED(DATA_B), WORDS(DATA_B), JUDGED(CODE_B), BYTES(CODE_B), JUDGED(DATA0_B), WORDS(DATA0_B),
+                         JUDGED(CODE0_B), BYTES(CODE0_B), JUDGED(LOG_B), NUMBERS(LOG_B), b->used_b, b->parts, JUDGED(RESULT), NUMBERS(RESULT));
+}
+
+/* The first board, and the second with the same contents, as far as it goes. */
+static void give_boards(struct bytes *in, const struct lengths *a, const struct lengths *b) {
+    give_memories(in, a);
+    give_second(DATA, DATA_B, 4 * b->data);
+    give_second(CODE, CODE_B, b->code);
+    give_second(DATA0, DATA0_B, 4 * b->data0);
+    give_second(CODE0, CODE0_B, b->code0);
+    give_second(LOG, LOG_B, 8 * b->log);
+}
+
 /* The second board is the first with a few changes. */
 static void fuzz_compare(struct bytes *in) {
-    struct lengths a = {0, TEJBORUN_DATA_WORDS, TEJBORUN_CODE_BYTES, log_numbers(in), TEJBORUN_BLOCK_WORDS, 6}, b = a;
+    struct lengths a = lengths_of(0, log_numbers(in), TEJBORUN_COMPARED), b = a;
     uint32_t how = take8(in);
     if (how < 96) b.log = log_numbers(in);
     spoil(in, &a);
     spoil(in, &b);
-    uint64_t used_a = used_entries(in, a.log), used_b = how % 2 == 0 ? used_a : used_entries(in, b.log);
-    give_memories(in, &a);
-    give_second(DATA, DATA_B, 4 * b.data);
-    give_second(CODE, CODE_B, b.code);
-    give_second(LOG, LOG_B, 8 * b.log);
+    struct boards boards = {.parts = take_parts(in)};
+    boards.used_a = used_entries(in, a.log);
+    boards.used_b = how % 2 == 0 ? boards.used_a : used_entries(in, b.log);
+    give_boards(in, &a, &b);
     give_result(a.result);
-    while (in->left > 0) change(in, DATA_B + (int)(take8(in) % 3));
+    while (in->left > 0) change(in, DATA_B + (int)(take8(in) % 5));
     lend_all();
-    uint32_t proved = tejborun_compare(PROVED(DATA), WORDS(DATA), PROVED(CODE), BYTES(CODE), PROVED(LOG), NUMBERS(LOG), used_a, PROVED(DATA_B), WORDS(DATA_B),
-                                       PROVED(CODE_B), BYTES(CODE_B), PROVED(LOG_B), NUMBERS(LOG_B), used_b, PROVED(RESULT), NUMBERS(RESULT));
-    agreed(proved, judge_compare(JUDGED(DATA), WORDS(DATA), JUDGED(CODE), BYTES(CODE), JUDGED(LOG), NUMBERS(LOG), used_a, JUDGED(DATA_B), WORDS(DATA_B),
-                                 JUDGED(CODE_B), BYTES(CODE_B), JUDGED(LOG_B), NUMBERS(LOG_B), used_b, JUDGED(RESULT), NUMBERS(RESULT)));
+    uint32_t proved = compared(&boards);
+    agreed(proved, judge_compared(&boards));
     for (int i = 0; i < BUFFERS; i++)
         if (i != RESULT) only_read(i);
     if (proved != TEJBORUN_SAME && proved != TEJBORUN_DIFFERENT) return;
     const uint64_t *result = PROVED(RESULT);
-    for (uint32_t i = 0; i < 6; i++) show_kind(11, i, magnitude(result[i]), proved);
-    most(&longest_run, result[1] + result[3] + result[5]);
+    for (uint32_t i = 0; i < TEJBORUN_COMPARED; i++) show_kind(11, i, magnitude(result[i]), proved);
+    show_kind(13, boards.parts, proved, 0);
+    most(&longest_run, result[1] + result[3] + result[5] + result[7] + result[9]);
 }
 
 /* ---- The program ---- */

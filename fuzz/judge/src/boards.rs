@@ -1,51 +1,122 @@
-//! Two boards compared, element by element.
+//! The parts of two boards compared, element by element.
 
 use crate::log;
-use crate::vif;
+use crate::model::Model;
+use crate::refusals;
 
-pub struct Board<'a> {
+/// The words of a quadword and the bytes of an instruction.
+const QUADWORD: usize = 4;
+const INSTRUCTION: usize = 8;
+
+/// A unit's memories.
+pub struct Memories<'a> {
     pub data: &'a [u32],
     pub code: &'a [u8],
+}
+
+pub struct Board<'a> {
+    pub vif1: Memories<'a>,
+    pub vif0: Memories<'a>,
     pub log: &'a [u64],
     pub used: u64,
 }
 
 impl Board<'_> {
-    /// The log's entries that are used. The lengths have been tested.
+    fn memories(&self, model: Model) -> &Memories<'_> {
+        match model {
+            Model::Vif0 => &self.vif0,
+            Model::Vif1 => &self.vif1,
+        }
+    }
+
+    /// The log's entries that are used. The length has been tested.
     fn entries(&self) -> &[u64] {
         &self.log[..log::numbers(self.used)]
     }
 }
 
-/// Whether the boards are the same, and the six numbers of the result; or the refusal, the
-/// lowest number that either board earns.
-pub fn compare(a: &Board, b: &Board) -> Result<(bool, [u64; 6]), u32> {
-    if let Some(refusal) = [refusal(a), refusal(b)].into_iter().flatten().min() {
+#[derive(Clone, Copy)]
+enum Part {
+    Data(Model),
+    Code(Model),
+    Log,
+}
+
+/// The parts: number i is asked for by bit i, and has the numbers 2i and 2i + 1 of the result.
+const PARTS: [Part; 5] = [
+    Part::Data(Model::Vif1),
+    Part::Code(Model::Vif1),
+    Part::Log,
+    Part::Data(Model::Vif0),
+    Part::Code(Model::Vif0),
+];
+const ALL_PARTS: u32 = (1 << PARTS.len()) - 1;
+
+/// The numbers of a result.
+pub const NUMBERS: usize = 2 * PARTS.len();
+
+impl Part {
+    /// The refusal that the part earns on a board.
+    fn refusal(self, board: &Board) -> Option<u32> {
+        let (right, refusal) = match self {
+            Part::Data(model) => (
+                board.memories(model).data.len() == model.sizes().data_words(),
+                refusals::DATA,
+            ),
+            Part::Code(model) => (
+                board.memories(model).code.len() == model.sizes().code_bytes(),
+                refusals::CODE,
+            ),
+            Part::Log => (log::in_range(board.log.len(), board.used), refusals::LOG),
+        };
+        (!right).then_some(refusal)
+    }
+
+    /// The part's differences between two boards on which it is not refused.
+    fn differences(self, a: &Board, b: &Board) -> Differences {
+        match self {
+            Part::Data(model) => {
+                differences(a.memories(model).data, b.memories(model).data, QUADWORD)
+            }
+            Part::Code(model) => {
+                differences(a.memories(model).code, b.memories(model).code, INSTRUCTION)
+            }
+            Part::Log => differences(a.entries(), b.entries(), log::ENTRY),
+        }
+    }
+}
+
+/// Whether the boards are the same in the parts asked for, and the numbers of the result; or the
+/// refusal, of lengths the lowest number that a part asked for earns on either board.
+pub fn compare(a: &Board, b: &Board, parts: u32) -> Result<(bool, [u64; NUMBERS]), u32> {
+    if parts == 0 || parts > ALL_PARTS {
+        return Err(refusals::RANGE);
+    }
+    let asked = || (0..).zip(PARTS).filter(|(i, _)| parts >> i & 1 == 1);
+    let refused = asked().flat_map(|(_, part)| [part.refusal(a), part.refusal(b)]);
+    if let Some(refusal) = refused.flatten().min() {
         return Err(refusal);
     }
-    let (quadword, quadwords) = differences(a.data, b.data, 4);
-    let (instruction, instructions) = differences(a.code, b.code, 8);
-    let (entry, entries) = differences(a.entries(), b.entries(), log::ENTRY);
-    let same = a.data == b.data && a.code == b.code && a.entries() == b.entries();
-    let numbers = [
-        quadword,
-        quadwords,
-        instruction,
-        instructions,
-        entry,
-        entries,
-    ];
+    let mut same = true;
+    let mut numbers = [0; NUMBERS];
+    for (i, part) in asked() {
+        let found = part.differences(a, b);
+        same &= found.same;
+        numbers[2 * i..][..2].copy_from_slice(&[found.first, found.count]);
+    }
     Ok((same, numbers))
 }
 
-/// The first of the refusals 2, 3 and 4 that a board earns.
-fn refusal(board: &Board) -> Option<u32> {
-    let (data, code, log) = (board.data.len(), board.code.len(), board.log.len());
-    vif::check_lengths(data, code, log, board.used).err()
+struct Differences {
+    same: bool,
+    /// The first element that differs; the number compared where none does.
+    first: u64,
+    count: u64,
 }
 
-/// The first element that differs (the number compared where none does) and how many differ.
-fn differences<T: PartialEq>(a: &[T], b: &[T], size: usize) -> (u64, u64) {
+/// The differences of two slices with elements of `size`, as far as the shorter one goes; they are
+/// the same only where neither is shorter.
+fn differences<T: PartialEq>(a: &[T], b: &[T], size: usize) -> Differences {
     let mut compared = 0;
     let mut first = None;
     let mut count = 0;
@@ -56,5 +127,9 @@ fn differences<T: PartialEq>(a: &[T], b: &[T], size: usize) -> (u64, u64) {
         }
         compared += 1;
     }
-    (first.unwrap_or(compared), count)
+    Differences {
+        same: a == b,
+        first: first.unwrap_or(compared),
+        count,
+    }
 }

@@ -12,6 +12,8 @@ mod gif;
 mod log;
 #[path = "../../../second/src/memory.rs"]
 mod memory;
+#[path = "../../../second/src/model.rs"]
+mod model;
 #[path = "../../../second/src/refusals.rs"]
 mod refusals;
 #[path = "../../../second/src/sheet.rs"]
@@ -29,7 +31,8 @@ mod boards;
 
 use boards::Board;
 use chain::{Memories, State};
-use state_block::{bit, read_state, write_state, StateBlock, STATE_WORDS};
+use model::Model;
+use state_block::{bit, chain_word, read_state, write_state, StateBlock, STATE_WORDS};
 use std::slice::{from_raw_parts, from_raw_parts_mut};
 
 const SHORT: u32 = 60;
@@ -85,10 +88,11 @@ pub unsafe extern "C" fn judge_steps(
     answer
 }
 
-/// The entries used afterwards, or the refusal.
+/// The entries used afterwards, or the refusal. Sheets are for VIF1.
 fn meaning(sheet: &[u8], memories: &mut Memories, used: u64) -> Result<u64, sheet::Refusal> {
     let (data, code, log) = (&mut memories.data, &mut memories.code, &mut memories.log);
-    vif::check_lengths(data.len(), code.len(), log.len(), used).map_err(|refusal| (refusal, 0))?;
+    vif::check_lengths(Model::Vif1, data.len(), code.len(), log.len(), used)
+        .map_err(|refusal| (refusal, 0))?;
     if sheet::entries(sheet)? > log::room(log.len(), used) {
         return Err((refusals::ROOM, 0));
     }
@@ -161,7 +165,8 @@ pub unsafe extern "C" fn judge_start(
 /// The answer and the steps completed.
 fn run(memories: &mut Memories, block: &mut StateBlock, allowance: u64) -> (u32, u64) {
     let Some(mut state) = read_state(block) else {
-        let lengths = chain::check_lengths(memories, state_block::used(block));
+        let model = Model::of_channel(block[chain_word::CHANNEL]);
+        let lengths = chain::check_lengths(model, memories, state_block::used(block));
         return (lengths.err().unwrap_or(refusals::RANGE), 0);
     };
     let done = chain::run(&mut state, memories, allowance, |_, _, _| {});
@@ -256,7 +261,8 @@ pub unsafe extern "C" fn judge_build_and_run(
         code,
         log,
     };
-    if let Err(refusal) = chain::check_lengths(&lengths, state_block::used(block)) {
+    let used = state_block::used(block);
+    if let Err(refusal) = chain::check_lengths(Model::Vif1, &lengths, used) {
         if let Some(state) = read_state(block) {
             *block = write_state(&state);
         }
@@ -280,42 +286,63 @@ pub unsafe extern "C" fn judge_build_and_run(
 
 #[no_mangle]
 pub unsafe extern "C" fn judge_compare(
-    data_a: *const u32,
-    data_a_words: usize,
-    code_a: *const u8,
-    code_a_bytes: usize,
+    data1_a: *const u32,
+    data1_a_words: usize,
+    code1_a: *const u8,
+    code1_a_bytes: usize,
+    data0_a: *const u32,
+    data0_a_words: usize,
+    code0_a: *const u8,
+    code0_a_bytes: usize,
     log_a: *const u64,
     log_a_numbers: usize,
     used_a: u64,
-    data_b: *const u32,
-    data_b_words: usize,
-    code_b: *const u8,
-    code_b_bytes: usize,
+    data1_b: *const u32,
+    data1_b_words: usize,
+    code1_b: *const u8,
+    code1_b_bytes: usize,
+    data0_b: *const u32,
+    data0_b_words: usize,
+    code0_b: *const u8,
+    code0_b_bytes: usize,
     log_b: *const u64,
     log_b_numbers: usize,
     used_b: u64,
+    parts: u32,
     result: *mut u64,
     result_numbers: usize,
 ) -> u32 {
-    if result_numbers < 6 {
+    if result_numbers < boards::NUMBERS {
         return SHORT;
     }
     let a = Board {
-        data: view(data_a, data_a_words),
-        code: view(code_a, code_a_bytes),
+        vif1: boards::Memories {
+            data: view(data1_a, data1_a_words),
+            code: view(code1_a, code1_a_bytes),
+        },
+        vif0: boards::Memories {
+            data: view(data0_a, data0_a_words),
+            code: view(code0_a, code0_a_bytes),
+        },
         log: view(log_a, log_a_numbers),
         used: used_a,
     };
     let b = Board {
-        data: view(data_b, data_b_words),
-        code: view(code_b, code_b_bytes),
+        vif1: boards::Memories {
+            data: view(data1_b, data1_b_words),
+            code: view(code1_b, code1_b_bytes),
+        },
+        vif0: boards::Memories {
+            data: view(data0_b, data0_b_words),
+            code: view(code0_b, code0_b_bytes),
+        },
         log: view(log_b, log_b_numbers),
         used: used_b,
     };
-    let (answer, numbers) = match boards::compare(&a, &b) {
+    let (answer, numbers) = match boards::compare(&a, &b, parts) {
         Ok((same, numbers)) => (!same as u32, numbers),
-        Err(refusal) => (REFUSED + refusal, [0; 6]),
+        Err(refusal) => (REFUSED + refusal, [0; boards::NUMBERS]),
     };
-    lent(result, result_numbers)[..6].copy_from_slice(&numbers);
+    lent(result, result_numbers)[..boards::NUMBERS].copy_from_slice(&numbers);
     answer
 }
