@@ -60,4 +60,12 @@ show "$tejborun" import --data "$out/vu.bin" --code "$out/micro.bin" --log "$out
 show_different "$tejborun" compare "$out/difference.result" "$out/dumped.result" "$out/board.result"
 show_different "$tejborun" report "$out/difference.result" "$out/dumped.result" "$out/board.result" -o "$out/report.html"
 
+echo "6. The small unit: a capture on channel 0, and a board's own dumps of VIF0's memories compared with it."
+echo
+show "$tejborun" assemble capture "$here/vif0.capture.txt" -o "$out/vif0.capture"
+show "$tejborun" run "$out/vif0.capture" -o "$out/vif0.result"
+"$tejborun" export "$out/vif0.result" --data0 "$out/vu0.bin" --code0 "$out/micro0.bin" --log "$out/log0.bin"
+show "$tejborun" import --data0 "$out/vu0.bin" --code0 "$out/micro0.bin" --log "$out/log0.bin" -o "$out/vif0-board.result"
+show "$tejborun" compare "$out/vif0.result" "$out/vif0-board.result" --only data0,code0,log
+
 echo "Shown: a sheet's chain leaves what the sheet means, and a board that loses one count a vector is caught at its first vector."

@@ -51,7 +51,7 @@ int command_assemble(const struct words_given *given)
     if (kind == NULL)
         return complain(given->word[0], "no kind of file; give sheet, chain, state, capture or result");
     if (kind->assemble != assemble_capture && raw_option(given))
-        return complain(given->word[0], "takes no raw memories: --main, --data, --code and --log belong to a capture");
+        return complain(given->word[0], "takes no raw memories: --main, --data, --code, --data0, --code0 and --log belong to a capture");
     struct bytes file;
     const char *name = given->word[1];
     int status = read_file(name, TEXT_READ_BYTES, &file);

@@ -1,4 +1,4 @@
-/* Memories and log from text: the lines quadword, instruction and entry. */
+/* Memories and log from text: the lines quadword and instruction of each VIF, and entry. */
 #include "assemble_board.h"
 
 #include <inttypes.h>
@@ -9,12 +9,11 @@
 #include "numbers.h"
 #include "shapes.h"
 
-struct board_text new_board_text(struct memories lengths, size_t log_numbers)
+struct board_text new_board_text(struct counts count)
 {
-    struct board_text memory = {.board = new_board(lengths, log_numbers)};
-    memory.units[PART_DATA].given = allocate(board_quadwords(&memory.board), 1);
-    memory.units[PART_CODE].given = allocate(board_instructions(&memory.board), 1);
-    memory.units[PART_LOG].given = allocate(board_entries(&memory.board), 1);
+    struct board_text memory = {.board = new_board(count)};
+    for (size_t part = 0; part < PARTS; part++)
+        memory.units[part].given = allocate(board_units(&memory.board, part), 1);
     tejborun_reset(board_block(&memory.board), TEJBORUN_BLOCK_WORDS);
     return memory;
 }
@@ -26,10 +25,12 @@ void free_board_text(struct board_text *memory)
     free_board(&memory->board);
 }
 
-/* The number of a quadword, an instruction or an entry: below a limit, and given for the first time. */
-static int place_item(const struct text *text, const struct line *line, size_t limit, struct units_given *units, size_t *place)
+/* The number of a quadword, an instruction or an entry: one that there is, and given for the first time. */
+static int place_item(const struct text *text, const struct line *line, struct board_text *memory, enum part part, size_t *place)
 {
     uint64_t number;
+    size_t limit = board_units(&memory->board, part);
+    struct units_given *units = &memory->units[part];
     int status = number_item(text, line, 1, 64, &number);
     if (status != STATUS_DONE)
         return status;
@@ -44,37 +45,37 @@ static int place_item(const struct text *text, const struct line *line, size_t l
     return STATUS_DONE;
 }
 
-static int quadword_line(const struct text *text, const struct line *line, struct board_text *memory)
+static int quadword_line(const struct text *text, const struct line *line, struct board_text *memory, enum part part)
 {
     size_t place;
     int status = expect_items(text, line, 5, "its number and four words, X Y Z W");
     if (status == STATUS_DONE)
-        status = place_item(text, line, board_quadwords(&memory->board), &memory->units[PART_DATA], &place);
+        status = place_item(text, line, memory, part, &place);
     for (size_t i = 0; i < 4 && status == STATUS_DONE; i++)
-        status = word_item(text, line, 2 + i, &memory->board.data[4 * place + i]);
+        status = word_item(text, line, 2 + i, &board_quadword(&memory->board, part, place)[i]);
     return status;
 }
 
-static int instruction_line(const struct text *text, const struct line *line, struct board_text *memory)
+static int instruction_line(const struct text *text, const struct line *line, struct board_text *memory, enum part part)
 {
     size_t place;
     uint64_t instruction;
     int status = expect_items(text, line, 2, "its number and one number of 64 bits");
     if (status == STATUS_DONE)
-        status = place_item(text, line, board_instructions(&memory->board), &memory->units[PART_CODE], &place);
+        status = place_item(text, line, memory, part, &place);
     if (status == STATUS_DONE)
         status = number_item(text, line, 2, 64, &instruction);
     if (status == STATUS_DONE)
-        put_number(memory->board.code + 8 * place, instruction);
+        put_number(board_instruction(&memory->board, part, place), instruction);
     return status;
 }
 
-static int entry_line(const struct text *text, const struct line *line, struct board_text *memory)
+static int entry_line(const struct text *text, const struct line *line, struct board_text *memory, enum part part)
 {
     size_t place;
     int status = expect_items(text, line, 3, "its number, a register and a value");
     if (status == STATUS_DONE)
-        status = place_item(text, line, board_entries(&memory->board), &memory->units[PART_LOG], &place);
+        status = place_item(text, line, memory, part, &place);
     if (status == STATUS_DONE)
         status = register_item(text, line, 2, &board_entry(&memory->board, place)[TEJBORUN_ENTRY_REGISTER]);
     if (status == STATUS_DONE)
@@ -82,26 +83,25 @@ static int entry_line(const struct text *text, const struct line *line, struct b
     return status;
 }
 
-static int state_line(const struct text *text, const struct line *line, struct board_text *memory)
-{
-    return read_fields(text, line, &state_blocks[0], board_block(&memory->board), &memory->state_given);
-}
-
 struct board_line {
     const char *name;
-    int (*read)(const struct text *, const struct line *, struct board_text *);
+    enum part part;
+    int (*read)(const struct text *, const struct line *, struct board_text *, enum part);
 };
 
 static const struct board_line lines[] = {
-    {"state", state_line}, {"quadword", quadword_line}, {"instruction", instruction_line}, {"entry", entry_line},
+    {"quadword", PART_DATA, quadword_line},           {"instruction", PART_CODE, instruction_line}, {"vif0.quadword", PART_DATA0, quadword_line},
+    {"vif0.instruction", PART_CODE0, instruction_line}, {"entry", PART_LOG, entry_line},
 };
 
 int board_line(const struct text *text, const struct line *line, struct board_text *memory, bool *is_one)
 {
     *is_one = true;
+    if (strcmp(line->item[0], "state") == 0)
+        return read_fields(text, line, &state_blocks[0], board_block(&memory->board), &memory->state_given);
     for (size_t i = 0; i < sizeof lines / sizeof lines[0]; i++)
         if (strcmp(lines[i].name, line->item[0]) == 0)
-            return lines[i].read(text, line, memory);
+            return lines[i].read(text, line, memory, lines[i].part);
     *is_one = false;
     return STATUS_DONE;
 }

@@ -19,10 +19,13 @@ struct board_text {
     struct units_given units[PARTS];
 };
 
-struct board_text new_board_text(struct memories lengths, size_t log_numbers);
+struct board_text new_board_text(struct counts count);
 void free_board_text(struct board_text *memory);
 
-/* Reads a line state, quadword, instruction or entry; says whether it is one. A status. */
+/* The lines of a board's memories and log, for messages. */
+#define BOARD_LINES "quadword, instruction, vif0.quadword, vif0.instruction, entry"
+
+/* Reads a line state or one of these; says whether it is one. A status. */
 int board_line(const struct text *text, const struct line *line, struct board_text *memory, bool *is_one);
 
 /* After the last line: the entries used are those given, without a gap, unless a state line says how many. A status. */

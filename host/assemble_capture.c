@@ -27,7 +27,7 @@ static int head_line(const struct text *text, const struct line *line, struct pa
     return read_fields(text, line, &capture_heads[1], (uint32_t *)&parts->head, &parts->head_given);
 }
 
-/* A call; a run without an allowance has no limit. */
+/* A call: a start without a channel is on channel 1, a run without an allowance has no limit. */
 static int call_line(const struct text *text, const struct line *line, const struct shape *shape, struct parts *parts)
 {
     uint32_t words[CALL_WORDS] = {shape->fixed};
@@ -37,6 +37,8 @@ static int call_line(const struct text *text, const struct line *line, const str
         return status;
     if (shape == shape_named(calls, "run") && !is_given(shape, &given, "allowance"))
         split_number(UINT64_MAX, words + 1);
+    if (shape == shape_named(calls, "start") && !is_given(shape, &given, "channel"))
+        words[1] = 1;
     write_words(&parts->calls, words, CALL_WORDS);
     return STATUS_DONE;
 }
@@ -52,7 +54,7 @@ static int capture_line(const struct text *text, const struct line *line, struct
     const struct shape *call = shape_named(calls, line->item[0]);
     if (call != NULL)
         return call_line(text, line, call, parts);
-    return memory_line(text, line, ", and no capture, state, quadword, instruction, entry, start or run", &parts->main);
+    return memory_line(text, line, ", and no capture, state, " BOARD_LINES ", start or run", &parts->main);
 }
 
 static int read_parts(struct text *text, struct parts *parts)
@@ -72,17 +74,15 @@ static int read_parts(struct text *text, struct parts *parts)
 /* Reads the raw memories that the command's options name. */
 static int take_raw_memories(const struct text *text, struct parts *parts)
 {
-    static const enum option options[PARTS] = {[PART_DATA] = OPTION_DATA, [PART_CODE] = OPTION_CODE, [PART_LOG] = OPTION_LOG};
-    const size_t bytes[PARTS] = {4 * (size_t)parts->head.data_words, parts->head.code_bytes, 8 * (size_t)parts->head.log_numbers};
     int status = STATUS_DONE;
     for (size_t part = 0; part < PARTS && status == STATUS_DONE; part++) {
-        const char *name = text->given->option[options[part]];
+        const char *name = text->given->option[part_option(part)];
         struct units_given *units = &parts->memory.units[part];
         if (name == NULL)
             continue;
         if (units->end > 0)
             return complain(name, "%s has lines for this memory already", text->name);
-        status = read_raw(name, (enum part)part, bytes[part], &parts->memory.board, &units->end);
+        status = read_raw(name, part, parts->head.length[part], &parts->memory.board, &units->end);
         memset(units->given, true, units->end);
     }
     return status;
@@ -106,8 +106,10 @@ static int take_raw_main(const struct text *text, struct parts *parts)
 
 static bool gives_memory(const struct parts *parts)
 {
-    const struct units_given *units = parts->memory.units;
-    return units[PART_DATA].end > 0 || units[PART_CODE].end > 0 || units[PART_LOG].end > 0;
+    size_t units = 0;
+    for (size_t part = 0; part < PARTS; part++)
+        units += parts->memory.units[part].end;
+    return units > 0;
 }
 
 /* With a fill it is a test case. */
@@ -125,12 +127,10 @@ static int set_mark(const struct text *text, struct parts *parts)
 /* Counts the memories given; a test case gives none. */
 static int count_memories(const struct text *text, struct parts *parts)
 {
-    const struct units_given *units = parts->memory.units;
     if (is_test_case(&parts->head))
         return gives_memory(parts) ? complain(text->name, "has 'fill=' and gives a memory: give one or the other") : STATUS_DONE;
-    parts->head.first.data_words = (uint32_t)(4 * units[PART_DATA].end);
-    parts->head.first.code_bytes = (uint32_t)(8 * units[PART_CODE].end);
-    parts->head.first.log_numbers = (uint32_t)(TEJBORUN_ENTRY_NUMBERS * units[PART_LOG].end);
+    for (size_t part = 0; part < PARTS; part++)
+        parts->head.first[part] = (uint32_t)(parts->memory.units[part].end * part_shapes[part].unit_elements);
     return finish_board_text(text, &parts->memory);
 }
 
@@ -147,41 +147,42 @@ static int count_parts(const struct text *text, struct parts *parts)
     return status == STATUS_DONE ? check_head(text->name, &parts->head) : status;
 }
 
+/* Writes so many elements of a part. */
+static void write_part(struct output *output, const struct board *board, enum part part, size_t elements)
+{
+    size_t bytes = part_bytes(part, elements);
+    uint8_t *at = allocate(bytes, 1);
+    put_part(at, board, part, elements);
+    write_bytes(output, at, bytes);
+    free(at);
+}
+
 static void write_parts(struct parts *parts, struct output *output)
 {
     const struct capture_head *head = &parts->head;
     const struct board *board = &parts->memory.board;
-    write_words(output, (const uint32_t *)head, CAPTURE_HEAD_WORDS);
+    uint8_t bytes[sizeof *head];
+    put_head(bytes, head);
+    write_bytes(output, bytes, head_bytes(head));
     write_words(output, (const uint32_t *)&board->state, TEJBORUN_BLOCK_WORDS);
     write_bytes(output, parts->calls.at, parts->calls.count);
     write_bytes(output, parts->main.at, parts->main.count);
-    if (is_test_case(head))
-        return;
-    write_words(output, board->data, head->first.data_words);
-    write_bytes(output, board->code, head->first.code_bytes);
-    for (size_t i = 0; i < head->first.log_numbers; i++) {
-        uint8_t number[8];
-        put_number(number, board->log[i]);
-        write_bytes(output, number, 8);
-    }
+    for (size_t i = 0; i < PARTS; i++)
+        write_part(output, board, part_order[i], head->first[part_order[i]]);
 }
 
-/* The head where the text gives no field: VIF1's memories, and main memory and log as large as they can be. */
+/* The head where the text gives no field: each VIF's memories, and main memory and log as large as they can be. */
 static struct capture_head default_head(void)
 {
-    struct memories memories = memories_of(VIF1);
-    return (struct capture_head){
-        .main_bytes = TEJBORUN_MAIN_BYTES,
-        .data_words = (uint32_t)memories.data_words,
-        .code_bytes = (uint32_t)memories.code_bytes,
-        .log_numbers = TEJBORUN_LOG_NUMBERS,
-    };
+    struct capture_head head = {.main_bytes = TEJBORUN_MAIN_BYTES};
+    for (size_t part = 0; part < PARTS; part++)
+        head.length[part] = (uint32_t)part_shapes[part].usual;
+    return head;
 }
 
 int assemble_capture(struct text *text, struct output *output)
 {
-    struct memories longest = {CAPTURE_DATA_WORDS, CAPTURE_CODE_BYTES};
-    struct parts parts = {.head = default_head(), .memory = new_board_text(longest, CAPTURE_LOG_NUMBERS)};
+    struct parts parts = {.head = default_head(), .memory = new_board_text(most_counts())};
     int status = read_parts(text, &parts);
     if (status == STATUS_DONE)
         status = set_mark(text, &parts);

@@ -26,9 +26,8 @@ static int head_line(const struct text *text, const struct line *line, struct pa
         return status;
     if (!is_given(&result_heads[1], &parts->head_given, "parts"))
         parts->head.parts = PARTS_ALL;
-    else if (parts->head.parts == 0 || parts->head.parts >= PARTS_ALL)
-        return complain_at(text, line->number, "parts=%" PRIu32 ": name those of data, code and log that it has, and nothing where it has all",
-                           parts->head.parts);
+    else if (parts->head.parts == 0 || parts->head.parts > PARTS_ALL)
+        return complain_at(text, line->number, "parts=%" PRIu32 ": name those that it has, in the order %s", parts->head.parts, parts_names(PARTS_ALL));
     if ((parts->head.parts & PART_BIT(PART_LOG)) == 0)
         parts->head.log_numbers = 0;
     return STATUS_DONE;
@@ -41,7 +40,7 @@ static int result_line(const struct text *text, const struct line *line, struct 
         return head_line(text, line, parts);
     int status = board_line(text, line, &parts->memory, &is_one);
     if (!is_one)
-        return complain_at(text, line->number, "'%s' is no line of a result: result, state, quadword, instruction or entry", line->item[0]);
+        return complain_at(text, line->number, "'%s' is no line of a result: result, state, " BOARD_LINES, line->item[0]);
     for (size_t part = 0; part < PARTS && status == STATUS_DONE; part++)
         if (parts->memory.units[part].end > 0 && (parts->head.parts & PART_BIT(part)) == 0)
             return complain_at(text, line->number, "'%s': the result has %s alone", line->item[0], parts_words(parts->head.parts));
@@ -75,7 +74,7 @@ static int join_parts(const struct text *text, struct parts *parts, struct outpu
         return complain(text->name, "has no line 'result'");
     int status = finish_board_text(text, &parts->memory);
     struct result result = {.parts = parts->head.parts, .answer = parts->head.answer, .steps = join_words(parts->head.steps), .board = parts->memory.board};
-    result.board.log_numbers = parts->head.log_numbers;
+    result.board.count.of[PART_LOG] = parts->head.log_numbers;
     if (status == STATUS_DONE)
         status = board_fits(text->name, &result.board);
     if (status != STATUS_DONE)
@@ -88,7 +87,7 @@ static int join_parts(const struct text *text, struct parts *parts, struct outpu
 
 int assemble_result(struct text *text, struct output *output)
 {
-    struct parts parts = {.head.log_numbers = TEJBORUN_LOG_NUMBERS, .memory = new_board_text(memories_of(VIF1), TEJBORUN_LOG_NUMBERS)};
+    struct parts parts = {.head.log_numbers = TEJBORUN_LOG_NUMBERS, .memory = new_board_text(usual_counts(TEJBORUN_LOG_NUMBERS))};
     int status = read_parts(text, &parts);
     if (status == STATUS_DONE)
         status = join_parts(text, &parts, output);

@@ -7,53 +7,43 @@
 #include "files.h"
 #include "numbers.h"
 
-struct memories memories_of(enum vif unit)
+struct counts usual_counts(size_t log_numbers)
 {
-    static const struct memories all[] = {[VIF1] = {TEJBORUN_DATA_WORDS, TEJBORUN_CODE_BYTES}};
-    return all[unit];
+    struct counts count;
+    for (size_t part = 0; part < PARTS; part++)
+        count.of[part] = part_shapes[part].usual;
+    count.of[PART_LOG] = log_numbers;
+    return count;
 }
 
-const char *parts_words(unsigned parts)
+struct board new_board(struct counts count)
 {
-    static const char *const words[PARTS_ALL + 1] = {
-        "nothing",
-        "data memory",
-        "code memory",
-        "data memory and code memory",
-        "log",
-        "data memory and log",
-        "code memory and log",
-        "data memory, code memory and log",
-    };
-    return words[parts];
-}
-
-struct board new_board(struct memories lengths, size_t log_numbers)
-{
-    return (struct board){
-        .data_words = lengths.data_words,
-        .code_bytes = lengths.code_bytes,
-        .log_numbers = log_numbers,
-        .data = allocate(lengths.data_words, sizeof(uint32_t)),
-        .code = allocate(lengths.code_bytes, 1),
-        .log = allocate(log_numbers, sizeof(uint64_t)),
-    };
+    struct board board = {.count = count, .log = allocate(count.of[PART_LOG], sizeof *board.log)};
+    for (size_t vif = 0; vif < VIFS; vif++) {
+        board.data[vif] = allocate(count.of[data_of(vif)], sizeof *board.data[vif]);
+        board.code[vif] = allocate(count.of[code_of(vif)], 1);
+    }
+    return board;
 }
 
 struct board copy_board(const struct board *board)
 {
-    struct board copy = new_board((struct memories){board->data_words, board->code_bytes}, board->log_numbers);
+    struct board copy = new_board(board->count);
     copy.state = board->state;
-    memcpy(copy.data, board->data, board->data_words * sizeof *copy.data);
-    memcpy(copy.code, board->code, board->code_bytes);
-    memcpy(copy.log, board->log, board->log_numbers * sizeof *copy.log);
+    for (size_t vif = 0; vif < VIFS; vif++) {
+        memcpy(copy.data[vif], board->data[vif], board->count.of[data_of(vif)] * sizeof *copy.data[vif]);
+        memcpy(copy.code[vif], board->code[vif], board->count.of[code_of(vif)]);
+    }
+    memcpy(copy.log, board->log, board->count.of[PART_LOG] * sizeof *copy.log);
     return copy;
 }
 
 void free_board(struct board *board)
 {
-    free(board->data);
-    free(board->code);
+    for (size_t vif = 0; vif < VIFS; vif++) {
+        free(board->data[vif]);
+        free(board->code[vif]);
+    }
     free(board->log);
     *board = (struct board){0};
 }
@@ -61,6 +51,11 @@ void free_board(struct board *board)
 uint32_t *board_block(struct board *board)
 {
     return (uint32_t *)&board->state;
+}
+
+enum vif lent_vif(const struct tejborun_state *state)
+{
+    return state->chain.channel == 0 ? VIF0 : VIF1;
 }
 
 uint64_t board_used(const struct board *board)
@@ -73,19 +68,19 @@ void set_board_used(struct board *board, uint64_t used)
     split_number(used, board->state.chain.used);
 }
 
-size_t board_quadwords(const struct board *board)
+size_t board_units(const struct board *board, enum part part)
 {
-    return board->data_words / 4;
+    return board->count.of[part] / part_shapes[part].unit_elements;
 }
 
-size_t board_instructions(const struct board *board)
+uint32_t *board_quadword(const struct board *board, enum part part, size_t number)
 {
-    return board->code_bytes / 8;
+    return board->data[part_shapes[part].vif] + 4 * number;
 }
 
-size_t board_entries(const struct board *board)
+uint8_t *board_instruction(const struct board *board, enum part part, size_t number)
 {
-    return board->log_numbers / TEJBORUN_ENTRY_NUMBERS;
+    return board->code[part_shapes[part].vif] + 8 * number;
 }
 
 uint64_t *board_entry(const struct board *board, size_t number)
@@ -93,8 +88,53 @@ uint64_t *board_entry(const struct board *board, size_t number)
     return board->log + number * TEJBORUN_ENTRY_NUMBERS;
 }
 
-uint32_t compare_boards(const struct board *a, const struct board *b, uint64_t numbers[6])
+const void *board_unit(const struct board *board, enum part part, size_t number)
 {
-    return tejborun_compare(a->data, a->data_words, a->code, a->code_bytes, a->log, a->log_numbers, board_used(a), b->data, b->data_words, b->code,
-                            b->code_bytes, b->log, b->log_numbers, board_used(b), numbers, 6);
+    switch (part_shapes[part].memory) {
+    case MEMORY_DATA:
+        return board_quadword(board, part, number);
+    case MEMORY_CODE:
+        return board_instruction(board, part, number);
+    default:
+        return board_entry(board, number);
+    }
+}
+
+size_t part_bytes(enum part part, size_t elements)
+{
+    return elements * part_shapes[part].element_bytes;
+}
+
+size_t put_part(uint8_t *bytes, const struct board *board, enum part part, size_t elements)
+{
+    const struct part_shape *shape = &part_shapes[part];
+    if (shape->memory == MEMORY_DATA)
+        put_words(bytes, elements, board->data[shape->vif]);
+    else if (shape->memory == MEMORY_CODE)
+        memcpy(bytes, board->code[shape->vif], elements);
+    else
+        for (size_t i = 0; i < elements; i++)
+            put_number(bytes + 8 * i, board->log[i]);
+    return part_bytes(part, elements);
+}
+
+size_t get_part(const uint8_t *bytes, struct board *board, enum part part, size_t elements)
+{
+    const struct part_shape *shape = &part_shapes[part];
+    if (shape->memory == MEMORY_DATA)
+        get_words(bytes, elements, board->data[shape->vif]);
+    else if (shape->memory == MEMORY_CODE)
+        memcpy(board->code[shape->vif], bytes, elements);
+    else
+        for (size_t i = 0; i < elements; i++)
+            board->log[i] = get_number(bytes + 8 * i);
+    return part_bytes(part, elements);
+}
+
+uint32_t compare_boards(const struct board *a, const struct board *b, unsigned parts, uint64_t numbers[TEJBORUN_COMPARED])
+{
+    const size_t *n = a->count.of, *m = b->count.of;
+    return tejborun_compare(a->data[VIF1], n[PART_DATA], a->code[VIF1], n[PART_CODE], a->data[VIF0], n[PART_DATA0], a->code[VIF0], n[PART_CODE0], a->log,
+                            n[PART_LOG], board_used(a), b->data[VIF1], m[PART_DATA], b->code[VIF1], m[PART_CODE], b->data[VIF0], m[PART_DATA0],
+                            b->code[VIF0], m[PART_CODE0], b->log, m[PART_LOG], board_used(b), parts, numbers, TEJBORUN_COMPARED);
 }

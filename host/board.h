@@ -1,4 +1,4 @@
-/* What a board holds: state, data memory, code memory and log; and the result file, which keeps it (docs/FORMATS.md). */
+/* What a board holds: state, the memories of both VIFs and log; and the result file, which keeps it (docs/FORMATS.md). */
 #ifndef BOARD_H
 #define BOARD_H
 
@@ -10,30 +10,63 @@
 #include "sum.h"
 #include "tejborun.h"
 
-/* A VIF unit, and the lengths of its memories. */
-enum vif { VIF1 };
+enum vif { VIF1, VIF0, VIFS };
 
-struct memories {
-    size_t data_words, code_bytes;
-};
-
-struct memories memories_of(enum vif unit);
-
-/* What is compared: the memories and the log. */
-enum part { PART_DATA, PART_CODE, PART_LOG, PARTS };
+/* What is compared: the memories and the log, in the order of the library's numbers. */
+enum part { PART_DATA, PART_CODE, PART_LOG, PART_DATA0, PART_CODE0, PARTS };
 
 /* Sets of parts. */
 #define PART_BIT(part) (1u << (part))
-#define PARTS_ALL (PART_BIT(PARTS) - 1u)
+#define PARTS_ALL TEJBORUN_PARTS
 
-/* A set of parts in words: "data memory and log". */
+_Static_assert(PART_BIT(PART_DATA) == TEJBORUN_PART_VIF1_DATA && PART_BIT(PART_CODE) == TEJBORUN_PART_VIF1_CODE, "VIF1's parts");
+_Static_assert(PART_BIT(PART_DATA0) == TEJBORUN_PART_VIF0_DATA && PART_BIT(PART_CODE0) == TEJBORUN_PART_VIF0_CODE, "VIF0's parts");
+_Static_assert(PART_BIT(PART_LOG) == TEJBORUN_PART_LOG && PART_BIT(PARTS) - 1 == TEJBORUN_PARTS && 2 * PARTS == TEJBORUN_COMPARED, "the parts");
+
+/* A part: its elements are words of data memory, bytes of code memory or numbers of the log, its units quadwords, instructions or entries. */
+enum memory { MEMORY_DATA, MEMORY_CODE, MEMORY_LOG };
+
+struct part_shape {
+    enum memory memory;
+    enum vif vif; /* not of the log */
+    size_t element_bytes, unit_elements;
+    size_t usual;           /* elements of the memory; the most of the log */
+    const char *name;       /* as in options and in text */
+    const char *words;      /* "VIF1's data memory" */
+    const char *elements;   /* "words" */
+    const char *whose;      /* before a unit where it stands alone: "VIF0 "; nothing for VIF1's */
+    const char *one, *many; /* units: "quadword", "quadwords" */
+};
+
+extern const struct part_shape part_shapes[PARTS];
+
+/* The parts in the order in which files hold them and in which they are shown. */
+extern const enum part part_order[PARTS];
+
+/* The data and the code memory of a VIF. */
+enum part data_of(enum vif vif);
+enum part code_of(enum vif vif);
+
+/* The parts that a run on a VIF works on: both, and the log. */
+unsigned parts_of(enum vif vif);
+
+/* A set of parts in words, "VIF1's data memory and log", and by their names with a mark between them, "data+log". The text stays. */
 const char *parts_words(unsigned parts);
+const char *parts_names(unsigned parts);
+
+/* How many elements of each part. */
+struct counts {
+    size_t of[PARTS];
+};
+
+/* Those of the memories, and so many numbers of the log. */
+struct counts usual_counts(size_t log_numbers);
 
 struct board {
     struct tejborun_state state;
-    size_t data_words, code_bytes, log_numbers;
-    uint32_t *data;
-    uint8_t *code;
+    struct counts count;
+    uint32_t *data[VIFS];
+    uint8_t *code[VIFS];
     uint64_t *log;
 };
 
@@ -45,38 +78,47 @@ struct result {
     char sum[SUM_TEXT]; /* of the file that it was read from */
 };
 
-/* The head of a result file; memories and log follow. */
+/* The head of a result file; the parts that it has follow. */
 struct result_head {
     uint32_t mark, answer, steps[2];
     struct tejborun_state state;
     uint32_t log_numbers;
-    uint32_t parts; /* only in a result that lacks some */
+    uint32_t parts;
 };
 
 enum { RESULT_HEAD_WORDS = TEJBORUN_WORDS_OF(struct result_head) };
 
 /* A board of these lengths, all zero. The caller frees it. */
-struct board new_board(struct memories lengths, size_t log_numbers);
+struct board new_board(struct counts count);
 struct board copy_board(const struct board *board);
 void free_board(struct board *board);
 
 /* The state as the library has it. */
 uint32_t *board_block(struct board *board);
 
+/* The VIF whose memories a run on this state is lent. */
+enum vif lent_vif(const struct tejborun_state *state);
+
 /* Log entries used. */
 uint64_t board_used(const struct board *board);
 void set_board_used(struct board *board, uint64_t used);
 
-/* How many of each the board has room for. */
-size_t board_quadwords(const struct board *board);
-size_t board_instructions(const struct board *board);
-size_t board_entries(const struct board *board);
+/* How many units of a part the board has room for. */
+size_t board_units(const struct board *board, enum part part);
 
-/* The numbers of an entry of the log. */
+/* A quadword, an instruction and an entry of the log, and any unit as it lies in memory. */
+uint32_t *board_quadword(const struct board *board, enum part part, size_t number);
+uint8_t *board_instruction(const struct board *board, enum part part, size_t number);
 uint64_t *board_entry(const struct board *board, size_t number);
+const void *board_unit(const struct board *board, enum part part, size_t number);
 
-/* Compares by the library: its answer, and its six numbers. */
-uint32_t compare_boards(const struct board *a, const struct board *b, uint64_t numbers[6]);
+/* So many elements of a part as bytes of a file, and from them; how many bytes. */
+size_t put_part(uint8_t *bytes, const struct board *board, enum part part, size_t elements);
+size_t get_part(const uint8_t *bytes, struct board *board, enum part part, size_t elements);
+size_t part_bytes(enum part part, size_t elements);
+
+/* Compares parts by the library: its answer, and its numbers. */
+uint32_t compare_boards(const struct board *a, const struct board *b, unsigned parts, uint64_t numbers[TEJBORUN_COMPARED]);
 
 /* Whether a result file can keep a board of these lengths; complains if not. */
 int board_fits(const char *name, const struct board *board);

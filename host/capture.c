@@ -10,9 +10,14 @@
 #include "numbers.h"
 #include "shapes.h"
 
-struct limit {
-    uint32_t value, most;
-    const char *what;
+/* The words of a head in the order of its file, by their places in the struct. */
+#define AT(member) (offsetof(struct capture_head, member) / sizeof(uint32_t))
+#define IN_ORDER(list) AT(list[PART_DATA]), AT(list[PART_CODE]), AT(list[PART_DATA0]), AT(list[PART_CODE0]), AT(list[PART_LOG])
+
+static const uint8_t capture_words[] = {AT(mark), AT(main_bytes), AT(given), IN_ORDER(length), IN_ORDER(first), AT(calls)};
+static const uint8_t test_case_words[] = {
+    AT(mark),    AT(main_bytes), AT(given), AT(length[PART_DATA]), AT(length[PART_CODE]),  AT(length[PART_LOG]),
+    AT(fill[0]), AT(fill[1]),    AT(whole), AT(calls),             AT(length[PART_DATA0]), AT(length[PART_CODE0]),
 };
 
 bool is_test_case(const struct capture_head *head)
@@ -20,120 +25,148 @@ bool is_test_case(const struct capture_head *head)
     return head->mark == capture_heads[1].fixed;
 }
 
-static int check_limits(const char *name, const struct limit *limits, size_t count)
+static const uint8_t *head_words(const struct capture_head *head)
 {
-    for (size_t i = 0; i < count; i++)
-        if (limits[i].value > limits[i].most)
-            return complain(name, "damaged capture: %" PRIu32 " %s; the most is %" PRIu32, limits[i].value, limits[i].what, limits[i].most);
-    return STATUS_DONE;
+    return is_test_case(head) ? test_case_words : capture_words;
 }
 
-/* The memories given: no more than there is, in whole quadwords, instructions and entries. */
-static int check_first(const char *name, const struct capture_head *head)
+size_t head_bytes(const struct capture_head *head)
 {
-    const struct limit limits[] = {
-        {head->first.data_words, head->data_words, "words given of data memory"},
-        {head->first.code_bytes, head->code_bytes, "bytes given of code memory"},
-        {head->first.log_numbers, head->log_numbers, "numbers given of the log"},
-        {head->first.data_words % 4, 0, "words given of a quadword"},
-        {head->first.code_bytes % 8, 0, "bytes given of an instruction"},
-        {head->first.log_numbers % TEJBORUN_ENTRY_NUMBERS, 0, "numbers given of an entry"},
-    };
-    return check_limits(name, limits, sizeof limits / sizeof limits[0]);
+    return 4 * (is_test_case(head) ? sizeof test_case_words : sizeof capture_words);
+}
+
+void put_head(uint8_t *bytes, const struct capture_head *head)
+{
+    for (size_t i = 0; i < head_bytes(head) / 4; i++)
+        put_word(bytes + 4 * i, ((const uint32_t *)head)[head_words(head)[i]]);
+}
+
+/* Reads a head whose mark has been read. */
+static void get_head(const uint8_t *bytes, struct capture_head *head)
+{
+    for (size_t i = 0; i < head_bytes(head) / 4; i++)
+        ((uint32_t *)head)[head_words(head)[i]] = get_word(bytes + 4 * i);
+}
+
+/* Bytes of a file before its calls. */
+static size_t calls_at(const struct capture_head *head)
+{
+    return head_bytes(head) + 4 * TEJBORUN_BLOCK_WORDS;
+}
+
+struct counts most_counts(void)
+{
+    struct counts most;
+    for (size_t part = 0; part < PARTS; part++)
+        most.of[part] = part_shapes[part].usual + (part_shapes[part].memory == MEMORY_DATA ? 4 : 8);
+    return most;
+}
+
+size_t longest_capture(void)
+{
+    const struct counts most = most_counts();
+    size_t length = 4 * (sizeof capture_words + TEJBORUN_BLOCK_WORDS) + CAPTURE_CALLS * CALL_BYTES + CAPTURE_MAIN_BYTES;
+    for (size_t part = 0; part < PARTS; part++)
+        length += part_bytes(part, most.of[part]);
+    return length;
+}
+
+/* Complains where a number of a head is above its most: so many of what. */
+static int check_limit(const char *name, uint32_t value, size_t most, const char *elements, const char *of, const char *what)
+{
+    if (value <= most)
+        return STATUS_DONE;
+    return complain(name, "damaged capture: %" PRIu32 " %s%s%s; the most is %zu", value, elements, of, what, most);
+}
+
+/* Tests a part's length, and how much of it is given: no more than there is, in whole units. */
+static int check_part(const char *name, const struct capture_head *head, enum part part)
+{
+    const struct part_shape *shape = &part_shapes[part];
+    const char *words = shape->memory == MEMORY_LOG ? "the log" : shape->words;
+    int status = check_limit(name, head->length[part], most_counts().of[part], shape->elements, " of ", words);
+    if (status == STATUS_DONE)
+        status = check_limit(name, head->first[part], head->length[part], shape->elements, " given of ", words);
+    if (status == STATUS_DONE)
+        status = check_limit(name, head->first[part] % shape->unit_elements, 0, shape->elements, " given beyond whole ", shape->many);
+    return status;
 }
 
 int check_head(const char *name, const struct capture_head *head)
 {
-    const struct limit limits[] = {
-        {head->main_bytes, CAPTURE_MAIN_BYTES, "bytes of main memory"},
-        {head->given, head->main_bytes / 4, "words given of main memory"},
-        {head->data_words, CAPTURE_DATA_WORDS, "words of data memory"},
-        {head->code_bytes, CAPTURE_CODE_BYTES, "bytes of code memory"},
-        {head->log_numbers, CAPTURE_LOG_NUMBERS, "numbers of the log"},
-        {head->calls, CAPTURE_CALLS, "calls"},
-        {is_test_case(head) ? head->test.whole : 0, 1, "for whole memories"},
-    };
-    int status = check_limits(name, limits, sizeof limits / sizeof limits[0]);
-    return status == STATUS_DONE && !is_test_case(head) ? check_first(name, head) : status;
+    int status = check_limit(name, head->main_bytes, CAPTURE_MAIN_BYTES, "bytes", " of ", "main memory");
+    if (status == STATUS_DONE)
+        status = check_limit(name, head->given, head->main_bytes / 4, "words", " given of ", "main memory");
+    for (size_t part = 0; part < PARTS && status == STATUS_DONE; part++)
+        status = check_part(name, head, part);
+    if (status == STATUS_DONE)
+        status = check_limit(name, head->calls, CAPTURE_CALLS, "calls", "", "");
+    if (status == STATUS_DONE)
+        status = check_limit(name, head->whole, 1, "for", " ", "whole memories");
+    return status;
 }
 
-/* Bytes of a capture file with a state block of so many words. */
-static size_t capture_length(const struct capture_head *head, size_t state_words)
+/* Bytes of a capture file. */
+static size_t capture_length(const struct capture_head *head)
 {
-    size_t length = 4 * (CAPTURE_HEAD_WORDS + state_words) + (size_t)head->calls * CALL_BYTES + (size_t)head->given * 4;
-    if (!is_test_case(head))
-        length += (size_t)head->first.data_words * 4 + head->first.code_bytes + (size_t)head->first.log_numbers * 8;
+    size_t length = calls_at(head) + (size_t)head->calls * CALL_BYTES + (size_t)head->given * 4;
+    for (size_t part = 0; part < PARTS; part++)
+        length += part_bytes(part, head->first[part]);
     return length;
-}
-
-/* The first call that is of no kind in a file with a state block of so many words; the number of calls where each is of one. */
-static size_t first_unknown(const struct bytes *file, const struct capture_head *head, size_t state_words)
-{
-    const uint8_t *calls_at = file->at + 4 * (CAPTURE_HEAD_WORDS + state_words);
-    for (size_t i = 0; i < head->calls; i++)
-        if (shape_of(calls, get_word(calls_at + CALL_BYTES * i)) == NULL)
-            return i;
-    return head->calls;
-}
-
-static bool is_whole(const struct bytes *file, size_t state_words)
-{
-    struct capture_head head;
-    get_words(file->at, CAPTURE_HEAD_WORDS, (uint32_t *)&head);
-    return file->count == capture_length(&head, state_words) && first_unknown(file, &head, state_words) == head.calls;
 }
 
 /* Tests the file's length and the kinds of its calls. */
 static int check_rest(const char *name, const struct bytes *file, const struct capture_head *head)
 {
-    size_t length = capture_length(head, TEJBORUN_BLOCK_WORDS);
+    size_t length = capture_length(head);
     if (file->count < length)
         return complain(name, "damaged capture: %zu bytes; its head says %zu", file->count, length);
     if (file->count > length)
         return complain(name, "%zu bytes, but its case ends after %zu: give a capture of one case", file->count, length);
-    size_t unknown = first_unknown(file, head, TEJBORUN_BLOCK_WORDS);
-    if (unknown < head->calls)
-        return complain(name, "damaged capture: call %zu is of kind %" PRIu32 "; 1 is a start, 2 a run", unknown,
-                        get_word(file->at + CAPTURE_CALLS_AT + CALL_BYTES * unknown));
+    for (size_t i = 0; i < head->calls; i++) {
+        uint32_t kind = get_word(file->at + calls_at(head) + CALL_BYTES * i);
+        if (shape_of(calls, kind) == NULL)
+            return complain(name, "damaged capture: call %zu is of kind %" PRIu32 "; 1 is a start, 2 a run", i, kind);
+    }
     return STATUS_DONE;
 }
 
-/* Tests mark, layout, limits and lengths; reads the head. */
+/* Tests mark, limits and lengths; reads the head. */
 static int check_capture(const char *name, const struct bytes *file, struct capture_head *head)
 {
-    if (!has_mark(file, &capture_heads[0]) && !has_mark(file, &capture_heads[1]))
-        return complain_of_mark(name, file, &capture_heads[0]);
-    if (file->count >= 4 * CAPTURE_HEAD_WORDS && check_layout(name, "capture", file, is_whole) != STATUS_DONE)
-        return STATUS_BAD;
-    if (file->count < CAPTURE_CALLS_AT)
-        return complain(name, "damaged capture: %zu bytes, cut within its head of %d", file->count, CAPTURE_CALLS_AT);
-    get_words(file->at, CAPTURE_HEAD_WORDS, (uint32_t *)head);
-    int status = check_head(name, head);
+    int status = check_mark(name, file, capture_heads);
+    if (status != STATUS_DONE)
+        return status;
+    head->mark = get_word(file->at);
+    if (file->count < calls_at(head))
+        return complain(name, "damaged capture: %zu bytes, cut within its head of %zu", file->count, calls_at(head));
+    get_head(file->at, head);
+    status = check_head(name, head);
     return status == STATUS_DONE ? check_rest(name, file, head) : status;
 }
 
-/* The memories of a test case. */
+/* The memories of a test case, by its number for each of them. */
 static void fill_board(const struct capture_head *head, struct board *board)
 {
-    const uint64_t k = UINT64_C(0x9E3779B97F4A7C15);
-    uint64_t fill = join_words(head->test.fill);
-    for (size_t i = 0; i < board->data_words; i++)
-        board->data[i] = (uint32_t)(fill + i * k);
-    for (size_t i = 0; i < board->code_bytes; i++)
-        board->code[i] = (uint8_t)(fill + 1 + i * k);
-    for (size_t i = 0; i < board->log_numbers; i++)
-        board->log[i] = fill + 2 + i * k;
+    static const uint64_t more[PARTS] = {[PART_DATA] = 0, [PART_CODE] = 1, [PART_LOG] = 2, [PART_DATA0] = 5, [PART_CODE0] = 6};
+    const uint64_t k = UINT64_C(0x9E3779B97F4A7C15), fill = join_words(head->fill);
+    for (size_t vif = 0; vif < VIFS; vif++) {
+        for (size_t i = 0; i < board->count.of[data_of(vif)]; i++)
+            board->data[vif][i] = (uint32_t)(fill + more[data_of(vif)] + i * k);
+        for (size_t i = 0; i < board->count.of[code_of(vif)]; i++)
+            board->code[vif][i] = (uint8_t)(fill + more[code_of(vif)] + i * k);
+    }
+    for (size_t i = 0; i < board->count.of[PART_LOG]; i++)
+        board->log[i] = fill + more[PART_LOG] + i * k;
 }
 
-/* The memories that a capture gives, from their bytes. */
-static void read_board(const struct capture_head *head, const uint8_t *at, struct board *board)
+/* A board of a capture's lengths. */
+static struct board board_of(const struct capture_head *head)
 {
-    get_words(at, head->first.data_words, board->data);
-    at += 4 * (size_t)head->first.data_words;
-    memcpy(board->code, at, head->first.code_bytes);
-    at += head->first.code_bytes;
-    for (size_t i = 0; i < head->first.log_numbers; i++)
-        board->log[i] = get_number(at + 8 * i);
+    struct counts count;
+    for (size_t part = 0; part < PARTS; part++)
+        count.of[part] = head->length[part];
+    return new_board(count);
 }
 
 int parse_capture(const char *name, const struct bytes *file, struct capture *capture)
@@ -143,8 +176,8 @@ int parse_capture(const char *name, const struct bytes *file, struct capture *ca
     int status = check_capture(name, file, &capture->head);
     if (status != STATUS_DONE)
         return status;
-    const uint8_t *at = file->at + 4 * CAPTURE_HEAD_WORDS;
-    capture->board = new_board((struct memories){head->data_words, head->code_bytes}, head->log_numbers);
+    const uint8_t *at = file->at + head_bytes(head);
+    capture->board = board_of(head);
     get_words(at, TEJBORUN_BLOCK_WORDS, board_block(&capture->board));
     at += 4 * TEJBORUN_BLOCK_WORDS;
     capture->call = allocate(head->calls, sizeof *capture->call);
@@ -155,15 +188,15 @@ int parse_capture(const char *name, const struct bytes *file, struct capture *ca
     at += 4 * (size_t)head->given;
     if (is_test_case(head))
         fill_board(head, &capture->board);
-    else
-        read_board(head, at, &capture->board);
+    for (size_t i = 0; i < PARTS; i++)
+        at += get_part(at, &capture->board, part_order[i], head->first[part_order[i]]);
     return STATUS_DONE;
 }
 
 int read_capture(const char *name, struct capture *capture)
 {
     struct bytes file;
-    int status = read_file(name, 64 * (size_t)CAPTURE_BYTES, &file);
+    int status = read_file(name, 64 * longest_capture(), &file);
     if (status != STATUS_DONE)
         return status;
     status = parse_capture(name, &file, capture);

@@ -7,35 +7,29 @@
 
 #include "board.h"
 
-/* What a capture file begins with; the state block, the calls, main memory and the memories given follow. */
+/* What a capture file begins with; the state block, the calls, main memory and the memories given follow. The words stand in a file in another order. */
 struct capture_head {
     uint32_t mark, main_bytes;
-    uint32_t given; /* words of main memory */
-    uint32_t data_words, code_bytes, log_numbers;
-    union {
-        struct {
-            uint32_t data_words, code_bytes, log_numbers;
-        } first; /* how much of the memories and the log is given; the rest is zero */
-        struct {
-            uint32_t fill[2], whole;
-        } test; /* of a test case */
-    };
+    uint32_t given;          /* words of main memory */
+    uint32_t length[PARTS];  /* elements of the memories and the log */
+    uint32_t first[PARTS];   /* how many of them are given; the rest is zero. Of a test case none is */
+    uint32_t fill[2], whole; /* of a test case */
     uint32_t calls;
 };
 
-enum { CAPTURE_HEAD_WORDS = TEJBORUN_WORDS_OF(struct capture_head), CALL_WORDS = 4, CALL_BYTES = 4 * CALL_WORDS };
-enum { CAPTURE_CALLS_AT = 4 * (CAPTURE_HEAD_WORDS + TEJBORUN_BLOCK_WORDS) };
+enum { CALL_WORDS = 4, CALL_BYTES = 4 * CALL_WORDS };
 
 /* The most that a capture gives: a little more than a run takes, so that its refusals can be seen. */
 enum {
     CAPTURE_MAIN_BYTES = TEJBORUN_MAIN_BYTES + 32,
-    CAPTURE_DATA_WORDS = TEJBORUN_DATA_WORDS + 4,
-    CAPTURE_CODE_BYTES = TEJBORUN_CODE_BYTES + 8,
-    CAPTURE_LOG_NUMBERS = TEJBORUN_LOG_NUMBERS + 8,
     CAPTURE_CALLS = 65535,
-    CAPTURE_MEMORY_BYTES = CAPTURE_MAIN_BYTES + 4 * CAPTURE_DATA_WORDS + CAPTURE_CODE_BYTES + 8 * CAPTURE_LOG_NUMBERS,
-    CAPTURE_BYTES = CAPTURE_CALLS_AT + CAPTURE_CALLS * CALL_BYTES + CAPTURE_MEMORY_BYTES,
 };
+
+/* The most elements of each part. */
+struct counts most_counts(void);
+
+/* Bytes of the longest capture file. */
+size_t longest_capture(void);
 
 struct call {
     uint32_t words[CALL_WORDS]; /* a start: 1, channel, TADR, TTE; a run: 2, the allowance, 0 */
@@ -50,6 +44,10 @@ struct capture {
 
 /* Whether it is a test case: its memories are filled, none is given. */
 bool is_test_case(const struct capture_head *head);
+
+/* Bytes of a head in its file, and the head as such bytes. */
+size_t head_bytes(const struct capture_head *head);
+void put_head(uint8_t *bytes, const struct capture_head *head);
 
 /* Tests the head's limits; complains of the first that is broken. */
 int check_head(const char *name, const struct capture_head *head);

@@ -6,22 +6,24 @@
 
 #include "words.h"
 
-/* The last of the units of so many bytes that differs; one does. */
-static size_t last_change(const void *before, const void *after, size_t count, size_t bytes)
+/* The last unit of a part that differs; one does. */
+static size_t last_change(const struct board *before, const struct board *after, enum part part)
 {
-    const uint8_t *a = before, *b = after;
-    while (count > 0 && memcmp(a + (count - 1) * bytes, b + (count - 1) * bytes, bytes) == 0)
+    size_t count = board_units(before, part), bytes = part_bytes(part, part_shapes[part].unit_elements);
+    while (count > 0 && memcmp(board_unit(before, part, count - 1), board_unit(after, part, count - 1), bytes) == 0)
         count--;
     return count - 1;
 }
 
-static void print_memory(const char *name, const char *one, const char *many, uint64_t first, uint64_t count, size_t last)
+static void print_memory(const struct board *before, const struct board *after, enum part part, const uint64_t *numbers)
 {
-    say("  %s: ", name);
+    const struct part_shape *shape = &part_shapes[part];
+    uint64_t first = numbers[2 * part], count = numbers[2 * part + 1];
+    say("  %s: ", shape->words);
     if (count == 0)
         say("nothing changed\n");
     else
-        say("%" PRIu64 " %s changed, first %" PRIu64 ", last %zu\n", count, plural(count, one, many), first, last);
+        say("%" PRIu64 " %s changed, first %" PRIu64 ", last %zu\n", count, plural(count, shape->one, shape->many), first, last_change(before, after, part));
 }
 
 static void print_log(uint64_t before, uint64_t after)
@@ -33,17 +35,25 @@ static void print_log(uint64_t before, uint64_t after)
         say("  log: %" PRIu64 " %s added, first %" PRIu64 ", last %" PRIu64 "\n", more, plural(more, "entry", "entries"), before, after - 1);
 }
 
-void print_changes(const struct board *before, const struct board *after)
+/* Prints the changes of a VIF's memories; whether a run with these lengths is not refused. */
+static bool print_memories(const struct board *before, const struct board *after, enum vif vif)
 {
-    uint64_t numbers[6] = {0};
-    uint32_t answer = compare_boards(before, after, numbers);
-    if (answer >= TEJBORUN_REFUSED) {
-        say("  memories and log: untouched, with these lengths every run is refused\n");
-        return;
+    uint64_t numbers[TEJBORUN_COMPARED] = {0};
+    if (compare_boards(before, after, parts_of(vif), numbers) >= TEJBORUN_REFUSED) {
+        say("  %s and log: untouched, with these lengths every run is refused\n", vif == VIF0 ? "VIF0's memories" : "VIF1's memories");
+        return false;
     }
-    size_t quadword = numbers[1] > 0 ? last_change(before->data, after->data, board_quadwords(before), 16) : 0;
-    size_t instruction = numbers[3] > 0 ? last_change(before->code, after->code, board_instructions(before), 8) : 0;
-    print_memory("data memory", "quadword", "quadwords", numbers[0], numbers[1], quadword);
-    print_memory("code memory", "instruction", "instructions", numbers[2], numbers[3], instruction);
-    print_log(board_used(before), board_used(after));
+    print_memory(before, after, data_of(vif), numbers);
+    print_memory(before, after, code_of(vif), numbers);
+    return true;
+}
+
+void print_changes(const struct board *before, const struct board *after, const bool lent[VIFS])
+{
+    bool any = false;
+    for (size_t vif = 0; vif < VIFS; vif++)
+        if (lent[vif])
+            any |= print_memories(before, after, vif);
+    if (any)
+        print_log(board_used(before), board_used(after));
 }

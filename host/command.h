@@ -6,16 +6,21 @@
 #include <stddef.h>
 #include <stdint.h>
 
+#include "board.h"
+
 enum option {
     OPTION_OUTPUT,
     OPTION_ALLOWANCE,
     OPTION_FROM,
     OPTION_NO_START,
-    OPTION_MAIN,
+    OPTION_MAIN, /* from here to OPTION_LOG: raw memories */
     OPTION_DATA,
     OPTION_CODE,
+    OPTION_DATA0,
+    OPTION_CODE0,
     OPTION_LOG,
     OPTION_ALL,
+    OPTION_ONLY,
     OPTION_UNFINISHED,
     OPTION_QUIET,
     OPTION_JSON,
@@ -28,6 +33,7 @@ struct words_given {
     const char **word;           /* without the options */
     const char *option[OPTIONS]; /* their values, empty for those without; null where not given */
     uint64_t allowance;
+    unsigned only; /* parts; all where not given */
 };
 
 /* Each does its command and hands back the exit status. */
@@ -45,6 +51,9 @@ struct command {
 };
 
 #define TAKES(option) (1u << (option))
+
+/* The option of a part's raw file. */
+enum option part_option(enum part part);
 
 /* Takes the words after the command's name. A status; the caller frees given->word. */
 int take_words(const struct command *command, int count, char **words, struct words_given *given);

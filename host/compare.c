@@ -8,30 +8,39 @@
 #include "command.h"
 #include "words.h"
 
-const struct part_words part_words[PARTS] = {
-    [PART_DATA] = {"data memory", "quadword", "quadwords"},
-    [PART_CODE] = {"code memory", "instruction", "instructions"},
-    [PART_LOG] = {"log", "entry", "entries"},
-};
-
-const char *verdict_words(const struct rack *rack, const struct compared *compared)
+void verdict_words(const struct rack *rack, const struct compared *compared, char words[VERDICT_TEXT])
 {
-    static const char *const finished[VERDICTS] = {"equal", "different", "refused", "no verdict"};
-    static const char *const unfinished[VERDICTS] = {"equal to an unfinished result", "different from an unfinished result", "refused", "no verdict"};
-    if (compared->board == NULL)
-        return "not read";
-    return rack->result->answer == TEJBORUN_DONE ? finished[compared->comparison.verdict] : unfinished[compared->comparison.verdict];
+    static const char *const finished[VERDICTS] = {"equal", "equal", "different", "refused", "no verdict"};
+    static const char *const unfinished[VERDICTS] = {"equal to an unfinished result", "equal to an unfinished result", "different from an unfinished result",
+                                                     "refused", "no verdict"};
+    const struct comparison *comparison = &compared->comparison;
+    const char *const *texts = rack->result->answer == TEJBORUN_DONE ? finished : unfinished;
+    const char *text = compared->board == NULL ? "not read" : texts[comparison->verdict];
+    if (compared->board == NULL || !is_compared(comparison->verdict) || comparison->parts == PARTS_ALL)
+        snprintf(words, VERDICT_TEXT, "%s", text);
+    else
+        snprintf(words, VERDICT_TEXT, "%s%s in %s", text, comparison->verdict == VERDICT_DIFFERENT ? "; compared" : "", parts_words(comparison->parts));
+}
+
+/* Says which parts are lacking. */
+static void complain_of_parts(const struct words_given *given, const struct rack *rack, const struct compared *compared)
+{
+    const char *has = parts_words(rack->result->parts), *board_has = parts_words(compared->board->parts);
+    if (given->option[OPTION_ONLY] != NULL)
+        complain("compare", "%s: no verdict: asked for %s; %s has %s, %s %s", compared->name, parts_words(given->only), rack->name, has, compared->name,
+                 board_has);
+    else
+        complain("compare", "%s: no verdict: %s has %s, %s %s; they have nothing in common", compared->name, rack->name, has, compared->name, board_has);
 }
 
 /* Says why there is no verdict on a board. */
-static void complain_of_verdict(const struct rack *rack, const struct compared *compared)
+static void complain_of_verdict(const struct words_given *given, const struct rack *rack, const struct compared *compared)
 {
     const struct comparison *comparison = &compared->comparison;
     if (comparison->verdict == VERDICT_REFUSED)
         complain("compare", "%s and %s: refused %" PRIu32 ": %s", rack->name, compared->name, comparison->refusal, tejborun_message(comparison->refusal));
     if (comparison->verdict == VERDICT_NONE && comparison->reason == REASON_PARTS)
-        complain("compare", "%s: no verdict: %s has %s, %s %s; only whole results are compared", compared->name, rack->name,
-                 parts_words(rack->result->parts), compared->name, parts_words(compared->board->parts));
+        complain_of_parts(given, rack, compared);
     if (comparison->verdict == VERDICT_NONE && comparison->reason == REASON_UNFINISHED)
         complain("compare", "%s: no verdict: %s is unfinished, its answer is %" PRIu32 ": %s; --unfinished compares it all the same", compared->name,
                  rack->name, rack->result->answer, tejborun_message(rack->result->answer));
@@ -58,10 +67,11 @@ static void compare_board(const struct words_given *given, show_compared *show, 
     struct result board;
     struct compared compared = {.name = name, .status = read_result(name, &board)};
     if (compared.status == STATUS_DONE) {
+        const struct wanted wanted = {given->only, given->option[OPTION_ONLY] != NULL, given->option[OPTION_UNFINISHED] != NULL};
         compared.board = &board;
-        compared.comparison = compare_results(rack->result, &board, given->option[OPTION_UNFINISHED] != NULL);
+        compared.comparison = compare_results(rack->result, &board, &wanted);
         compared.status = status_of_verdict(compared.comparison.verdict);
-        complain_of_verdict(rack, &compared);
+        complain_of_verdict(given, rack, &compared);
     }
     rack->status = worse(rack->status, compared.status);
     if (show != NULL)

@@ -31,14 +31,9 @@ struct words_given;
 /* Compares every board of the words, from the second on, with the rack's result; shows each where a function is given. */
 void compare_rack(const struct words_given *given, show_compared *show, struct rack *rack);
 
-/* How a part and its units are called. */
-struct part_words {
-    const char *memory, *one, *many;
-};
-extern const struct part_words part_words[PARTS];
-
-/* A verdict in words; the same for a board that cannot be read. */
-const char *verdict_words(const struct rack *rack, const struct compared *compared);
+/* A verdict in words, with the parts where not all were compared: "equal in VIF1's data memory"; the same for a board that cannot be read. */
+enum { VERDICT_TEXT = 256 };
+void verdict_words(const struct rack *rack, const struct compared *compared, char words[VERDICT_TEXT]);
 
 /* Each prints a board, and after the last one what is to be said of all. Statuses. */
 show_compared show_board, show_row, show_json;

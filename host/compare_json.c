@@ -7,34 +7,38 @@
 #include "json.h"
 #include "numbers.h"
 
-static void print_data_unit(const struct board *board, size_t number)
+static void print_quadword(const struct board *board, enum part part, size_t number)
 {
-    const uint32_t *at = board->data + 4 * number;
+    const uint32_t *at = board_quadword(board, part, number);
     printf("[\"0x%08" PRIX32 "\", \"0x%08" PRIX32 "\", \"0x%08" PRIX32 "\", \"0x%08" PRIX32 "\"]", at[0], at[1], at[2], at[3]);
 }
 
-static void print_code_unit(const struct board *board, size_t number)
+static void print_instruction(const struct board *board, enum part part, size_t number)
 {
-    printf("\"0x%016" PRIX64 "\"", get_number(board->code + 8 * number));
+    printf("\"0x%016" PRIX64 "\"", get_number(board_instruction(board, part, number)));
 }
 
-static void print_log_unit(const struct board *board, size_t number)
+static void print_entry(const struct board *board, enum part part, size_t number)
 {
+    (void)part;
     const uint64_t *entry = board_entry(board, number);
     printf("{\"register\": %" PRIu64 ", \"value\": \"0x%016" PRIX64 "\"}", entry[TEJBORUN_ENTRY_REGISTER], entry[TEJBORUN_ENTRY_VALUE]);
 }
 
-static void (*const print_unit[PARTS])(const struct board *, size_t) = {
-    [PART_DATA] = print_data_unit, [PART_CODE] = print_code_unit, [PART_LOG] = print_log_unit,
-};
-static const char *const part_names[PARTS] = {[PART_DATA] = "data", [PART_CODE] = "code", [PART_LOG] = "log"};
+static void print_unit(const struct board *board, enum part part, size_t number)
+{
+    static void (*const print[])(const struct board *, enum part, size_t) = {
+        [MEMORY_DATA] = print_quadword, [MEMORY_CODE] = print_instruction, [MEMORY_LOG] = print_entry,
+    };
+    print[part_shapes[part].memory](board, part, number);
+}
 
 static void print_difference(const struct board *a, const struct board *b, enum part part, size_t number)
 {
     printf("{\"number\": %zu, \"result\": ", number);
-    print_unit[part](a, number);
+    print_unit(a, part, number);
     printf(", \"board\": ");
-    print_unit[part](b, number);
+    print_unit(b, part, number);
     printf("}");
 }
 
@@ -57,12 +61,32 @@ static int print_differences(const struct rack *rack, const struct compared *com
 static int print_part(const struct rack *rack, const struct compared *compared, enum part part)
 {
     const struct found *found = &compared->comparison.found[part];
-    printf("      \"%s\": {\"compared\": %" PRIu64 ", \"different\": %" PRIu64 ", ", part_names[part], found->compared, found->count);
+    printf(",\n      \"%s\": {\"compared\": %" PRIu64 ", \"different\": %" PRIu64 ", ", part_shapes[part].name, found->compared, found->count);
     if (part == PART_LOG)
         printf("\"result_entries\": %" PRIu64 ", \"board_entries\": %" PRIu64 ", ", board_used(&rack->result->board), board_used(&compared->board->board));
     printf("\"differences\": [");
     int status = print_differences(rack, compared, part);
-    printf("]}%s\n", part + 1 < PARTS ? "," : "");
+    printf("]}");
+    return status;
+}
+
+/* The names of the parts compared, and what was found in each. */
+static int print_parts(const struct rack *rack, const struct compared *compared)
+{
+    int status = STATUS_DONE;
+    const char *between = "";
+    printf(", \"compared\": [");
+    for (size_t i = 0; i < PARTS; i++) {
+        if (!has_part(&compared->comparison, part_order[i]))
+            continue;
+        printf("%s\"%s\"", between, part_shapes[part_order[i]].name);
+        between = ", ";
+    }
+    printf("]");
+    for (size_t i = 0; i < PARTS; i++)
+        if (has_part(&compared->comparison, part_order[i]))
+            status = worse(status, print_part(rack, compared, part_order[i]));
+    printf("\n    ");
     return status;
 }
 
@@ -78,29 +102,27 @@ int show_json(void *context, const struct rack *rack, const struct compared *com
 {
     (void)context;
     int status = STATUS_DONE;
+    char verdict[VERDICT_TEXT];
     const struct comparison *comparison = &compared->comparison;
+    verdict_words(rack, compared, verdict);
     if (rack->boards == 0)
         begin_json(rack);
     printf("%s    {\"file\": ", rack->boards > 0 ? ",\n" : "");
     print_json_text(stdout, compared->name);
-    printf(", \"verdict\": \"%s\", \"status\": %d", verdict_words(rack, compared), compared->status);
+    printf(", \"verdict\": \"%s\", \"status\": %d", verdict, compared->status);
     if (compared->board != NULL)
         printf(", \"has\": \"%s\"", parts_words(compared->board->parts));
     if (compared->board != NULL && comparison->verdict == VERDICT_REFUSED)
         printf(", \"refusal\": %" PRIu32, comparison->refusal);
-    if (compared->board != NULL && (comparison->verdict == VERDICT_EQUAL || comparison->verdict == VERDICT_DIFFERENT)) {
-        printf(",\n");
-        for (size_t part = 0; part < PARTS; part++)
-            status = worse(status, print_part(rack, compared, (enum part)part));
-        printf("    ");
-    }
+    if (compared->board != NULL && is_compared(comparison->verdict))
+        status = print_parts(rack, compared);
     printf("}");
     return status;
 }
 
 int end_json(const struct rack *rack)
 {
-    static const char *const ends[VERDICTS + 1] = {"equal", "different", "refused", "no_verdict", "not_read"};
+    static const char *const ends[VERDICTS + 1] = {"equal", "equal_in_parts", "different", "refused", "no_verdict", "not_read"};
     printf("\n  ],\n  \"summary\": {\"boards\": %zu", rack->boards);
     for (size_t i = 0; i <= VERDICTS; i++)
         printf(", \"%s\": %zu", ends[i], rack->ends[i]);

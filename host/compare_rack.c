@@ -5,16 +5,17 @@
 #include "compare.h"
 #include "words.h"
 
-enum { VERDICT = 12, FIRST = 18 }; /* characters of a column */
+enum { VERDICT = 12, FIRST = 20 }; /* characters of a column */
 
-/* The first difference in words: the lowest quadword, else instruction, else entry, else the logs' lengths. */
+/* The first difference in words: the lowest unit of the first part that differs, else the logs' lengths. */
 static void first_difference(const struct rack *rack, const struct compared *compared, char *words, size_t room)
 {
     words[0] = 0;
-    for (size_t part = 0; part < PARTS; part++) {
-        const struct found *found = &compared->comparison.found[part];
+    for (size_t i = 0; i < PARTS; i++) {
+        const struct found *found = &compared->comparison.found[part_order[i]];
+        const struct part_shape *shape = &part_shapes[part_order[i]];
         if (found->count > 0) {
-            snprintf(words, room, "%s %" PRIu64, part_words[part].one, found->first);
+            snprintf(words, room, "%s%s %" PRIu64, shape->whose, shape->one, found->first);
             return;
         }
     }
@@ -22,40 +23,52 @@ static void first_difference(const struct rack *rack, const struct compared *com
         snprintf(words, room, "log's length %" PRIu64 ", not %" PRIu64, board_used(&compared->board->board), board_used(&rack->result->board));
 }
 
-/* How many of each differ. */
+/* How many of each differ, and what was compared where it is not all. */
 static void print_counts(const struct comparison *comparison)
 {
     const char *between = "";
-    for (size_t part = 0; part < PARTS; part++) {
-        const struct found *found = &comparison->found[part];
-        if (found->count == 0)
+    for (size_t i = 0; i < PARTS; i++) {
+        const struct part_shape *shape = &part_shapes[part_order[i]];
+        uint64_t count = comparison->found[part_order[i]].count;
+        if (count == 0)
             continue;
-        printf("%s%" PRIu64 " %s", between, found->count, plural(found->count, part_words[part].one, part_words[part].many));
+        printf("%s%" PRIu64 " %s%s", between, count, shape->whose, plural(count, shape->one, shape->many));
         between = ", ";
     }
+    if (comparison->parts != PARTS_ALL)
+        printf("%scompared in %s", between[0] != 0 ? "; " : "", parts_words(comparison->parts));
+}
+
+/* A row with a difference. */
+static void print_different(const struct rack *rack, const struct compared *compared)
+{
+    char first[80];
+    const char *verdict = rack->result->answer == TEJBORUN_DONE ? "different" : "different from an unfinished result";
+    first_difference(rack, compared, first, sizeof first);
+    printf("%-*s  %-*s  ", VERDICT, verdict, FIRST, first);
+    print_counts(&compared->comparison);
+    putchar('\n');
 }
 
 int show_row(void *context, const struct rack *rack, const struct compared *compared)
 {
     (void)context;
-    char first[80];
+    char verdict[VERDICT_TEXT];
     if (rack->boards == 0)
         printf("%-*s  %-*s  %-*s  %s\n", rack->width, "board", VERDICT, "verdict", FIRST, "first difference", "how many");
     printf("%-*s  ", rack->width, compared->name);
-    if (compared->comparison.verdict == VERDICT_DIFFERENT && compared->board != NULL) {
-        first_difference(rack, compared, first, sizeof first);
-        printf("%-*s  %-*s  ", VERDICT, verdict_words(rack, compared), FIRST, first);
-        print_counts(&compared->comparison);
-        putchar('\n');
-    } else {
-        puts(verdict_words(rack, compared));
+    if (compared->board != NULL && compared->comparison.verdict == VERDICT_DIFFERENT) {
+        print_different(rack, compared);
+        return STATUS_DONE;
     }
+    verdict_words(rack, compared, verdict);
+    puts(verdict);
     return STATUS_DONE;
 }
 
 int show_summary(const struct rack *rack)
 {
-    static const char *const ends[VERDICTS + 1] = {"equal", "different", "refused", "no verdict", "not read"};
+    static const char *const ends[VERDICTS + 1] = {"equal", "equal in parts", "different", "refused", "no verdict", "not read"};
     const char *between = ": ";
     printf("%zu %s beside %s", rack->boards, plural(rack->boards, "board", "boards"), rack->name);
     for (size_t i = 0; i <= VERDICTS; i++) {

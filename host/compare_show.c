@@ -38,16 +38,16 @@ static void print_word(uint32_t word)
         printf("%-14.9g", (double)value);
 }
 
-static void show_quadword(const struct pair *pair, size_t number)
+static void show_quadword(const struct pair *pair, enum part part, size_t number)
 {
     static const char fields[] = "XYZW";
-    printf("  quadword %zu (0x%zX)\n       ", number, number);
+    printf("  %s%s %zu (0x%zX)\n       ", part_shapes[part].whose, part_shapes[part].one, number, number);
     print_name(pair->name[0], CELL);
     printf("   ");
     print_name(pair->name[1], CELL);
     printf("   board - result\n");
     for (size_t i = 0; i < 4; i++) {
-        uint32_t x = pair->board[0]->data[4 * number + i], y = pair->board[1]->data[4 * number + i];
+        uint32_t x = board_quadword(pair->board[0], part, number)[i], y = board_quadword(pair->board[1], part, number)[i];
         int64_t counts = signed_word(y - x);
         printf("    %c  ", fields[i]);
         print_word(x);
@@ -67,13 +67,13 @@ static size_t name_width(const struct pair *pair)
     return longer > CELL ? CELL : longer;
 }
 
-static void show_instruction(const struct pair *pair, size_t number)
+static void show_instruction(const struct pair *pair, enum part part, size_t number)
 {
-    printf("  instruction %zu (0x%zX)\n", number, number);
+    printf("  %s%s %zu (0x%zX)\n", part_shapes[part].whose, part_shapes[part].one, number, number);
     for (size_t i = 0; i < 2; i++) {
         printf("    ");
         print_name(pair->name[i], name_width(pair));
-        printf("  0x%016" PRIX64 "\n", get_number(pair->board[i]->code + 8 * number));
+        printf("  0x%016" PRIX64 "\n", get_number(board_instruction(pair->board[i], part, number)));
     }
 }
 
@@ -87,16 +87,21 @@ static void print_entry(const struct pair *pair, size_t which, size_t number)
     printf("  register 0x%02" PRIX64 " %s, value 0x%016" PRIX64 " (%" PRIu64 ")\n", log_register, name != NULL ? name : "(no name)", value, value);
 }
 
-static void show_entry(const struct pair *pair, size_t number)
+static void show_entry(const struct pair *pair, enum part part, size_t number)
 {
+    (void)part;
     printf("  log entry %zu\n", number);
     print_entry(pair, 0, number);
     print_entry(pair, 1, number);
 }
 
-static void (*const show_unit[PARTS])(const struct pair *, size_t) = {
-    [PART_DATA] = show_quadword, [PART_CODE] = show_instruction, [PART_LOG] = show_entry,
-};
+static void show_unit(const struct pair *pair, enum part part, size_t number)
+{
+    static void (*const show[])(const struct pair *, enum part, size_t) = {
+        [MEMORY_DATA] = show_quadword, [MEMORY_CODE] = show_instruction, [MEMORY_LOG] = show_entry,
+    };
+    show[part_shapes[part].memory](pair, part, number);
+}
 
 /* Shows every difference of a part. A status. */
 static int show_all(const struct pair *pair, enum part part, const struct found *found)
@@ -105,23 +110,23 @@ static int show_all(const struct pair *pair, enum part part, const struct found 
     if (numbers == NULL)
         return STATUS_BAD;
     for (size_t i = 0; i < found->count; i++)
-        show_unit[part](pair, numbers[i]);
+        show_unit(pair, part, numbers[i]);
     free(numbers);
     return STATUS_DONE;
 }
 
 static int show_part(const struct pair *pair, enum part part, const struct found *found, bool all)
 {
-    const struct part_words *words = &part_words[part];
+    const struct part_shape *shape = &part_shapes[part];
     if (found->count == 0) {
-        printf("%s: the same, %" PRIu64 " %s compared\n", words->memory, found->compared, plural(found->compared, words->one, words->many));
+        printf("%s: the same, %" PRIu64 " %s compared\n", shape->words, found->compared, plural(found->compared, shape->one, shape->many));
         return STATUS_DONE;
     }
-    printf("%s: %" PRIu64 " %s %s, the first is %" PRIu64 "\n", words->memory, found->count, plural(found->count, words->one, words->many),
+    printf("%s: %" PRIu64 " %s %s, the first is %" PRIu64 "\n", shape->words, found->count, plural(found->count, shape->one, shape->many),
            plural(found->count, "differs", "differ"), found->first);
     if (all)
         return show_all(pair, part, found);
-    show_unit[part](pair, found->first);
+    show_unit(pair, part, found->first);
     return STATUS_DONE;
 }
 
@@ -147,15 +152,19 @@ int show_board(void *context, const struct rack *rack, const struct compared *co
 {
     (void)context;
     const struct comparison *comparison = &compared->comparison;
-    if (compared->board == NULL || (comparison->verdict != VERDICT_EQUAL && comparison->verdict != VERDICT_DIFFERENT))
+    if (compared->board == NULL || !is_compared(comparison->verdict))
         return STATUS_DONE;
     const struct pair pair = {{rack->name, compared->name}, {&rack->result->board, &compared->board->board}};
+    char verdict[VERDICT_TEXT];
     int status = STATUS_DONE;
     show_answer(rack->name, rack->result);
     show_answer(compared->name, compared->board);
-    for (size_t part = 0; part < PARTS; part++)
-        status = worse(status, show_part(&pair, (enum part)part, &comparison->found[part], rack->all));
-    show_lengths(&pair);
-    puts(verdict_words(rack, compared));
+    for (size_t i = 0; i < PARTS; i++)
+        if (has_part(comparison, part_order[i]))
+            status = worse(status, show_part(&pair, part_order[i], &comparison->found[part_order[i]], rack->all));
+    if (has_part(comparison, PART_LOG))
+        show_lengths(&pair);
+    verdict_words(rack, compared, verdict);
+    puts(verdict);
     return status;
 }

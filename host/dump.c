@@ -66,23 +66,18 @@ void print_register(uint64_t number)
         printf("0x%02" PRIX64, number);
 }
 
-static bool is_whole(const struct bytes *file, size_t state_words)
-{
-    return file->count == 4 * state_words;
-}
-
 int dump_state(const char *name, const struct bytes *file)
 {
     struct tejborun_state state;
     const char *kind = kind_by_mark(file);
-    if (is_whole(file, TEJBORUN_BLOCK_WORDS)) {
+    if (file->count == sizeof state) {
         get_words(file->at, TEJBORUN_BLOCK_WORDS, (uint32_t *)&state);
         print_state(&state);
         return STATUS_DONE;
     }
     if (kind != NULL)
         return complain(name, "no state: it begins with the mark of a %s", kind);
-    if (check_layout(name, "state", file, is_whole) != STATUS_DONE)
-        return STATUS_BAD;
+    if (file->count == 4 * EARLIER_BLOCK_WORDS)
+        return complain_of_age(name, "state");
     return complain(name, "no state: %zu bytes; a state has %zu", file->count, sizeof state);
 }

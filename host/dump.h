@@ -19,10 +19,8 @@ int dump_result(const char *name, const struct bytes *file);
 /* Prints words of main memory by their roles. */
 void print_words(const uint32_t *words, const uint8_t *roles, size_t count);
 
-/* Print the quadwords, instructions or entries below a number that are not zero, the last of them in any case where so wanted; of the log also those used. */
-void print_data(const struct board *board, size_t end, bool last);
-void print_code_memory(const struct board *board, size_t end, bool last);
-void print_log(const struct board *board, size_t end, bool last);
+/* Prints the units of a part below a number that are not zero, the last of them in any case where so wanted; of the log also those used. */
+void print_part(const struct board *board, enum part part, size_t end, bool last);
 
 /* Prints a state block, one or more lines. */
 void print_state(const struct tejborun_state *state);

@@ -51,12 +51,10 @@ static void follow_calls(const struct capture *capture, uint8_t *roles)
 /* Prints the memories that the capture gives. */
 static void print_first(const struct capture *capture)
 {
-    const struct capture_head *head = &capture->head;
-    if (is_test_case(head))
-        return;
-    print_data(&capture->board, head->first.data_words / 4, true);
-    print_code_memory(&capture->board, head->first.code_bytes / 8, true);
-    print_log(&capture->board, head->first.log_numbers / TEJBORUN_ENTRY_NUMBERS, true);
+    for (size_t i = 0; i < PARTS; i++) {
+        enum part part = part_order[i];
+        print_part(&capture->board, part, capture->head.first[part] / part_shapes[part].unit_elements, true);
+    }
 }
 
 static void print_capture(const struct capture *capture)

@@ -11,48 +11,54 @@
 static void print_head(const struct result *result)
 {
     const struct result_head head = result_head_of(result);
-    print_block(stdout, shape_of(result_heads, head.mark), (const uint32_t *)&head);
+    print_block(stdout, &result_heads[result->parts != PARTS_ALL], (const uint32_t *)&head);
     printf("  # %s\n", tejborun_message(result->answer));
 }
 
-void print_data(const struct board *board, size_t end, bool last)
+static bool is_zero(const struct board *board, enum part part, size_t number)
 {
-    for (size_t i = 0; i < end; i++) {
-        const uint32_t *at = board->data + 4 * i;
-        if ((at[0] | at[1] | at[2] | at[3]) != 0 || (last && i + 1 == end))
-            printf("quadword %zu 0x%08" PRIX32 " 0x%08" PRIX32 " 0x%08" PRIX32 " 0x%08" PRIX32 "\n", i, at[0], at[1], at[2], at[3]);
-    }
-}
-
-void print_code_memory(const struct board *board, size_t end, bool last)
-{
-    for (size_t i = 0; i < end; i++)
-        if (get_number(board->code + 8 * i) != 0 || (last && i + 1 == end))
-            printf("instruction %zu 0x%016" PRIX64 "\n", i, get_number(board->code + 8 * i));
-}
-
-static bool is_zero(const uint64_t *entry)
-{
-    uint64_t any = 0;
-    for (size_t i = 0; i < TEJBORUN_ENTRY_NUMBERS; i++)
-        any |= entry[i];
+    const uint8_t *bytes = board_unit(board, part, number);
+    uint8_t any = 0;
+    for (size_t i = 0; i < part_bytes(part, part_shapes[part].unit_elements); i++)
+        any |= bytes[i];
     return any == 0;
 }
 
-void print_log(const struct board *board, size_t end, bool last)
+static void print_quadword(const struct board *board, enum part part, size_t number)
 {
-    uint64_t used = board_used(board);
+    const uint32_t *at = board_quadword(board, part, number);
+    printf("%squadword %zu 0x%08" PRIX32 " 0x%08" PRIX32 " 0x%08" PRIX32 " 0x%08" PRIX32 "\n", part == PART_DATA0 ? "vif0." : "", number, at[0], at[1],
+           at[2], at[3]);
+}
+
+static void print_instruction(const struct board *board, enum part part, size_t number)
+{
+    printf("%sinstruction %zu 0x%016" PRIX64 "\n", part == PART_CODE0 ? "vif0." : "", number, get_number(board_instruction(board, part, number)));
+}
+
+static void print_entry(const struct board *board, enum part part, size_t number)
+{
+    (void)part;
+    const uint64_t *entry = board_entry(board, number);
+    printf("entry %zu ", number);
+    print_register(entry[TEJBORUN_ENTRY_REGISTER]);
+    printf(" 0x%016" PRIX64 "\n", entry[TEJBORUN_ENTRY_VALUE]);
+}
+
+void print_part(const struct board *board, enum part part, size_t end, bool last)
+{
+    static void (*const print[])(const struct board *, enum part, size_t) = {
+        [MEMORY_DATA] = print_quadword, [MEMORY_CODE] = print_instruction, [MEMORY_LOG] = print_entry,
+    };
+    uint64_t used = part == PART_LOG ? board_used(board) : 0;
     bool beyond = false;
     for (size_t i = 0; i < end; i++) {
-        const uint64_t *entry = board_entry(board, i);
-        if (i >= used && is_zero(entry) && !(last && i + 1 == end))
+        if (i >= used && is_zero(board, part, i) && !(last && i + 1 == end))
             continue;
-        if (i >= used && !beyond)
+        if (part == PART_LOG && i >= used && !beyond)
             printf("# beyond the entries used\n");
         beyond = i >= used;
-        printf("entry %zu ", i);
-        print_register(entry[TEJBORUN_ENTRY_REGISTER]);
-        printf(" 0x%016" PRIX64 "\n", entry[TEJBORUN_ENTRY_VALUE]);
+        print[part_shapes[part].memory](board, part, i);
     }
 }
 
@@ -65,9 +71,8 @@ int dump_result(const char *name, const struct bytes *file)
     const struct board *board = &result.board;
     print_head(&result);
     print_state(&board->state);
-    print_data(board, board_quadwords(board), false);
-    print_code_memory(board, board_instructions(board), false);
-    print_log(board, board_entries(board), false);
+    for (size_t i = 0; i < PARTS; i++)
+        print_part(board, part_order[i], board_units(board, part_order[i]), false);
     free_board(&result.board);
     return STATUS_DONE;
 }

@@ -8,12 +8,18 @@
 #include "shapes.h"
 #include "words.h"
 
-static void print_tag(const uint32_t *words, size_t at)
+/* The shape of a code of VIF1, or of VIF0, which has not all of them; null where it has none. */
+static const struct shape *shape_on(uint32_t word, bool vif0)
+{
+    return vif0 ? vif0_code_shape(word) : code_shape(word);
+}
+
+static void print_tag(const uint32_t *words, size_t at, bool vif0)
 {
     print_block(stdout, shape_of(dma_tags, words[at]), words + at);
     printf("  # tag at 0x%zX", 4 * at);
     for (size_t i = 2; i < 4; i++) {
-        const struct shape *code = code_shape(words[at + i]);
+        const struct shape *code = shape_on(words[at + i], vif0);
         if (words[at + i] != 0 && code != NULL) {
             printf("; word%zu as a code: ", i);
             print_block(stdout, code, words + at + i);
@@ -22,11 +28,11 @@ static void print_tag(const uint32_t *words, size_t at)
     putchar('\n');
 }
 
-static void print_code(uint32_t word)
+static void print_code(uint32_t word, bool vif0)
 {
-    const struct shape *shape = code_shape(word);
+    const struct shape *shape = shape_on(word, vif0);
     if (shape == NULL) {
-        printf("  word 0x%08" PRIX32 "  # no code: CMD %02" PRIX32 "\n", word, word >> 24 & 127);
+        printf("  word 0x%08" PRIX32 "  # no code%s: CMD %02" PRIX32 "\n", word, vif0 ? " of VIF0" : "", word >> 24 & 127);
         return;
     }
     printf("  ");
@@ -80,10 +86,12 @@ static size_t print_at(const uint32_t *words, const uint8_t *roles, size_t at, s
 {
     switch (roles[at]) {
     case ROLE_TAG:
-        print_tag(words, at);
+    case ROLE_VIF0_TAG:
+        print_tag(words, at, roles[at] == ROLE_VIF0_TAG);
         return 4;
     case ROLE_CODE:
-        print_code(words[at]);
+    case ROLE_VIF0_CODE:
+        print_code(words[at], roles[at] == ROLE_VIF0_CODE);
         return 1;
     case ROLE_GIF_TAG:
         print_gif_tag(words + at);

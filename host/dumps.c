@@ -7,23 +7,19 @@
 #include "command.h"
 #include "files.h"
 #include "kinds.h"
-#include "numbers.h"
 #include "raw.h"
-
-static const enum option part_options[PARTS] = {[PART_DATA] = OPTION_DATA, [PART_CODE] = OPTION_CODE, [PART_LOG] = OPTION_LOG};
 
 /* Reads the dumps that are given into a result that has these parts alone. */
 static int read_dumps(const struct words_given *given, struct result *result)
 {
     struct board *board = &result->board;
-    const size_t bytes[PARTS] = {4 * board->data_words, board->code_bytes, 8 * board->log_numbers};
     int status = STATUS_DONE;
     for (size_t part = 0; part < PARTS && status == STATUS_DONE; part++) {
         size_t units = 0;
-        const char *name = given->option[part_options[part]];
+        const char *name = given->option[part_option(part)];
         if (name == NULL)
             continue;
-        status = read_raw(name, (enum part)part, bytes[part], board, &units);
+        status = read_raw(name, part, board->count.of[part], board, &units);
         result->parts |= PART_BIT(part);
         if (part == PART_LOG)
             set_board_used(board, units);
@@ -33,13 +29,13 @@ static int read_dumps(const struct words_given *given, struct result *result)
 
 int command_import(const struct words_given *given)
 {
-    struct result result = {.board = new_board(memories_of(VIF1), TEJBORUN_LOG_NUMBERS)};
+    struct result result = {.board = new_board(usual_counts(TEJBORUN_LOG_NUMBERS))};
     tejborun_reset(board_block(&result.board), TEJBORUN_BLOCK_WORDS);
     int status = read_dumps(given, &result);
     if (status == STATUS_DONE && result.parts == 0)
-        status = complain("import", "give a dump: --data, --code or --log");
+        status = complain("import", "give a dump: --data, --code, --data0, --code0 or --log");
     if ((result.parts & PART_BIT(PART_LOG)) == 0)
-        result.board.log_numbers = 0;
+        result.board.count.of[PART_LOG] = 0;
     if (status == STATUS_DONE)
         status = write_result(given->option[OPTION_OUTPUT], &result);
     if (status == STATUS_DONE)
@@ -48,19 +44,12 @@ int command_import(const struct words_given *given)
     return status;
 }
 
-/* A part's bytes; the caller frees them. */
+/* A part's bytes, of the log the entries used; the caller frees them. */
 static struct bytes dump_of(const struct board *board, enum part part)
 {
-    size_t numbers = TEJBORUN_ENTRY_NUMBERS * (size_t)board_used(board);
-    const size_t counts[PARTS] = {4 * board->data_words, board->code_bytes, 8 * numbers};
-    struct bytes dump = {allocate(counts[part], 1), counts[part]};
-    if (part == PART_DATA)
-        put_words(dump.at, board->data_words, board->data);
-    else if (part == PART_CODE)
-        memcpy(dump.at, board->code, board->code_bytes);
-    else
-        for (size_t i = 0; i < numbers; i++)
-            put_number(dump.at + 8 * i, board->log[i]);
+    size_t elements = part == PART_LOG ? TEJBORUN_ENTRY_NUMBERS * (size_t)board_used(board) : board->count.of[part];
+    struct bytes dump = {allocate(elements, part_shapes[part].element_bytes), part_bytes(part, elements)};
+    put_part(dump.at, board, part, elements);
     return dump;
 }
 
@@ -69,14 +58,14 @@ static int write_dumps(const struct words_given *given, const struct board *boar
 {
     int status = STATUS_DONE;
     for (size_t part = 0; part < PARTS && status == STATUS_DONE; part++) {
-        const char *name = given->option[part_options[part]];
+        const char *name = given->option[part_option(part)];
         if (name == NULL)
             continue;
         if ((parts & PART_BIT(part)) == 0)
             return complain(given->word[0], "has %s alone: no dump %s", parts_words(parts), name);
-        if (part == PART_LOG && board_used(board) > board_entries(board))
+        if (part == PART_LOG && board_used(board) > board_units(board, PART_LOG))
             return complain(given->word[0], "has more entries used than its log is long: no dump %s", name);
-        struct bytes dump = dump_of(board, (enum part)part);
+        struct bytes dump = dump_of(board, part);
         status = write_file(name, dump.at, dump.count);
         free(dump.at);
     }
@@ -123,7 +112,7 @@ static int check_dumps(const struct words_given *given)
             if (given->option[j] != NULL && (strcmp(name, given->option[j]) == 0 || same_file(name, given->option[j])))
                 return complain("export", "%s is given for two dumps", name);
     }
-    return any ? STATUS_DONE : complain("export", "say what to write: --main, --data, --code or --log");
+    return any ? STATUS_DONE : complain("export", "say what to write: --main, --data, --code, --data0, --code0 or --log");
 }
 
 int command_export(const struct words_given *given)
@@ -131,7 +120,7 @@ int command_export(const struct words_given *given)
     struct bytes file;
     int status = check_dumps(given);
     if (status == STATUS_DONE)
-        status = read_file(given->word[0], 2 * (size_t)CAPTURE_BYTES, &file);
+        status = read_file(given->word[0], 2 * longest_capture(), &file);
     if (status != STATUS_DONE)
         return status;
     const char *kind = kind_by_mark(&file);

@@ -53,7 +53,7 @@ enum { FIELD_TEXT = 32 };
 void field_text(const struct field *field, uint64_t value, char text[FIELD_TEXT]);
 
 /* The names of shapes, of a shape's fields or of a field's values, with commas; cut where there is no room. */
-enum { NAMES_TEXT = 1024 };
+enum { NAMES_TEXT = 2048 };
 void list_shapes(const struct shape *list, char text[NAMES_TEXT]);
 void list_fields(const struct shape *shape, char text[NAMES_TEXT]);
 void list_names(const struct names *names, char text[NAMES_TEXT]);

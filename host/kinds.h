@@ -1,4 +1,4 @@
-/* What a file is: by its mark, and by its length where its state block is of another layout. */
+/* What a file is, by its mark. */
 #ifndef KINDS_H
 #define KINDS_H
 
@@ -8,19 +8,19 @@
 #include "fields.h"
 #include "files.h"
 
-/* Whether the file begins with the mark of a head. */
-bool has_mark(const struct bytes *file, const struct shape *head);
-
 /* Whether a file is text: no byte but characters, blanks and line ends. */
 bool is_text(const struct bytes *file);
 
-/* The kind of a file by its mark; null where it has none. */
+/* The kind of a file by its mark, also by one from before VIF0; null where it has none. */
 const char *kind_by_mark(const struct bytes *file);
 
-/* Complains that the file does not begin with the mark of a head, and says which mark it has. */
-int complain_of_mark(const char *name, const struct bytes *file, const struct shape *head);
+/* Complains where the file begins with the mark of none of the heads: says which mark it has, and what a file from before VIF0 is. A status. */
+int check_mark(const char *name, const struct bytes *file, const struct shape *heads);
 
-/* Complains where the file is whole with a state block of another layout, a unit block more or less. A status. */
-int check_layout(const char *name, const char *kind, const struct bytes *file, bool (*is_whole)(const struct bytes *, size_t state_words));
+/* The words of a state block before VIF0 had its part of it. */
+enum { EARLIER_BLOCK_WORDS = TEJBORUN_BLOCK_WORDS - TEJBORUN_UNIT_WORDS };
+
+/* Says that the file is from before VIF0, and what to do; hands back STATUS_BAD. */
+int complain_of_age(const char *name, const char *kind);
 
 #endif

@@ -16,6 +16,9 @@
     "Exit status: 0 done or equal, 1 a refusal or a difference, 2 bad usage or file, 3 stopped before the end (90, 91) or\n" \
     "no verdict; of several the worst in the order 2, 3, 1, 0.\n"
 
+/* The raw files of memories and log. */
+#define PART_FILES (TAKES(OPTION_DATA) | TAKES(OPTION_CODE) | TAKES(OPTION_DATA0) | TAKES(OPTION_CODE0) | TAKES(OPTION_LOG))
+
 static const struct command commands[] = {
     {"build", 1, 1, 0, TAKES(OPTION_OUTPUT), true, command_build, "build SHEET -o CHAIN", "Builds the chain of a test sheet.\n"},
     {"steps", 1, 1, 0, 0, false, command_steps, "steps SHEET", "Says how many steps the chain of a test sheet takes.\n"},
@@ -25,48 +28,52 @@ static const struct command commands[] = {
      "run CAPTURE [-o RESULT] [--allowance N] [--from RESULT] [--no-start]",
      "Makes the calls of a capture and writes what the last one leaves, with the last run's answer and step count.\n"
      "  --allowance N  the step allowance of each run, in place of the capture's\n"
-     "  --from RESULT  begins with the state, memories and log of a result, in place of the capture's zeros\n"
+     "  --from RESULT  begins with the state, memories and log of a result, in place of the capture's zeros; memories that it\n"
+     "                 lacks and no run works on are lacking afterwards too\n"
      "  --no-start     leaves the capture's starts out: with --from a run goes on where it stopped\n"
      "A refused run is written too, with what its steps left, and so is one that Ctrl-C stops, as if its allowance were used.\n"},
     {"play", 1, 1, 0, TAKES(OPTION_OUTPUT), false, command_play, "play SHEET [-o RESULT]",
      "Builds the chain of a test sheet at address 0 and runs it from reset on channel 1, over zero memories and an empty log.\n"},
-    {"compare", 2, SIZE_MAX, 0, TAKES(OPTION_ALL) | TAKES(OPTION_UNFINISHED) | TAKES(OPTION_QUIET) | TAKES(OPTION_JSON), false, command_compare,
-     "compare RESULT BOARD.. [--all] [--unfinished] [--quiet] [--json]",
-     "Compares data memory, code memory and log of boards with those of a result. Of one board it shows the first difference of\n"
-     "each and how many there are; several boards have a row each and a summary.\n"
+    {"compare", 2, SIZE_MAX, 0, TAKES(OPTION_ALL) | TAKES(OPTION_ONLY) | TAKES(OPTION_UNFINISHED) | TAKES(OPTION_QUIET) | TAKES(OPTION_JSON), false,
+     command_compare, "compare RESULT BOARD.. [--only PARTS] [--all] [--unfinished] [--quiet] [--json]",
+     "Compares the memories of VIF1 and VIF0 and the log of boards with those of a result, in the parts that both have. Of one\n"
+     "board it shows the first difference of each and how many there are; several boards have a row each and a summary.\n"
+     "  --only PARTS  compares these alone, some of data, code, data0, code0, log with commas; one that is lacking: no verdict\n"
      "  --all         shows every difference, not only the first of each\n"
      "  --unfinished  compares also where RESULT is of a run that did not end with done (0)\n"
      "  --quiet       prints no verdict: the exit status has it\n"
      "  --json        prints JSON\n"
-     "Answer and step count are shown and not compared; registers are neither.\n"},
-    {"report", 2, SIZE_MAX, 0, TAKES(OPTION_OUTPUT) | TAKES(OPTION_FROM) | TAKES(OPTION_UNFINISHED), true, command_report,
-     "report RESULT BOARD.. -o PAGE [--from RESULT] [--unfinished]",
+     "A verdict over some parts names them; equal alone is said of whole results. Answer and step count are shown and not\n"
+     "compared; registers are neither.\n"},
+    {"report", 2, SIZE_MAX, 0, TAKES(OPTION_OUTPUT) | TAKES(OPTION_FROM) | TAKES(OPTION_ONLY) | TAKES(OPTION_UNFINISHED), true, command_report,
+     "report RESULT BOARD.. -o PAGE [--from RESULT] [--only PARTS] [--unfinished]",
      "Writes the comparison of boards with a result as one HTML page, to be looked at, printed on A4 and kept: verdicts, files with\n"
      "their SHA-256, the first differences, maps of the memories and a plot of board minus result.\n"
      "  --from RESULT  the memories that the transfer began with, zeros otherwise; the maps show what it left as it was\n"
+     "  --only PARTS   compares these alone, as compare does\n"
      "  --unfinished   compares also where RESULT is of a run that did not end with done (0)\n"},
-    {"import", 0, 0, 0, TAKES(OPTION_OUTPUT) | TAKES(OPTION_DATA) | TAKES(OPTION_CODE) | TAKES(OPTION_LOG), true, command_import,
-     "import -o RESULT [--data FILE] [--code FILE] [--log FILE]",
-     "Makes a result of a board's own dumps, any of the three: the bytes of data memory, code memory and log, little-endian. The\n"
-     "result says which parts it has.\n"},
-    {"export", 1, 1, 0, TAKES(OPTION_MAIN) | TAKES(OPTION_DATA) | TAKES(OPTION_CODE) | TAKES(OPTION_LOG), false, command_export,
-     "export FILE [--main FILE] [--data FILE] [--code FILE] [--log FILE]",
+    {"import", 0, 0, 0, TAKES(OPTION_OUTPUT) | PART_FILES, true, command_import,
+     "import -o RESULT [--data FILE] [--code FILE] [--data0 FILE] [--code0 FILE] [--log FILE]",
+     "Makes a result of a board's own dumps, any of the five: the bytes of VIF1's data and code memory (16,384 each), of VIF0's\n"
+     "(--data0, --code0; 4,096 each) and of the log, little-endian. The result says which parts it has.\n"},
+    {"export", 1, 1, 0, TAKES(OPTION_MAIN) | PART_FILES, false, command_export,
+     "export FILE [--main FILE] [--data FILE] [--code FILE] [--data0 FILE] [--code0 FILE] [--log FILE]",
      "Writes the memories and the log of a result as such dumps; of a capture those that it begins with, and its main memory.\n"},
     {"dump", 1, 2, 2, 0, false, command_dump, "dump [KIND] FILE",
      "Prints a file as text (docs/TEXT.md). KIND is sheet, chain, state, capture or result; it may be left out where the file\n"
      "begins with a mark (sheet, capture, result).\n"},
-    {"assemble", 2, 2, 1, TAKES(OPTION_OUTPUT) | TAKES(OPTION_MAIN) | TAKES(OPTION_DATA) | TAKES(OPTION_CODE) | TAKES(OPTION_LOG), true,
-     command_assemble, "assemble KIND TEXT -o FILE [--main FILE] [--data FILE] [--code FILE] [--log FILE]",
+    {"assemble", 2, 2, 1, TAKES(OPTION_OUTPUT) | TAKES(OPTION_MAIN) | PART_FILES, true, command_assemble,
+     "assemble KIND TEXT -o FILE [--main FILE] [--data FILE] [--code FILE] [--data0 FILE] [--code0 FILE] [--log FILE]",
      "Writes the file that a text describes (docs/TEXT.md). KIND is sheet, chain, state, capture or result.\n"
-     "  --main FILE, --data FILE, --code FILE, --log FILE\n"
-     "                main memory, data memory, code memory and log of a capture from a raw file, in place of lines\n"},
+     "  --main FILE, --data FILE, --code FILE, --data0 FILE, --code0 FILE, --log FILE\n"
+     "                main memory, VIF1's and VIF0's memories and the log of a capture from a raw file, in place of lines\n"},
 };
 
 enum { COMMANDS = sizeof commands / sizeof commands[0] };
 
 static void print_help(FILE *out)
 {
-    fputs("tejborun: what a DMA transfer leaves in the memories behind VIF1 and the GIF\n\nusage:\n", out);
+    fputs("tejborun: what a DMA transfer leaves in the memories behind VIF0, VIF1 and the GIF\n\nusage:\n", out);
     for (size_t i = 0; i < COMMANDS; i++)
         fprintf(out, "  tejborun %s\n", commands[i].usage);
     fputs("  tejborun help [COMMAND]\n  tejborun --version\n\n"

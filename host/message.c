@@ -3,17 +3,17 @@
 
 /* The numbers in the words below. */
 _Static_assert(TEJBORUN_MAIN_BYTES == 1048576, "the words of TEJBORUN_BAD_MAIN");
-_Static_assert(TEJBORUN_DATA_WORDS == 4096, "the words of TEJBORUN_BAD_DATA");
-_Static_assert(TEJBORUN_CODE_BYTES == 16384, "the words of TEJBORUN_BAD_CODE");
+_Static_assert(TEJBORUN_VIF1_DATA_WORDS == 4096 && TEJBORUN_VIF0_DATA_WORDS == 1024, "the words of TEJBORUN_BAD_DATA");
+_Static_assert(TEJBORUN_VIF1_CODE_BYTES == 16384 && TEJBORUN_VIF0_CODE_BYTES == 4096, "the words of TEJBORUN_BAD_CODE");
 _Static_assert(TEJBORUN_LOG_NUMBERS == 131072, "the words of TEJBORUN_BAD_LOG");
 _Static_assert(TEJBORUN_SHEET_BYTES == 131072, "the words of TEJBORUN_LONG_SHEET");
-_Static_assert(TEJBORUN_BLOCK_WORDS == 63, "the words of TEJBORUN_SHORT");
+_Static_assert(TEJBORUN_BLOCK_WORDS == 95, "the words of TEJBORUN_SHORT");
 
 static const char *const messages[] = {
     [TEJBORUN_DONE] = "done",
     [TEJBORUN_BAD_MAIN] = "main memory has length 0, no multiple of 16 or more than 1,048,576 bytes",
-    [TEJBORUN_BAD_DATA] = "data memory is not 4,096 words",
-    [TEJBORUN_BAD_CODE] = "code memory is not 16,384 bytes",
+    [TEJBORUN_BAD_DATA] = "data memory is not 4,096 words, of VIF0 (channel 0) not 1,024",
+    [TEJBORUN_BAD_CODE] = "code memory is not 16,384 bytes, of VIF0 (channel 0) not 4,096",
     [TEJBORUN_BAD_LOG] = "the log's length is no whole entries, above 131,072 numbers or below the entries used",
     [TEJBORUN_BAD_VALUE] = "a state or start value is outside the range of its field",
     [TEJBORUN_BAD_TADR] = "TADR lies outside main memory",
@@ -21,11 +21,12 @@ static const char *const messages[] = {
     [TEJBORUN_BAD_SPR] = "SPR is set in a tag that uses ADDR",
     [TEJBORUN_BAD_CALL] = "call with two addresses on the stack",
     [TEJBORUN_BAD_PAYLOAD] = "payload or pending words lie outside main memory",
-    [TEJBORUN_BAD_CMD] = "a VIF code whose CMD is not listed",
+    [TEJBORUN_BAD_CMD] = "a VIF code whose CMD is not listed, or on channel 0 one that VIF0 does not have",
     [TEJBORUN_BAD_FORMAT] = "UNPACK with vl 3 and vn below 3",
     [TEJBORUN_BAD_CYCLE] = "UNPACK with WL 0",
     [TEJBORUN_BAD_MODE] = "STMOD with mode 3",
     [TEJBORUN_BAD_DIRECT] = "DIRECT payload is due and the next word is not word 0 of its quadword",
+    [TEJBORUN_BAD_TOPS] = "UNPACK with IMM bit 15 (TOPS) on VIF0",
     [TEJBORUN_BAD_DESCRIPTOR] = "GIF descriptor B is met at its data",
     [TEJBORUN_LOG_FULL] = "the log lacks room",
     [TEJBORUN_BAD_MARK] = "the record does not begin with the mark 9E 51",
@@ -36,7 +37,7 @@ static const char *const messages[] = {
     [TEJBORUN_BAD_PAD] = "a GS entry's pad is not zero",
     [TEJBORUN_LONG_SHEET] = "the sheet is longer than 131,072 bytes",
     [TEJBORUN_LONG_CHAIN] = "the chain is longer than the output",
-    [TEJBORUN_SHORT] = "a state block that is not 63 words, or a result with too few numbers",
+    [TEJBORUN_SHORT] = "a state block that is not 95 words, or a result with too few numbers",
     [TEJBORUN_ALLOWANCE] = "the step allowance is used",
     [TEJBORUN_INTERRUPT] = "stopped at an interrupt mark",
 };

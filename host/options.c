@@ -19,12 +19,23 @@ static const struct option_shape shapes[OPTIONS] = {
     [OPTION_MAIN] = {"--main", "FILE", true},
     [OPTION_DATA] = {"--data", "FILE", true},
     [OPTION_CODE] = {"--code", "FILE", true},
+    [OPTION_DATA0] = {"--data0", "FILE", true},
+    [OPTION_CODE0] = {"--code0", "FILE", true},
     [OPTION_LOG] = {"--log", "FILE", true},
     [OPTION_ALL] = {"--all", NULL, false},
+    [OPTION_ONLY] = {"--only", "PARTS", false},
     [OPTION_UNFINISHED] = {"--unfinished", NULL, false},
     [OPTION_QUIET] = {"--quiet", NULL, false},
     [OPTION_JSON] = {"--json", NULL, false},
 };
+
+enum option part_option(enum part part)
+{
+    static const enum option options[PARTS] = {
+        [PART_DATA] = OPTION_DATA, [PART_CODE] = OPTION_CODE, [PART_LOG] = OPTION_LOG, [PART_DATA0] = OPTION_DATA0, [PART_CODE0] = OPTION_CODE0,
+    };
+    return options[part];
+}
 
 static bool takes(const struct command *command, size_t option)
 {
@@ -65,6 +76,29 @@ static int unknown_option(const struct command *command, const char *word)
     return complain(command->name, "unknown option %s%s\nusage: tejborun %s", word, list, command->usage);
 }
 
+/* The part of a name; PARTS where there is none. */
+static size_t part_named(const char *name, size_t length)
+{
+    for (size_t part = 0; part < PARTS; part++)
+        if (strlen(part_shapes[part].name) == length && memcmp(part_shapes[part].name, name, length) == 0)
+            return part;
+    return PARTS;
+}
+
+/* Reads names of parts with commas between them. A status. */
+static int take_parts(const struct command *command, const char *names, unsigned *parts)
+{
+    for (*parts = 0;;) {
+        size_t length = strcspn(names, ","), part = part_named(names, length);
+        if (part == PARTS)
+            return complain(command->name, "'%.*s' is no part: give some of data, code, data0, code0 and log, with commas between them", (int)length, names);
+        *parts |= PART_BIT(part);
+        if (names[length] == 0)
+            return STATUS_DONE;
+        names += length + 1;
+    }
+}
+
 /* Takes the option at *i; steps over its value. A status. */
 static int take_option(const struct command *command, int count, char **words, int *i, struct words_given *given)
 {
@@ -85,7 +119,7 @@ static int take_option(const struct command *command, int count, char **words, i
     given->option[cut.option] = cut.value != NULL ? cut.value : "";
     if (cut.option == OPTION_ALLOWANCE && !read_number(cut.value, &given->allowance))
         return complain(command->name, "'%s' is no allowance: give a number below 2^64, as 1000 or 0x3E8", cut.value);
-    return STATUS_DONE;
+    return cut.option == OPTION_ONLY ? take_parts(command, cut.value, &given->only) : STATUS_DONE;
 }
 
 /* Collects words and options. */
@@ -137,7 +171,7 @@ static int check_files(const struct command *command, const struct words_given *
 
 int take_words(const struct command *command, int count, char **words, struct words_given *given)
 {
-    *given = (struct words_given){.word = allocate((size_t)count, sizeof *given->word)};
+    *given = (struct words_given){.word = allocate((size_t)count, sizeof *given->word), .only = PARTS_ALL};
     int status = sort_words(command, count, words, given);
     if (status == STATUS_DONE)
         status = check_files(command, given);

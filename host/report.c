@@ -80,76 +80,104 @@ static const char *verdict_class(const struct compared *compared)
     return compared->status == STATUS_DONE ? "verdict good" : "verdict bad";
 }
 
-/* The counts of a board by part; empty where there is no verdict. */
+/* The counts of a board by part; empty where it was not compared. */
 static void print_counts(FILE *page, const struct compared *compared)
 {
-    for (size_t part = 0; part < PARTS; part++) {
-        const struct found *found = &compared->comparison.found[part];
+    for (size_t i = 0; i < PARTS; i++) {
         fprintf(page, "<td class=\"number\">");
-        if (compared->board != NULL && compared->comparison.verdict <= VERDICT_DIFFERENT)
-            fprintf(page, "%" PRIu64, found->count);
+        if (compared->board != NULL && has_part(&compared->comparison, part_order[i]))
+            fprintf(page, "%" PRIu64, compared->comparison.found[part_order[i]].count);
         fprintf(page, "</td>");
     }
 }
 
 static void print_summary_row(FILE *rows, const struct rack *rack, const struct compared *compared)
 {
+    char verdict[VERDICT_TEXT];
+    verdict_words(rack, compared, verdict);
     fprintf(rows, "<tr><td>");
     print_escaped(rows, compared->name);
-    fprintf(rows, "</td><td class=\"%s\">%s</td>", verdict_class(compared), verdict_words(rack, compared));
+    fprintf(rows, "</td><td class=\"%s\">", verdict_class(compared));
+    print_escaped(rows, verdict);
+    fprintf(rows, "</td>");
     print_counts(rows, compared);
     fprintf(rows, "</tr>\n");
 }
 
-static void print_unit(FILE *page, const struct board *board, enum part part, size_t number)
+static void print_entry(FILE *page, const uint64_t *entry)
 {
-    const uint64_t *entry = part == PART_LOG ? board_entry(board, number) : NULL;
-    const char *name = entry != NULL ? register_name(entry[TEJBORUN_ENTRY_REGISTER]) : NULL;
-    if (part == PART_DATA)
-        for (size_t i = 0; i < 4; i++)
-            fprintf(page, "%s0x%08" PRIX32, i > 0 ? " " : "", board->data[4 * number + i]);
-    else if (part == PART_CODE)
-        fprintf(page, "0x%016" PRIX64, get_number(board->code + 8 * number));
-    else
-        fprintf(page, "0x%02" PRIX64 " %s 0x%016" PRIX64, entry[TEJBORUN_ENTRY_REGISTER], name != NULL ? name : "(no name)", entry[TEJBORUN_ENTRY_VALUE]);
+    const char *name = register_name(entry[TEJBORUN_ENTRY_REGISTER]);
+    fprintf(page, "0x%02" PRIX64 " %s 0x%016" PRIX64, entry[TEJBORUN_ENTRY_REGISTER], name != NULL ? name : "(no name)", entry[TEJBORUN_ENTRY_VALUE]);
 }
 
-/* How many differ in each part, and the first of them. */
+static void print_unit(FILE *page, const struct board *board, enum part part, size_t number)
+{
+    if (part_shapes[part].memory == MEMORY_DATA)
+        for (size_t i = 0; i < 4; i++)
+            fprintf(page, "%s0x%08" PRIX32, i > 0 ? " " : "", board_quadword(board, part, number)[i]);
+    else if (part_shapes[part].memory == MEMORY_CODE)
+        fprintf(page, "0x%016" PRIX64, get_number(board_instruction(board, part, number)));
+    else
+        print_entry(page, board_entry(board, number));
+}
+
+/* How many of a part differ, and the first of them. */
+static void print_difference(FILE *page, const struct rack *rack, const struct compared *compared, enum part part)
+{
+    const struct found *found = &compared->comparison.found[part];
+    fprintf(page, "<tr><th>");
+    print_escaped(page, part_shapes[part].words);
+    fprintf(page, "</th><td class=\"number\">%" PRIu64 "</td><td class=\"number\">%" PRIu64 "</td>", found->compared, found->count);
+    if (found->count > 0) {
+        fprintf(page, "<td class=\"number\">%s %" PRIu64 "</td><td class=\"hex\">", part_shapes[part].one, found->first);
+        print_unit(page, &rack->result->board, part, found->first);
+        fprintf(page, "</td><td class=\"hex\">");
+        print_unit(page, &compared->board->board, part, found->first);
+    } else {
+        fprintf(page, "<td></td><td></td><td>");
+    }
+    fprintf(page, "</td></tr>\n");
+}
+
 static void print_differences(FILE *page, const struct rack *rack, const struct compared *compared)
 {
     fprintf(page, "<table class=\"rows\">\n<tr><th></th><th>compared</th><th>different</th><th>first</th><th>result</th><th>board</th></tr>\n");
-    for (size_t part = 0; part < PARTS; part++) {
-        const struct found *found = &compared->comparison.found[part];
-        fprintf(page, "<tr><th>%s</th><td class=\"number\">%" PRIu64 "</td><td class=\"number\">%" PRIu64 "</td>", part_words[part].memory, found->compared,
-                found->count);
-        if (found->count > 0) {
-            fprintf(page, "<td class=\"number\">%s %" PRIu64 "</td><td class=\"hex\">", part_words[part].one, found->first);
-            print_unit(page, &rack->result->board, (enum part)part, found->first);
-            fprintf(page, "</td><td class=\"hex\">");
-            print_unit(page, &compared->board->board, (enum part)part, found->first);
-        } else {
-            fprintf(page, "<td></td><td></td><td>");
-        }
-        fprintf(page, "</td></tr>\n");
-    }
-    fprintf(page, "</table>\n<p>Log entries: the result has <span class=\"number\">%" PRIu64 "</span>, ", board_used(&rack->result->board));
+    for (size_t i = 0; i < PARTS; i++)
+        if (has_part(&compared->comparison, part_order[i]))
+            print_difference(page, rack, compared, part_order[i]);
+    fprintf(page, "</table>\n");
+    if (!has_part(&compared->comparison, PART_LOG))
+        return;
+    fprintf(page, "<p>Log entries: the result has <span class=\"number\">%" PRIu64 "</span>, ", board_used(&rack->result->board));
     fprintf(page, "the board <span class=\"number\">%" PRIu64 "</span>.</p>\n", board_used(&compared->board->board));
+}
+
+/* The map of a memory; of data memory that differs also the plot. */
+static void print_picture(FILE *page, const struct board *before, const struct rack *rack, const struct compared *compared, enum part part)
+{
+    const struct board *result = &rack->result->board, *board = &compared->board->board;
+    bool is_data = part_shapes[part].memory == MEMORY_DATA;
+    fprintf(page, "<figure><figcaption>");
+    print_escaped(page, part_shapes[part].words);
+    fprintf(page, " by %s</figcaption>\n", part_shapes[part].one);
+    draw_map(page, before, result, board, part);
+    fprintf(page, "</figure>\n");
+    if (!is_data || compared->comparison.found[part].count == 0)
+        return;
+    fprintf(page, "<figure><figcaption>");
+    print_escaped(page, part_shapes[part].words);
+    fprintf(page, ": board minus result in counts, by quadword: a count that is carried on is a ramp</figcaption>\n");
+    draw_differences(page, result, board, part);
+    fprintf(page, "</figure>\n");
 }
 
 static void print_pictures(FILE *page, const struct board *before, const struct rack *rack, const struct compared *compared)
 {
-    const struct board *result = &rack->result->board, *board = &compared->board->board;
     fprintf(page, "<p><span class=\"key same\"></span>the same<span class=\"key different\"></span>different<span class=\"key untouched\"></span>"
-                  "the same, and as before the transfer</p>\n<figure><figcaption>Data memory by quadword</figcaption>\n");
-    draw_map(page, before, result, board, PART_DATA);
-    fprintf(page, "</figure>\n<figure><figcaption>Code memory by instruction</figcaption>\n");
-    draw_map(page, before, result, board, PART_CODE);
-    fprintf(page, "</figure>\n");
-    if (compared->comparison.found[PART_DATA].count == 0)
-        return;
-    fprintf(page, "<figure><figcaption>Board minus result in counts, by quadword: a count that is carried on is a ramp</figcaption>\n");
-    draw_differences(page, result, board);
-    fprintf(page, "</figure>\n");
+                  "the same, and as before the transfer</p>\n");
+    for (size_t i = 0; i < PARTS; i++)
+        if (part_order[i] != PART_LOG && has_part(&compared->comparison, part_order[i]))
+            print_picture(page, before, rack, compared, part_order[i]);
 }
 
 /* What is being written: the rows of the summary and the sections of the boards. */
@@ -161,9 +189,13 @@ struct report {
 static void print_section(const struct report *report, const struct rack *rack, const struct compared *compared)
 {
     FILE *page = report->sections;
+    char verdict[VERDICT_TEXT];
+    verdict_words(rack, compared, verdict);
     fprintf(page, "<section>\n<h2>");
     print_escaped(page, compared->name);
-    fprintf(page, "</h2>\n<p class=\"%s\">%s</p>\n<table>\n", verdict_class(compared), verdict_words(rack, compared));
+    fprintf(page, "</h2>\n<p class=\"%s\">", verdict_class(compared));
+    print_escaped(page, verdict);
+    fprintf(page, "</p>\n<table>\n");
     if (compared->board != NULL) {
         print_file(page, "board", compared->name, compared->board);
         print_row(page, "it has", parts_words(compared->board->parts), "parts");
@@ -171,7 +203,7 @@ static void print_section(const struct report *report, const struct rack *rack, 
     if (compared->board != NULL && compared->comparison.verdict == VERDICT_REFUSED)
         print_row(page, "refused", tejborun_message(compared->comparison.refusal), "answer");
     fprintf(page, "</table>\n");
-    if (compared->board != NULL && compared->comparison.verdict <= VERDICT_DIFFERENT) {
+    if (compared->board != NULL && is_compared(compared->comparison.verdict)) {
         print_differences(page, rack, compared);
         print_pictures(page, report->before, rack, compared);
     }
@@ -211,8 +243,10 @@ static int write_page(const char *name, const struct rack *rack, const char *row
     if (page == NULL)
         return complain(name, "no memory for the page");
     print_head(page, rack);
-    fprintf(page, "<table class=\"rows\">\n<tr><th>board</th><th>verdict</th><th>quadwords different</th><th>instructions different</th>"
-                  "<th>log entries different</th></tr>\n%s</table>\n%s</body>\n</html>\n", rows, sections);
+    fprintf(page, "<table class=\"rows\">\n<tr><th>board</th><th>verdict</th>");
+    for (size_t i = 0; i < PARTS; i++)
+        fprintf(page, "<th>%s%s different</th>", part_order[i] == PART_LOG ? "log " : part_shapes[part_order[i]].whose, part_shapes[part_order[i]].many);
+    fprintf(page, "</tr>\n%s</table>\n%s</body>\n</html>\n", rows, sections);
     fclose(page);
     int status = write_file(name, (const uint8_t *)text, length);
     free(text);
@@ -239,23 +273,35 @@ static int report_from(const struct words_given *given, const struct board *befo
     return status;
 }
 
+/* What the memories held before the transfer: those of a result, which has the memories that the expectation has; zeros otherwise. */
+static int read_before(const char *from, const struct result *result, struct board *before)
+{
+    struct result first;
+    unsigned needed = result->parts & ~PART_BIT(PART_LOG);
+    if (from == NULL) {
+        *before = new_board(usual_counts(0));
+        return STATUS_DONE;
+    }
+    int status = read_result(from, &first);
+    if (status != STATUS_DONE)
+        return status;
+    *before = first.board;
+    if ((needed & ~first.parts) != 0)
+        return complain(from, "has %s: the transfer began with %s", parts_words(first.parts), parts_words(needed));
+    return STATUS_DONE;
+}
+
 int command_report(const struct words_given *given)
 {
-    struct result result, before = {.parts = PARTS_ALL, .board = new_board(memories_of(VIF1), 0)};
-    const char *from = given->option[OPTION_FROM];
-    int status = STATUS_DONE;
-    if (from != NULL) {
-        free_board(&before.board);
-        status = read_result(from, &before);
-    }
-    if (status == STATUS_DONE && before.parts != PARTS_ALL)
-        status = complain(from, "has %s alone: a transfer begins with all", parts_words(before.parts));
+    struct result result;
+    struct board before = {0};
+    int status = read_result(given->word[0], &result);
+    if (status != STATUS_DONE)
+        return status;
+    status = read_before(given->option[OPTION_FROM], &result, &before);
     if (status == STATUS_DONE)
-        status = read_result(given->word[0], &result);
-    if (status == STATUS_DONE) {
-        status = report_from(given, &before.board, &result);
-        free_board(&result.board);
-    }
-    free_board(&before.board);
+        status = report_from(given, &before, &result);
+    free_board(&before);
+    free_board(&result.board);
     return status;
 }

@@ -58,61 +58,73 @@ static void follow_gif(struct trail *trail, struct path_place *path, size_t at)
 }
 
 /* The vectors that writes take from the payload; where WL is above CL, the others fill. */
-static uint64_t payload_vectors(const struct trail *trail, uint64_t writes)
+static uint64_t payload_vectors(const struct vif_place *vif, uint64_t writes)
 {
-    if (trail->wl <= trail->cl)
+    if (vif->wl <= vif->cl)
         return writes;
-    uint64_t last = writes % trail->wl;
-    return trail->cl * (writes / trail->wl) + (last < trail->cl ? last : trail->cl);
+    uint64_t last = writes % vif->wl;
+    return vif->cl * (writes / vif->wl) + (last < vif->cl ? last : vif->cl);
 }
 
 /* Payload words of UNPACK. */
-static uint64_t unpack_words(const struct trail *trail, uint32_t code)
+static uint64_t unpack_words(const struct vif_place *vif, uint32_t code)
 {
     unsigned vl = code >> 24 & 3, vn = code >> 26 & 3;
     uint64_t writes = (code >> 16 & 255) != 0 ? code >> 16 & 255 : 256;
     uint64_t bits = vl == 3 ? 16 : (32u >> vl) * (vn + 1);
-    return (payload_vectors(trail, writes) * bits + 31) / 32;
+    return (payload_vectors(vif, writes) * bits + 31) / 32;
 }
 
 /* Takes a code: what is due after it. */
-static void follow_code(struct trail *trail, uint32_t code)
+static void follow_code(struct vif_place *vif, uint32_t code)
 {
     uint32_t cmd = code >> 24 & 127, num = code >> 16 & 255, imm = code & 0xFFFF;
-    trail->direct = cmd == 0x50 || cmd == 0x51;
-    trail->due = 0;
+    vif->direct = cmd == 0x50 || cmd == 0x51;
+    vif->due = 0;
     if (cmd == 0x01) {
-        trail->cl = imm & 255;
-        trail->wl = imm >> 8;
+        vif->cl = imm & 255;
+        vif->wl = imm >> 8;
     }
-    if (trail->direct)
-        trail->due = imm != 0 ? imm : 65536;
+    if (vif->direct)
+        vif->due = imm != 0 ? imm : 65536;
     else if (cmd == 0x20)
-        trail->due = 1;
+        vif->due = 1;
     else if (cmd == 0x30 || cmd == 0x31)
-        trail->due = 4;
+        vif->due = 4;
     else if (cmd == 0x4A)
-        trail->due = 2 * (num != 0 ? num : 256);
+        vif->due = 2 * (num != 0 ? num : 256);
     else if (cmd >= 0x60)
-        trail->due = unpack_words(trail, code);
+        vif->due = unpack_words(vif, code);
 }
 
-/* A word to VIF1, or a quadword inside DIRECT; how many words were taken, 0 where the chain stops. */
+/* Whether the VIF takes the word as a code: VIF0 lacks some, and TOPS. */
+static bool takes_code(unsigned vif, uint32_t code)
+{
+    if (vif == 1)
+        return code_shape(code) != NULL;
+    return vif0_code_shape(code) != NULL && !((code & 0x60008000) == 0x60008000);
+}
+
+/* A word to the channel's VIF, or a quadword inside DIRECT; how many words were taken, 0 where the chain stops. */
 static size_t follow_vif(struct trail *trail, size_t at)
 {
-    if (trail->due == 0) {
-        set_role(trail, at, 1, ROLE_CODE);
-        follow_code(trail, word_at(trail, at));
-        return code_shape(word_at(trail, at)) != NULL ? 1 : 0;
+    unsigned number = trail->channel == 0 ? 0 : 1;
+    struct vif_place *vif = &trail->vif[number];
+    if (vif->due == 0) {
+        bool taken = takes_code(number, word_at(trail, at));
+        set_role(trail, at, 1, number == 0 ? ROLE_VIF0_CODE : ROLE_CODE);
+        if (taken)
+            follow_code(vif, word_at(trail, at));
+        return taken ? 1 : 0;
     }
-    if (trail->direct && at % 4 != 0)
+    if (vif->direct && at % 4 != 0)
         return 0;
-    trail->due--;
-    if (trail->direct)
+    vif->due--;
+    if (vif->direct)
         follow_gif(trail, &trail->path[0], at);
     else
         set_role(trail, at, 1, ROLE_PAYLOAD);
-    return trail->direct ? 4 : 1;
+    return vif->direct ? 4 : 1;
 }
 
 /* A quadword to path 3; how many words were taken, 0 where none begins here. */
@@ -179,7 +191,7 @@ static bool follow_tag(struct trail *trail)
     if (trail->tadr % 16 != 0 || at > trail->total || trail->total - at < 4 || trail->left < 4)
         return false;
     trail->left -= 4;
-    set_role(trail, at, 4, ROLE_TAG);
+    set_role(trail, at, 4, trail->channel == 0 ? ROLE_VIF0_TAG : ROLE_TAG);
     uint32_t low = word_at(trail, at), addr = word_at(trail, at + 1) & 0x7FFFFFFF;
     unsigned id = low >> 28 & 7;
     uint64_t words = (uint64_t)(low & 0xFFFF) * 4;
@@ -217,19 +229,26 @@ static struct path_place path_in_state(const struct tejborun_path *held)
     return path;
 }
 
+/* What a VIF waits for; on VIF0 DIRECT never does. */
+static struct vif_place vif_in_state(const struct tejborun_unit *unit, unsigned number)
+{
+    bool direct = unit->waiting == TEJBORUN_WAITS_DIRECT || unit->waiting == TEJBORUN_WAITS_DIRECTHL;
+    struct vif_place vif = {.direct = direct && number == 1, .cl = unit->cl, .wl = unit->wl};
+    if (unit->waiting != TEJBORUN_WAITS_NONE && vif.direct == direct)
+        vif.due = unit->due;
+    return vif;
+}
+
 void trail_from_state(struct trail *trail, const struct tejborun_state *state)
 {
     const struct tejborun_chain *chain = &state->chain;
-    const struct tejborun_unit *unit = &state->vif1;
     trail_start(trail, chain->channel, chain->tadr, chain->tte);
     trail->ended = chain->ended != 0;
     trail->depth = chain->depth <= 2 ? chain->depth : 0;
     trail->stack[0] = chain->stack[0];
     trail->stack[1] = chain->stack[1];
-    trail->direct = unit->waiting == TEJBORUN_WAITS_DIRECT || unit->waiting == TEJBORUN_WAITS_DIRECTHL;
-    trail->due = unit->waiting != TEJBORUN_WAITS_NONE ? unit->due : 0;
-    trail->cl = unit->cl;
-    trail->wl = unit->wl;
+    trail->vif[0] = vif_in_state(&state->vif0, 0);
+    trail->vif[1] = vif_in_state(&state->vif1, 1);
     trail->path[0] = path_in_state(&state->path2);
     trail->path[1] = path_in_state(&state->path3);
     bool tag_words = chain->tag_words == 0 || follow_words(trail, chain->tag_word_at / 4, 4 - chain->tag_word_at / 4 % 4);

@@ -12,7 +12,9 @@ enum role {
     ROLE_NONE,         /* not met */
     ROLE_PART,         /* goes with the word before it */
     ROLE_TAG,          /* word 0 of a DMA tag */
-    ROLE_CODE,         /* a VIF code */
+    ROLE_VIF0_TAG,     /* the same on channel 0 */
+    ROLE_CODE,         /* a code of VIF1 */
+    ROLE_VIF0_CODE,    /* a code of VIF0 */
     ROLE_PAYLOAD,      /* payload of a VIF code */
     ROLE_GIF_TAG,      /* word 0 of a GIF tag */
     ROLE_REGLIST,      /* word 0 of two values */
@@ -26,6 +28,13 @@ struct path_place {
     uint64_t descriptors, due, taken;
 };
 
+/* A VIF: what is due of the code that waits, and the cycle. */
+struct vif_place {
+    bool direct;     /* quadwords of DIRECT are due, else words of another code */
+    uint64_t due;
+    uint64_t cl, wl; /* as STCYCL left them */
+};
+
 /* A chain that is followed. */
 struct trail {
     const uint32_t *word; /* main memory from address 0; what is not given is zero */
@@ -35,9 +44,7 @@ struct trail {
     bool ended;
     uint64_t tadr, stack[2];
     unsigned depth;
-    bool direct;   /* quadwords of DIRECT are due, else words of another code */
-    uint64_t due;
-    uint64_t cl, wl; /* as STCYCL left them */
+    struct vif_place vif[2];   /* 0 and 1 */
     struct path_place path[2]; /* 2 and 3 */
     size_t left;               /* words that are still followed */
 };

@@ -39,32 +39,36 @@ static uint32_t make_start(size_t number, const uint32_t *words, struct board *b
     return answer;
 }
 
-/* What a run works on beside the board. */
+/* What runs work on beside the board; and whose memories they were lent, by VIF. */
 struct lent {
     const uint8_t *main;
     size_t main_bytes;
+    bool memories[VIFS];
 };
 
 /* A long run is made in slices of so many steps, each on what the one before left; to the library that is one run (chain Theorems.run-from). */
 enum { SLICE = 1 << 20 };
 
-/* Runs for at most so many steps, or until it is interrupted. */
-static void run_slices(uint64_t allowance, const struct lent *lent, struct result *result)
+/* Runs for at most so many steps, or until it is interrupted, on the memories of the state's channel. */
+static void run_slices(uint64_t allowance, struct lent *lent, struct result *result)
 {
     struct board *board = &result->board;
+    enum vif vif = lent_vif(&board->state);
+    const size_t *count = board->count.of;
+    lent->memories[vif] = true;
     result->steps = 0;
     show_progress(0);
     do {
         uint64_t rest = allowance - result->steps, steps = 0;
-        result->answer = tejborun_run(lent->main, lent->main_bytes, board->data, board->data_words, board->code, board->code_bytes, board->log,
-                                      board->log_numbers, board_block(board), TEJBORUN_BLOCK_WORDS, rest < SLICE ? rest : SLICE, &steps, 1);
+        result->answer = tejborun_run(lent->main, lent->main_bytes, board->data[vif], count[data_of(vif)], board->code[vif], count[code_of(vif)], board->log,
+                                      count[PART_LOG], board_block(board), TEJBORUN_BLOCK_WORDS, rest < SLICE ? rest : SLICE, &steps, 1);
         result->steps += steps;
         show_progress(result->steps);
     } while (result->answer == TEJBORUN_ALLOWANCE && result->steps < allowance && !is_interrupted());
     end_progress();
 }
 
-static void make_run(size_t number, uint64_t allowance, const struct lent *lent, struct result *result)
+static void make_run(size_t number, uint64_t allowance, struct lent *lent, struct result *result)
 {
     run_slices(allowance, lent, result);
     if (allowance == UINT64_MAX)
@@ -80,7 +84,7 @@ static void make_run(size_t number, uint64_t allowance, const struct lent *lent,
 }
 
 /* Makes the calls. The status: of a refusal, and of the last run where it stopped before the end; a capture without a run stops there too. */
-static int make_calls(const struct words_given *given, const struct capture *capture, const struct lent *lent, struct result *result)
+static int make_calls(const struct words_given *given, const struct capture *capture, struct lent *lent, struct result *result)
 {
     int status = STATUS_DONE, last = STATUS_STOPPED;
     watch_interrupts();
@@ -111,13 +115,16 @@ static int keep_result(const struct words_given *given, const struct result *res
     return status == STATUS_DONE ? write_result(name, result) : status;
 }
 
-static int run_capture(const struct words_given *given, const struct capture *capture, struct board *board)
+/* Runs the capture over a board that has these parts; the others stay lacking in the result. */
+static int run_capture(const struct words_given *given, const struct capture *capture, struct board *board, unsigned parts)
 {
     uint8_t *main = capture_main(capture);
-    struct lent lent = {main, capture->head.main_bytes};
-    struct result result = {.parts = PARTS_ALL, .board = copy_board(board)};
+    struct lent lent = {.main = main, .main_bytes = capture->head.main_bytes};
+    struct result result = {.parts = parts, .board = copy_board(board)};
     int status = make_calls(given, capture, &lent, &result);
-    print_changes(board, &result.board);
+    if (!lent.memories[VIF0] && !lent.memories[VIF1])
+        lent.memories[lent_vif(&result.board.state)] = true;
+    print_changes(board, &result.board, lent.memories);
     status = worse(status, keep_result(given, &result));
     free(main);
     free_board(&result.board);
@@ -127,11 +134,27 @@ static int run_capture(const struct words_given *given, const struct capture *ca
 /* Whether the capture begins with anything but zero memories, an empty log and the reset state. */
 static bool begins_with_something(const struct capture *capture)
 {
-    const struct capture_head *head = &capture->head;
     struct tejborun_state reset;
     tejborun_reset((uint32_t *)&reset, TEJBORUN_BLOCK_WORDS);
-    return is_test_case(head) || head->first.data_words > 0 || head->first.code_bytes > 0 || head->first.log_numbers > 0 ||
-           memcmp(&reset, &capture->board.state, sizeof reset) != 0;
+    for (size_t part = 0; part < PARTS; part++)
+        if (capture->head.first[part] > 0)
+            return true;
+    return is_test_case(&capture->head) || memcmp(&reset, &capture->board.state, sizeof reset) != 0;
+}
+
+/* The parts that the runs work on, by the channels that are started; before the first start the state's own. */
+static unsigned parts_needed(const struct words_given *given, const struct capture *capture, const struct tejborun_state *state)
+{
+    unsigned parts = 0;
+    enum vif vif = lent_vif(state);
+    for (size_t i = 0; i < capture->head.calls; i++) {
+        const uint32_t *words = capture->call[i].words;
+        if (words[0] != 1)
+            parts |= parts_of(vif);
+        else if (given->option[OPTION_NO_START] == NULL)
+            vif = words[1] == 0 ? VIF0 : VIF1;
+    }
+    return parts;
 }
 
 /* Runs the capture over what a result holds. */
@@ -144,10 +167,11 @@ static int run_from(const struct words_given *given, const struct capture *captu
     int status = read_result(from, &first);
     if (status != STATUS_DONE)
         return status;
-    if (first.parts == PARTS_ALL)
-        status = run_capture(given, capture, &first.board);
+    unsigned needed = parts_needed(given, capture, &first.board.state);
+    if ((needed & ~first.parts) == 0)
+        status = run_capture(given, capture, &first.board, first.parts);
     else
-        status = complain(from, "has %s alone: a run begins with all", parts_words(first.parts));
+        status = complain(from, "has %s: this run begins with %s", parts_words(first.parts), parts_words(needed));
     free_board(&first.board);
     return status;
 }
@@ -158,7 +182,7 @@ int command_run(const struct words_given *given)
     int status = read_capture(given->word[0], &capture);
     if (status != STATUS_DONE)
         return status;
-    status = given->option[OPTION_FROM] != NULL ? run_from(given, &capture) : run_capture(given, &capture, &capture.board);
+    status = given->option[OPTION_FROM] != NULL ? run_from(given, &capture) : run_capture(given, &capture, &capture.board, PARTS_ALL);
     free_capture(&capture);
     return status;
 }
@@ -166,13 +190,14 @@ int command_run(const struct words_given *given)
 /* Plays the sheet over the result's board; before is the same board. */
 static int play_sheet(const struct words_given *given, const struct bytes *sheet, const struct board *before, struct result *result)
 {
+    static const bool lent[VIFS] = {[VIF1] = true};
     struct board *board = &result->board;
     uint64_t numbers[2] = {0};
     uint8_t *main = allocate(TEJBORUN_MAIN_BYTES, 1);
     tejborun_reset(board_block(board), TEJBORUN_BLOCK_WORDS);
-    result->answer = tejborun_build_and_run(sheet->at, sheet->count, main, TEJBORUN_MAIN_BYTES, 0, board->data, board->data_words, board->code,
-                                            board->code_bytes, board->log, board->log_numbers, board_block(board), TEJBORUN_BLOCK_WORDS, UINT64_MAX,
-                                            numbers, 2);
+    result->answer = tejborun_build_and_run(sheet->at, sheet->count, main, TEJBORUN_MAIN_BYTES, 0, board->data[VIF1], board->count.of[PART_DATA],
+                                            board->code[VIF1], board->count.of[PART_CODE], board->log, board->count.of[PART_LOG], board_block(board),
+                                            TEJBORUN_BLOCK_WORDS, UINT64_MAX, numbers, 2);
     free(main);
     if (is_sheet_refusal(result->answer) && is_text(sheet))
         complain(given->word[0], "it is text; assemble it first: tejborun assemble sheet %s -o SHEET", given->word[0]);
@@ -180,7 +205,7 @@ static int play_sheet(const struct words_given *given, const struct bytes *sheet
         return sheet_refused(given->word[0], result->answer, numbers[1]);
     result->steps = numbers[0];
     print_run(result->answer, result->steps);
-    print_changes(before, board);
+    print_changes(before, board, lent);
     return worse(status_of(result->answer), keep_result(given, result));
 }
 
@@ -190,7 +215,7 @@ int command_play(const struct words_given *given)
     int status = read_sheet(given->word[0], &sheet);
     if (status != STATUS_DONE)
         return status;
-    struct result result = {.parts = PARTS_ALL, .board = new_board(memories_of(VIF1), TEJBORUN_LOG_NUMBERS)};
+    struct result result = {.parts = PARTS_ALL, .board = new_board(usual_counts(TEJBORUN_LOG_NUMBERS))};
     struct board before = copy_board(&result.board);
     status = play_sheet(given, &sheet, &before, &result);
     free_board(&before);

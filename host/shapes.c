@@ -95,6 +95,15 @@ const struct shape *code_shape(uint32_t word)
     return shape;
 }
 
+const struct shape *vif0_code_shape(uint32_t word)
+{
+    static const uint8_t missing[] = {0x02, 0x03, 0x06, 0x11, 0x13, 0x15, 0x50, 0x51};
+    for (size_t i = 0; i < sizeof missing; i++)
+        if ((word >> 24 & 127) == missing[i])
+            return NULL;
+    return code_shape(word);
+}
+
 static const char *const gif_format_names[3] = {"PACKED", "REGLIST", "IMAGE"};
 const struct names gif_formats = {3, gif_format_names};
 
@@ -132,19 +141,22 @@ const struct shape calls[] = {
 
 /* The lengths of what follows are counted. */
 #define CAPTURE_FIELDS                                                                                                                            \
-    CAPTURE("main-bytes", main_bytes, FIELD_SHOWN), CAPTURE("data-words", data_words, FIELD_SHOWN), CAPTURE("code-bytes", code_bytes, FIELD_SHOWN), \
-        CAPTURE("log-numbers", log_numbers, FIELD_SHOWN)
+    CAPTURE("main-bytes", main_bytes, FIELD_SHOWN), CAPTURE("data-words", length[PART_DATA], FIELD_SHOWN),                                        \
+        CAPTURE("code-bytes", length[PART_CODE], FIELD_SHOWN), CAPTURE("vif0.data-words", length[PART_DATA0], FIELD_SHOWN),                       \
+        CAPTURE("vif0.code-bytes", length[PART_CODE0], FIELD_SHOWN), CAPTURE("log-numbers", length[PART_LOG], FIELD_SHOWN)
 
 static const struct field capture_head[] = {CAPTURE_FIELDS};
 static const struct field test_case_head[] = {
     CAPTURE_FIELDS,
-    CAPTURE("fill", test.fill, FIELD_SHOWN | FIELD_HEX),
-    CAPTURE("whole", test.whole, FIELD_SHOWN),
+    CAPTURE("fill", fill, FIELD_SHOWN | FIELD_HEX),
+    CAPTURE("whole", whole, FIELD_SHOWN),
 };
 
+enum { CAPTURE_WORDS = TEJBORUN_WORDS_OF(struct capture_head) };
+
 const struct shape capture_heads[] = {
-    {"capture", CAPTURE_HEAD_WORDS, UINT32_MAX, UINT32_C(0x32414354), LIST(capture_head)},
-    {"capture", CAPTURE_HEAD_WORDS, UINT32_MAX, UINT32_C(0x50414354), LIST(test_case_head)},
+    {"capture", CAPTURE_WORDS, UINT32_MAX, UINT32_C(0x33414354), LIST(capture_head)},
+    {"capture", CAPTURE_WORDS, UINT32_MAX, UINT32_C(0x32504354), LIST(test_case_head)},
     END,
 };
 
@@ -153,14 +165,19 @@ const struct shape capture_heads[] = {
 /* The state block has lines of its own. */
 #define RESULT_FIELDS RESULT("answer", answer), RESULT("steps", steps), RESULT("log-numbers", log_numbers)
 
-static const char *const parts_names[PARTS_ALL] = {NULL, "data", "code", "data+code", "log", "data+log", "code+log"};
-static const struct names parts = {PARTS_ALL, parts_names};
+/* The sets of parts by their sums: those of VIF1's memories and the log, alone and with VIF0's. */
+#define WITHOUT_VIF0(more) "data" more, "code" more, "data+code" more, "log" more, "data+log" more, "code+log" more, "data+code+log" more
+static const char *const parts_texts[PARTS_ALL + 1] = {
+    NULL, WITHOUT_VIF0(""), "data0", WITHOUT_VIF0("+data0"), "code0", WITHOUT_VIF0("+code0"), "data0+code0", WITHOUT_VIF0("+data0+code0"),
+};
+static const struct names parts = {PARTS_ALL + 1, parts_texts};
 
 static const struct field result_head[] = {RESULT_FIELDS};
 static const struct field partial_result_head[] = {RESULT_FIELDS, MEMBER(struct result_head, "parts", parts, FIELD_SHOWN, &parts)};
 
+#define RESULT_MARK UINT32_C(0x33455254)
 const struct shape result_heads[] = {
-    {"result", RESULT_HEAD_WORDS, UINT32_MAX, UINT32_C(0x53455254), LIST(result_head)},
-    {"result", RESULT_HEAD_WORDS, UINT32_MAX, UINT32_C(0x32455254), LIST(partial_result_head)},
+    {"result", RESULT_HEAD_WORDS, UINT32_MAX, RESULT_MARK, LIST(result_head)},
+    {"result", RESULT_HEAD_WORDS, UINT32_MAX, RESULT_MARK, LIST(partial_result_head)},
     END,
 };

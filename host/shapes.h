@@ -10,13 +10,14 @@ extern const struct shape gif_tags[];     /* one, which every quadword fits */
 extern const struct shape record_heads[]; /* a sheet's, two words of which the last two bytes are not the header's */
 extern const struct shape calls[];        /* a capture's */
 extern const struct shape capture_heads[]; /* of a capture, and of a test case */
-extern const struct shape result_heads[];  /* of a whole result, and of one that lacks parts */
+extern const struct shape result_heads[];  /* of a whole result, and of one that lacks parts; they have one mark */
 extern const struct shape state_blocks[];
 
 /* The names of formats by their numbers. */
 extern const struct names unpack_formats, gif_formats;
 
-/* Whether the word is a code: UNPACK of a format that exists, or another that is listed. */
+/* Whether the word is a code: UNPACK of a format that exists, or another that is listed; and whether VIF0 has that code. */
 const struct shape *code_shape(uint32_t word);
+const struct shape *vif0_code_shape(uint32_t word);
 
 #endif

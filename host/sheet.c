@@ -95,8 +95,8 @@ static int feed_sheet(const char *name, const struct bytes *sheet, struct result
     if (status != STATUS_DONE)
         return status;
     tejborun_reset(board_block(board), TEJBORUN_BLOCK_WORDS);
-    uint32_t answer = tejborun_meaning(sheet->at, sheet->count, board->data, board->data_words, board->code, board->code_bytes, board->log,
-                                       board->log_numbers, board_used(board), numbers, 2);
+    uint32_t answer = tejborun_meaning(sheet->at, sheet->count, board->data[VIF1], board->count.of[PART_DATA], board->code[VIF1], board->count.of[PART_CODE],
+                                       board->log, board->count.of[PART_LOG], board_used(board), numbers, 2);
     if (answer != TEJBORUN_DONE)
         return sheet_refused(name, answer, numbers[1]);
     set_board_used(board, numbers[0]);
@@ -109,7 +109,7 @@ int command_meaning(const struct words_given *given)
     int status = read_sheet(given->word[0], &sheet);
     if (status != STATUS_DONE)
         return status;
-    struct result result = {.parts = PARTS_ALL, .board = new_board(memories_of(VIF1), TEJBORUN_LOG_NUMBERS)};
+    struct result result = {.parts = PARTS_ALL, .board = new_board(usual_counts(TEJBORUN_LOG_NUMBERS))};
     status = feed_sheet(given->word[0], &sheet, &result);
     if (status == STATUS_DONE)
         status = write_result(given->option[OPTION_OUTPUT], &result);

@@ -15,7 +15,8 @@ static const struct names places = {sizeof place_names / sizeof place_names[0], 
 #define NAMED(name, member, flags, names) MEMBER(struct tejborun_state, name, member, flags, names)
 #define PLAIN(name, member, flags) NAMED(name, member, flags, NULL)
 
-/* The fields of the chain, a unit and a path; those of a unit or path have a prefix, as a state may have several. */
+/* The fields of the chain, a unit and a path. Those of a unit or path have a prefix, as a state has several; VIF1's have none. Where they are zero, VIF0's are
+ * not shown: most transfers are without it. */
 #define CHAIN_FIELDS(chain)                                                                                                                       \
     PLAIN("channel", chain.channel, FIELD_SHOWN),                                                                                                 \
     PLAIN("tadr", chain.tadr, FIELD_SHOWN | FIELD_HEX),                                                                                           \
@@ -30,29 +31,29 @@ static const struct names places = {sizeof place_names / sizeof place_names[0], 
     PLAIN("payload-words", chain.payload_words, 0),                                                                                               \
     PLAIN("payload-at", chain.payload_at, FIELD_HEX)
 
-#define UNIT_FIELDS(prefix, unit)                                                                                                                 \
-    PLAIN(prefix "cl", unit.cl, FIELD_LINE | FIELD_SHOWN),                                                                                        \
-    PLAIN(prefix "wl", unit.wl, FIELD_SHOWN),                                                                                                     \
-    PLAIN(prefix "ofst", unit.ofst, FIELD_SHOWN),                                                                                                 \
-    PLAIN(prefix "base", unit.base, FIELD_SHOWN),                                                                                                 \
-    PLAIN(prefix "tops", unit.tops, FIELD_SHOWN),                                                                                                 \
-    PLAIN(prefix "top", unit.top, FIELD_SHOWN),                                                                                                   \
-    PLAIN(prefix "itops", unit.itops, FIELD_SHOWN),                                                                                               \
-    PLAIN(prefix "itop", unit.itop, FIELD_SHOWN),                                                                                                 \
-    PLAIN(prefix "dbf", unit.dbf, FIELD_SHOWN),                                                                                                   \
-    PLAIN(prefix "mode", unit.mode, FIELD_SHOWN),                                                                                                 \
-    PLAIN(prefix "mskpath3", unit.mskpath3, FIELD_SHOWN),                                                                                         \
-    PLAIN(prefix "mark", unit.mark, FIELD_SHOWN),                                                                                                 \
-    PLAIN(prefix "mask", unit.mask, FIELD_SHOWN | FIELD_HEX),                                                                                     \
-    PLAIN(prefix "row0", unit.row[0], FIELD_LINE | FIELD_SHOWN | FIELD_HEX),                                                                      \
-    PLAIN(prefix "row1", unit.row[1], FIELD_SHOWN | FIELD_HEX),                                                                                   \
-    PLAIN(prefix "row2", unit.row[2], FIELD_SHOWN | FIELD_HEX),                                                                                   \
-    PLAIN(prefix "row3", unit.row[3], FIELD_SHOWN | FIELD_HEX),                                                                                   \
-    PLAIN(prefix "col0", unit.col[0], FIELD_LINE | FIELD_SHOWN | FIELD_HEX),                                                                      \
-    PLAIN(prefix "col1", unit.col[1], FIELD_SHOWN | FIELD_HEX),                                                                                   \
-    PLAIN(prefix "col2", unit.col[2], FIELD_SHOWN | FIELD_HEX),                                                                                   \
-    PLAIN(prefix "col3", unit.col[3], FIELD_SHOWN | FIELD_HEX),                                                                                   \
-    NAMED(prefix "waiting", unit.waiting, FIELD_LINE | FIELD_SHOWN, &waiting),                                                                    \
+#define UNIT_FIELDS(prefix, unit, shown)                                                                                                          \
+    PLAIN(prefix "cl", unit.cl, FIELD_LINE | shown),                                                                                              \
+    PLAIN(prefix "wl", unit.wl, shown),                                                                                                           \
+    PLAIN(prefix "ofst", unit.ofst, shown),                                                                                                       \
+    PLAIN(prefix "base", unit.base, shown),                                                                                                       \
+    PLAIN(prefix "tops", unit.tops, shown),                                                                                                       \
+    PLAIN(prefix "top", unit.top, shown),                                                                                                         \
+    PLAIN(prefix "itops", unit.itops, shown),                                                                                                     \
+    PLAIN(prefix "itop", unit.itop, shown),                                                                                                       \
+    PLAIN(prefix "dbf", unit.dbf, shown),                                                                                                         \
+    PLAIN(prefix "mode", unit.mode, shown),                                                                                                       \
+    PLAIN(prefix "mskpath3", unit.mskpath3, shown),                                                                                               \
+    PLAIN(prefix "mark", unit.mark, shown),                                                                                                       \
+    PLAIN(prefix "mask", unit.mask, shown | FIELD_HEX),                                                                                           \
+    PLAIN(prefix "row0", unit.row[0], FIELD_LINE | shown | FIELD_HEX),                                                                            \
+    PLAIN(prefix "row1", unit.row[1], shown | FIELD_HEX),                                                                                         \
+    PLAIN(prefix "row2", unit.row[2], shown | FIELD_HEX),                                                                                         \
+    PLAIN(prefix "row3", unit.row[3], shown | FIELD_HEX),                                                                                         \
+    PLAIN(prefix "col0", unit.col[0], FIELD_LINE | shown | FIELD_HEX),                                                                            \
+    PLAIN(prefix "col1", unit.col[1], shown | FIELD_HEX),                                                                                         \
+    PLAIN(prefix "col2", unit.col[2], shown | FIELD_HEX),                                                                                         \
+    PLAIN(prefix "col3", unit.col[3], shown | FIELD_HEX),                                                                                         \
+    NAMED(prefix "waiting", unit.waiting, FIELD_LINE | shown, &waiting),                                                                          \
     PLAIN(prefix "irq", unit.irq, 0),                                                                                                             \
     PLAIN(prefix "due", unit.due, 0),                                                                                                             \
     PLAIN(prefix "address", unit.address, 0),                                                                                                     \
@@ -76,7 +77,8 @@ static const struct names places = {sizeof place_names / sizeof place_names[0], 
 
 static const struct field state[] = {
     CHAIN_FIELDS(chain),
-    UNIT_FIELDS("", vif1),
+    UNIT_FIELDS("", vif1, FIELD_SHOWN),
+    UNIT_FIELDS("vif0.", vif0, 0),
     PATH_FIELDS("path2.", path2),
     PATH_FIELDS("path3.", path3),
 };

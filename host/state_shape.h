@@ -46,6 +46,7 @@ struct tejborun_state {
     struct tejborun_chain chain;
     struct tejborun_unit vif1;
     struct tejborun_path path2, path3;
+    struct tejborun_unit vif0;
 };
 
 /* The words of a struct of words. */

@@ -1,4 +1,4 @@
-/* Tejborun: what a DMA transfer leaves in the memories behind VIF1 and the GIF.
+/* Tejborun: what a DMA transfer leaves in the memories behind VIF0, VIF1 and the GIF.
  *
  * Every function takes any input. A buffer is a pointer and its number of elements; the pointer must be valid for that many elements (it may be null
  * where the number is 0), aligned for its type, and no buffer that is written may overlap another one of the same call. What const points to is only
@@ -24,13 +24,17 @@
 extern "C" {
 #endif
 
-#define TEJBORUN_VERSION "0.2.0"
+#define TEJBORUN_VERSION "0.3.0"
 
-/* The memories of VIF1, and the lengths in which they are lent. */
+/* The memories of each VIF, and the lengths in which they are lent. */
 #define TEJBORUN_VIF1_QUADWORDS 1024u    /* of data memory */
 #define TEJBORUN_VIF1_INSTRUCTIONS 2048u /* of code memory */
-#define TEJBORUN_DATA_WORDS (4u * TEJBORUN_VIF1_QUADWORDS)
-#define TEJBORUN_CODE_BYTES (8u * TEJBORUN_VIF1_INSTRUCTIONS)
+#define TEJBORUN_VIF1_DATA_WORDS (4u * TEJBORUN_VIF1_QUADWORDS)
+#define TEJBORUN_VIF1_CODE_BYTES (8u * TEJBORUN_VIF1_INSTRUCTIONS)
+#define TEJBORUN_VIF0_QUADWORDS 256u
+#define TEJBORUN_VIF0_INSTRUCTIONS 512u
+#define TEJBORUN_VIF0_DATA_WORDS (4u * TEJBORUN_VIF0_QUADWORDS)
+#define TEJBORUN_VIF0_CODE_BYTES (8u * TEJBORUN_VIF0_INSTRUCTIONS)
 
 /* An entry of the log by its numbers, and the longest log. */
 #define TEJBORUN_ENTRY_REGISTER 0u
@@ -49,8 +53,8 @@ enum tejborun_answer {
 
     /* entry */
     TEJBORUN_BAD_MAIN = 1,  /* length of main memory: 0, no multiple of 16, or above TEJBORUN_MAIN_BYTES */
-    TEJBORUN_BAD_DATA = 2,  /* length of data memory: not TEJBORUN_DATA_WORDS */
-    TEJBORUN_BAD_CODE = 3,  /* length of code memory: not TEJBORUN_CODE_BYTES */
+    TEJBORUN_BAD_DATA = 2,  /* length of data memory: not TEJBORUN_VIF1_DATA_WORDS, of VIF0 not TEJBORUN_VIF0_DATA_WORDS */
+    TEJBORUN_BAD_CODE = 3,  /* length of code memory: not TEJBORUN_VIF1_CODE_BYTES, of VIF0 not TEJBORUN_VIF0_CODE_BYTES */
     TEJBORUN_BAD_LOG = 4,   /* length of the log: no whole entries, above TEJBORUN_LOG_NUMBERS, or below the entries used */
     TEJBORUN_BAD_VALUE = 5, /* a state or start value outside the range of its field */
 
@@ -62,11 +66,12 @@ enum tejborun_answer {
     TEJBORUN_BAD_PAYLOAD = 14, /* payload outside main memory; at entry, pending words */
 
     /* VIF step */
-    TEJBORUN_BAD_CMD = 20,    /* CMD not listed */
+    TEJBORUN_BAD_CMD = 20,    /* CMD not listed, or on VIF0 one of 02, 03, 06, 11, 13, 15, 50, 51 (hexadecimal) */
     TEJBORUN_BAD_FORMAT = 21, /* UNPACK with vl 3 and vn below 3 */
     TEJBORUN_BAD_CYCLE = 22,  /* UNPACK with WL 0 */
     TEJBORUN_BAD_MODE = 23,   /* STMOD 3 */
     TEJBORUN_BAD_DIRECT = 24, /* DIRECT payload due and the next word is not word 0 */
+    TEJBORUN_BAD_TOPS = 26,   /* UNPACK with IMM bit 15 on VIF0, which has no TOPS */
 
     /* GIF step; 31 also in a VIF step and for a sheet's meaning */
     TEJBORUN_BAD_DESCRIPTOR = 30, /* descriptor B met at its data */
@@ -105,7 +110,7 @@ size_t tejborun_build(const uint8_t *sheet, size_t sheet_bytes, uint8_t *output,
  * result[0]: the steps, 0 where refused; result[1]: the offset of the refused record, 0 for 46 and where there is none. */
 uint32_t tejborun_steps(const uint8_t *sheet, size_t sheet_bytes, uint64_t *result, size_t result_numbers);
 
-/* The plain meaning of a sheet: its records fed to the memories and to the log after its first `used` entries.
+/* The plain meaning of a sheet: its records fed to VIF1's memories and to the log after its first `used` entries.
  * Answers 0, or 2, 3, 4 for the lengths, the sheet's refusal, or 31 where the log lacks room; a refusal changes no memory.
  * result[0]: the entries used afterwards, as given where refused; result[1]: the offset of the refused record, 0 where there is none. */
 uint32_t tejborun_meaning(const uint8_t *sheet, size_t sheet_bytes, uint32_t *data, size_t data_words, uint8_t *code, size_t code_bytes, uint64_t *log,
@@ -114,29 +119,46 @@ uint32_t tejborun_meaning(const uint8_t *sheet, size_t sheet_bytes, uint32_t *da
 /* Writes the reset state to a state block. Answers 0 or TEJBORUN_SHORT. */
 uint32_t tejborun_reset(uint32_t *block, size_t block_words);
 
-/* Starts a chain: channel 1 or 2, the address of the first tag, tag transfer 0 or 1. Answers 0, 5 or TEJBORUN_SHORT. A tag transfer above 1 changes nothing. */
+/* Starts a chain: channel 0 (VIF0), 1 (VIF1) or 2 (the GIF), the address of the first tag, tag transfer 0 or 1. Answers 0, 5 or TEJBORUN_SHORT. A tag
+ * transfer above 1 changes nothing. */
 uint32_t tejborun_start(uint32_t *block, size_t block_words, uint32_t channel, uint32_t tadr, uint32_t tte);
 
-/* Runs the chain for at most so many steps. Answers 0, 90, 91 or the refusal. result[0]: the steps completed. */
+/* Runs the chain for at most so many steps. It is lent the memories of the state's channel: VIF0's where the block's channel is 0, VIF1's where it is anything
+ * else. Answers 0, 90, 91 or the refusal. result[0]: the steps completed. */
 uint32_t tejborun_run(const uint8_t *main, size_t main_bytes, uint32_t *data, size_t data_words, uint8_t *code, size_t code_bytes, uint64_t *log,
                       size_t log_numbers, uint32_t *block, size_t block_words, uint64_t allowance, uint64_t *result, size_t result_numbers);
 
-/* Builds a sheet's chain at an address in main memory, starts it on channel 1 and runs it. Answers the run's answer, or, before any memory is changed, 1 to
- * 5 or the builder's refusal. result[0]: the steps completed; result[1]: the offset of the refused record, 0 where there is none. */
+/* Builds a sheet's chain at an address in main memory, starts it on channel 1 and runs it; it is lent VIF1's memories, whatever channel the block holds.
+ * Answers the run's answer, or, before any memory is changed, 1 to 5 or the builder's refusal. result[0]: the steps completed; result[1]: the offset of the
+ * refused record, 0 where there is none. */
 uint32_t tejborun_build_and_run(const uint8_t *sheet, size_t sheet_bytes, uint8_t *main, size_t main_bytes, uint32_t address, uint32_t *data,
                                 size_t data_words, uint8_t *code, size_t code_bytes, uint64_t *log, size_t log_numbers, uint32_t *block,
                                 size_t block_words, uint64_t allowance, uint64_t *result, size_t result_numbers);
 
-/* Compares two boards' memories and logs. Answers TEJBORUN_SAME, TEJBORUN_DIFFERENT, or TEJBORUN_REFUSED + 2, 3 or 4 for a length that is wrong on either
- * side, the lowest where several are. result[0], [1]: the first quadword that differs and how many differ; [2], [3]: instructions; [4], [5]: log
- * entries that both have. Where none differs, the first is the number compared; where refused, all six are 0. Logs that differ in their length alone are
- * TEJBORUN_DIFFERENT, though [5] is 0: [4] is then the length of the shorter, and which is longer stands in used_a and used_b. */
+/* What of two boards is compared: a sum of these. */
+#define TEJBORUN_PART_VIF1_DATA 1u
+#define TEJBORUN_PART_VIF1_CODE 2u
+#define TEJBORUN_PART_LOG 4u
+#define TEJBORUN_PART_VIF0_DATA 8u
+#define TEJBORUN_PART_VIF0_CODE 16u
+#define TEJBORUN_PARTS 31u
+
+/* Compares the parts of two boards that are asked for; the others are not looked at, and may be null with 0 elements. Answers TEJBORUN_SAME,
+ * TEJBORUN_DIFFERENT, TEJBORUN_REFUSED + 5 for parts that are 0 or above TEJBORUN_PARTS, or TEJBORUN_REFUSED + 2, 3 or 4 for a length of a part asked for
+ * that is wrong on either side, the lowest where several are; TEJBORUN_SHORT where the result has fewer than TEJBORUN_COMPARED numbers.
+ * result[0], [1]: the first quadword of VIF1 that differs and how many differ; [2], [3]: instructions of VIF1; [4], [5]: log entries that both have;
+ * [6], [7]: quadwords of VIF0; [8], [9]: instructions of VIF0. Where none differs, the first is the number compared; of a part not asked for both are 0,
+ * and where refused all ten are. Logs that differ in their length alone are TEJBORUN_DIFFERENT, though [5] is 0: [4] is then the length of the shorter, and
+ * which is longer stands in used_a and used_b. */
 #define TEJBORUN_SAME 0u
 #define TEJBORUN_DIFFERENT 1u
 #define TEJBORUN_REFUSED 100u
-uint32_t tejborun_compare(const uint32_t *data_a, size_t data_a_words, const uint8_t *code_a, size_t code_a_bytes, const uint64_t *log_a, size_t log_a_numbers,
-                          uint64_t used_a, const uint32_t *data_b, size_t data_b_words, const uint8_t *code_b, size_t code_b_bytes, const uint64_t *log_b,
-                          size_t log_b_numbers, uint64_t used_b, uint64_t *result, size_t result_numbers);
+#define TEJBORUN_COMPARED 10u
+uint32_t tejborun_compare(const uint32_t *data1_a, size_t data1_a_words, const uint8_t *code1_a, size_t code1_a_bytes, const uint32_t *data0_a,
+                          size_t data0_a_words, const uint8_t *code0_a, size_t code0_a_bytes, const uint64_t *log_a, size_t log_a_numbers, uint64_t used_a,
+                          const uint32_t *data1_b, size_t data1_b_words, const uint8_t *code1_b, size_t code1_b_bytes, const uint32_t *data0_b,
+                          size_t data0_b_words, const uint8_t *code0_b, size_t code0_b_bytes, const uint64_t *log_b, size_t log_b_numbers, uint64_t used_b,
+                          uint32_t parts, uint64_t *result, size_t result_numbers);
 
 #ifdef __cplusplus
 }

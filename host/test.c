@@ -96,14 +96,22 @@ static uint64_t *entry(const struct lent *log, size_t number)
 /* The word of a state block at which a member begins. */
 #define WORD(member) (offsetof(struct tejborun_state, member) / sizeof(uint32_t))
 
-/* Lengths in elements. */
+/* Lengths in elements; data0 and code0 where boards are compared. */
 struct lengths {
-    size_t main, data, code, log, block, result;
+    size_t main, data, code, log, block, result, data0, code0;
 };
 
 enum { ENTRIES = 32 }; /* of a log */
 
-static const struct lengths good = {256, TEJBORUN_DATA_WORDS, TEJBORUN_CODE_BYTES, ENTRIES * TEJBORUN_ENTRY_NUMBERS, TEJBORUN_BLOCK_WORDS, 2};
+static const struct lengths good = {
+    256, TEJBORUN_VIF1_DATA_WORDS, TEJBORUN_VIF1_CODE_BYTES, ENTRIES * TEJBORUN_ENTRY_NUMBERS, TEJBORUN_BLOCK_WORDS, 2, TEJBORUN_VIF0_DATA_WORDS,
+    TEJBORUN_VIF0_CODE_BYTES,
+};
+
+/* Those of a run on channel 0. */
+static const struct lengths good0 = {
+    256, TEJBORUN_VIF0_DATA_WORDS, TEJBORUN_VIF0_CODE_BYTES, ENTRIES * TEJBORUN_ENTRY_NUMBERS, TEJBORUN_BLOCK_WORDS, 2, 0, 0,
+};
 
 /* A length that is refused, and the answer. */
 struct wrong {
@@ -114,12 +122,16 @@ struct wrong {
 
 #define LENGTH(name) offsetof(struct lengths, name)
 
-/* The good lengths but for one. */
-static struct lengths with_wrong(const struct wrong *wrong)
+/* Lengths but for one; the good ones but for one. */
+static struct lengths but_for(struct lengths lengths, const struct wrong *wrong)
 {
-    struct lengths lengths = good;
     memcpy((uint8_t *)&lengths + wrong->length, &wrong->value, sizeof wrong->value);
     return lengths;
+}
+
+static struct lengths with_wrong(const struct wrong *wrong)
+{
+    return but_for(good, wrong);
 }
 
 /* All buffers of a call. */
@@ -361,11 +373,11 @@ static void try_meaning(const uint8_t *bytes, size_t count, struct lengths lengt
 static void test_meaning(bool end)
 {
     static const struct wrong wrong[] = {
-        {LENGTH(data), TEJBORUN_DATA_WORDS - 1, TEJBORUN_BAD_DATA},
-        {LENGTH(data), TEJBORUN_DATA_WORDS + 1, TEJBORUN_BAD_DATA},
+        {LENGTH(data), TEJBORUN_VIF1_DATA_WORDS - 1, TEJBORUN_BAD_DATA},
+        {LENGTH(data), TEJBORUN_VIF1_DATA_WORDS + 1, TEJBORUN_BAD_DATA},
         {LENGTH(data), 0, TEJBORUN_BAD_DATA},
-        {LENGTH(code), TEJBORUN_CODE_BYTES - 1, TEJBORUN_BAD_CODE},
-        {LENGTH(code), TEJBORUN_CODE_BYTES + 8, TEJBORUN_BAD_CODE},
+        {LENGTH(code), TEJBORUN_VIF1_CODE_BYTES - 1, TEJBORUN_BAD_CODE},
+        {LENGTH(code), TEJBORUN_VIF1_CODE_BYTES + 8, TEJBORUN_BAD_CODE},
         {LENGTH(code), 0, TEJBORUN_BAD_CODE},
         {LENGTH(log), ENTRIES * TEJBORUN_ENTRY_NUMBERS - 1, TEJBORUN_BAD_LOG},
         {LENGTH(log), TEJBORUN_LOG_NUMBERS + TEJBORUN_ENTRY_NUMBERS, TEJBORUN_BAD_LOG},
@@ -431,24 +443,32 @@ static void try_start(size_t length, size_t word, uint32_t value, const uint32_t
 
 static void test_start(bool end)
 {
-    static const uint32_t accepted[3] = {1, 0x7FFFFFF0, 1}, on_2[3] = {2, 16, 0};
-    static const uint32_t wrong[][3] = {{0, 0, 0}, {3, 0, 0}, {UINT32_MAX, 0, 0}, {1, 8, 0}, {1, 0x80000000, 0}, {1, UINT32_MAX, 0}, {1, 0, 2}, {2, 0, 1}};
+    static const uint32_t accepted[3] = {1, 0x7FFFFFF0, 1}, on_2[3] = {2, 16, 0}, on_0[3] = {0, 32, 1};
+    static const uint32_t wrong[][3] = {
+        {3, 0, 0}, {UINT32_MAX, 0, 0}, {1, 8, 0}, {1, 0x80000000, 0}, {1, UINT32_MAX, 0}, {1, 0, 2}, {2, 0, 1}, {0, 8, 0}, {0, 0, 2},
+    };
     static const size_t lengths[] = {0, TEJBORUN_BLOCK_WORDS - 1, TEJBORUN_BLOCK_WORDS + 1};
     static const struct {
         size_t word;
         uint32_t value;
     } states[] = {
-        {WORD(chain.channel), 3}, {WORD(chain.tte), 2},     {WORD(chain.depth), 3},
-        {WORD(vif1.cl), 256},     {WORD(vif1.waiting), 8}, {WORD(path2.place), 2},
+        {WORD(chain.channel), 3}, {WORD(chain.tte), 2},    {WORD(chain.depth), 3},       {WORD(vif1.cl), 256},
+        {WORD(vif1.waiting), 8},  {WORD(path2.place), 2}, {WORD(vif0.cl), 256},         {WORD(vif0.waiting), 8},
+        {WORD(vif0.ofst), 1},     {WORD(vif0.base), 1},   {WORD(vif0.tops), 1},         {WORD(vif0.top), 1},
+        {WORD(vif0.dbf), 1},      {WORD(vif0.mskpath3), 1}, {WORD(vif0.itop), 1024},
     };
     try_start(TEJBORUN_BLOCK_WORDS, WORD(chain.ended), 1, accepted, TEJBORUN_DONE, end);
     try_start(TEJBORUN_BLOCK_WORDS, WORD(chain.used), 77, on_2, TEJBORUN_DONE, end);
+    try_start(TEJBORUN_BLOCK_WORDS, WORD(chain.channel), 2, on_0, TEJBORUN_DONE, end);
+    try_start(TEJBORUN_BLOCK_WORDS, WORD(chain.channel), 0, accepted, TEJBORUN_DONE, end);
+    try_start(TEJBORUN_BLOCK_WORDS, WORD(vif0.itop), 1023, on_0, TEJBORUN_DONE, end);
     for (size_t i = 0; i < sizeof wrong / sizeof wrong[0]; i++)
         try_start(TEJBORUN_BLOCK_WORDS, WORD(chain.ended), 1, wrong[i], TEJBORUN_BAD_VALUE, end);
     for (size_t i = 0; i < sizeof lengths / sizeof lengths[0]; i++)
         try_start(lengths[i], WORD(chain.ended), 1, accepted, TEJBORUN_SHORT, end);
     for (size_t i = 0; i < sizeof states / sizeof states[0]; i++)
-        try_start(TEJBORUN_BLOCK_WORDS, states[i].word, states[i].value, accepted, TEJBORUN_BAD_VALUE, end);
+        for (int vif = 0; vif < 2; vif++)
+            try_start(TEJBORUN_BLOCK_WORDS, states[i].word, states[i].value, vif == 0 ? on_0 : accepted, TEJBORUN_BAD_VALUE, end);
     CHECK(tejborun_start(NULL, 0, 1, 0, 0) == TEJBORUN_SHORT);
 }
 
@@ -504,6 +524,75 @@ static void test_stops(bool end)
     }
 }
 
+/* A transfer to VIF0: its last quadword and quadword 0, its last instruction and instruction 0, ITOP, and a start. */
+static const uint32_t vif0_chain[] = {
+    0x70000006, 0, 0, 0,                            /* end, six quadwords */
+    0x01000101, 0x04000007, 0, 0x6C0200FF,          /* STCYCL, ITOP, NOP, UNPACK V4-32, two vectors from quadword 255 on */
+    1, 2, 3, 4, 5, 6, 7, 0x80000008,
+    0, 0, 0, 0x4A0201FF,                            /* MPG, two instructions from 511 on */
+    0x11111111, 0x22222222, 0x33333333, 0x44444444,
+    0x14000005, 0x17000000, 0x07000009, 0x10000000, /* MSCAL, MSCNT, MARK, FLUSHE */
+};
+enum { VIF0_STEPS = 1 + 24, LAST_QUADWORD0 = TEJBORUN_VIF0_QUADWORDS - 1, LAST_INSTRUCTION0 = TEJBORUN_VIF0_INSTRUCTIONS - 1 };
+
+/* Whether the bench holds what that transfer leaves. */
+static bool holds_vif0(const struct bench *bench)
+{
+    static const uint64_t entries[][TEJBORUN_ENTRY_NUMBERS] = {
+        {[TEJBORUN_ENTRY_REGISTER] = 256, [TEJBORUN_ENTRY_VALUE] = 5},
+        {[TEJBORUN_ENTRY_REGISTER] = 258, [TEJBORUN_ENTRY_VALUE] = 0},
+    };
+    const uint32_t *data = words(&bench->lent[DATA]), *last = data + 4 * LAST_QUADWORD0;
+    const uint8_t *code = bench->lent[CODE].at;
+    return last[0] == 1 && last[3] == 4 && data[0] == 5 && data[3] == UINT32_C(0x80000008) && data[4] == UINT32_C(0xA5A5A5A5) &&
+           code[8 * LAST_INSTRUCTION0] == 0x11 && code[8 * LAST_INSTRUCTION0 + 7] == 0x22 && code[0] == 0x33 && code[7] == 0x44 && code[8] == FILL &&
+           memcmp(entry(&bench->lent[LOG], 0), entries, sizeof entries) == 0;
+}
+
+static void test_vif0_run(bool end)
+{
+    static const struct tejborun_unit expected = {.cl = 1, .wl = 1, .itops = 7, .itop = 7, .mark = 9};
+    static const struct tejborun_unit kept = {.cl = 3, .wl = 2, .ofst = 5, .tops = 9, .dbf = 1, .waiting = TEJBORUN_WAITS_DIRECT, .due = 3};
+    struct bench bench;
+    new_bench(&bench, good0, NULL, 0, end);
+    memcpy(bench.lent[MAIN].at, vif0_chain, sizeof vif0_chain);
+    struct tejborun_state *held = state(&bench.lent[BLOCK]);
+    held->vif1 = kept;
+    remember_all(&bench);
+    CHECK(tejborun_start(words(&bench.lent[BLOCK]), TEJBORUN_BLOCK_WORDS, 0, 0, 0) == TEJBORUN_DONE);
+    CHECK(call_run(&bench, VIF0_STEPS - 1) == TEJBORUN_ALLOWANCE && call_run(&bench, UINT64_MAX) == TEJBORUN_DONE);
+    CHECK(numbers(&bench.lent[RESULT])[0] == 1 && unchanged(&bench.lent[MAIN]) && all_kept_outside(&bench) && holds_vif0(&bench));
+    CHECK(held->chain.channel == 0 && held->chain.used[0] == 2 && held->chain.ended == 1);
+    CHECK(memcmp(&held->vif0, &expected, sizeof expected) == 0 && memcmp(&held->vif1, &kept, sizeof kept) == 0);
+    free_bench(&bench);
+}
+
+/* What VIF0 refuses: the codes that it lacks, and TOPS, after vl and WL. On channel 1 none of these is refused so. */
+static void test_vif0_stops(bool end)
+{
+    static const struct {
+        uint32_t cycle, code, answer;
+    } stops[] = {
+        {0, 0x02000000, TEJBORUN_BAD_CMD},          {0, 0x03000000, TEJBORUN_BAD_CMD},          {0, 0x06000000, TEJBORUN_BAD_CMD},
+        {0, 0x11000000, TEJBORUN_BAD_CMD},          {0, 0x13000000, TEJBORUN_BAD_CMD},          {0, 0x15000000, TEJBORUN_BAD_CMD},
+        {0, 0x50000001, TEJBORUN_BAD_CMD},          {0, 0xD1000001, TEJBORUN_BAD_CMD},          {0x01000101, 0x6C018000, TEJBORUN_BAD_TOPS},
+        {0x01000101, 0xF0018000, TEJBORUN_BAD_TOPS}, {0, 0x6C018000, TEJBORUN_BAD_CYCLE},        {0x01000101, 0x63018000, TEJBORUN_BAD_FORMAT},
+    };
+    struct lengths small = good0;
+    small.main = 32;
+    for (size_t i = 0; i < sizeof stops / sizeof stops[0]; i++) {
+        const uint32_t chain[8] = {0x70000001, 0, 0, 0, stops[i].cycle, stops[i].code, 0, 0};
+        struct bench bench;
+        new_bench(&bench, small, NULL, 0, end);
+        memcpy(bench.lent[MAIN].at, chain, sizeof chain);
+        words(&bench.lent[BLOCK])[WORD(chain.channel)] = 0;
+        remember_all(&bench);
+        CHECK(call_run(&bench, UINT64_MAX) == stops[i].answer && numbers(&bench.lent[RESULT])[0] == 2);
+        CHECK(unchanged(&bench.lent[DATA]) && unchanged(&bench.lent[CODE]) && unchanged(&bench.lent[LOG]) && all_kept_outside(&bench));
+        free_bench(&bench);
+    }
+}
+
 /* The GIF's refusals, on channel 2: a tag of the descriptor, and its data. */
 static void test_gif_stops(bool end)
 {
@@ -536,12 +625,13 @@ static void test_gif_stops(bool end)
 /* Where a chain of so many words on a channel stands after so many steps, from a state on. */
 static void run_state(struct tejborun_state *state, const uint32_t *chain, size_t count, const uint32_t start[3], uint64_t steps)
 {
-    static uint32_t data[TEJBORUN_DATA_WORDS];
-    static uint8_t code[TEJBORUN_CODE_BYTES];
+    static uint32_t data[TEJBORUN_VIF1_DATA_WORDS];
+    static uint8_t code[TEJBORUN_VIF1_CODE_BYTES];
     uint64_t log[ENTRIES * TEJBORUN_ENTRY_NUMBERS] = {0}, completed;
     uint32_t *block = (uint32_t *)state;
     CHECK(tejborun_start(block, TEJBORUN_BLOCK_WORDS, start[0], start[1], start[2]) == TEJBORUN_DONE);
-    CHECK(tejborun_run((const uint8_t *)chain, 4 * count, data, TEJBORUN_DATA_WORDS, code, TEJBORUN_CODE_BYTES, log, ENTRIES * TEJBORUN_ENTRY_NUMBERS, block,
+    const struct lengths *lengths = start[0] == 0 ? &good0 : &good;
+    CHECK(tejborun_run((const uint8_t *)chain, 4 * count, data, lengths->data, code, lengths->code, log, ENTRIES * TEJBORUN_ENTRY_NUMBERS, block,
                        TEJBORUN_BLOCK_WORDS, steps, &completed, 1) == TEJBORUN_ALLOWANCE);
     CHECK(completed == steps);
 }
@@ -569,6 +659,29 @@ static void test_unit_words(void)
     struct tejborun_state state;
     CHECK(tejborun_reset((uint32_t *)&state, TEJBORUN_BLOCK_WORDS) == TEJBORUN_DONE);
     run_state(&state, chain, sizeof chain / 4, start, 3 + 4 + 8 + 27);
+    CHECK(memcmp(&state, &expected, sizeof state) == 0);
+}
+
+/* The same for VIF0, which has fewer; VIF1's words stay. */
+static void test_vif0_words(void)
+{
+    static const uint32_t chain[] = {
+        0x10000008, 0, 0, 0,                                                    /* cnt, eight quadwords */
+        0x01000305, 0x04000044, 0x14000000, 0x04000066,                         /* STCYCL, ITOP, MSCAL, ITOP */
+        0x05000001, 0x07007777, 0x20000000, 0x88888888,                         /* STMOD, MARK, STMASK */
+        0x30000000, 0xA0, 0xA1, 0xA2, 0xA3, 0x31000000, 0xB0, 0xB1, 0xB2, 0xB3, /* STROW, STCOL */
+        0xF9074323, 0xC0, 0xC1, 0xC2, 0xC3, 0, 0, 0, 0, 0, 0, 0, 0, 0,          /* UNPACK V3-16, seven vectors from 323h on: eleven words, four of them taken */
+    };
+    static const struct tejborun_state expected = {
+        .chain = {.channel = 0, .tadr = 0x90, .payload_words = 9, .payload_at = 0x6C, .used = {1}},
+        .vif0 = {.cl = 5, .wl = 3, .itops = 0x66, .itop = 0x44, .mode = 1, .mark = 0x7777, .mask = 0x88888888, .row = {0xA0, 0xA1, 0xA2, 0xA3},
+                 .col = {0xB0, 0xB1, 0xB2, 0xB3}, .waiting = TEJBORUN_WAITS_UNPACK, .irq = 1, .due = 7, .address = 0x323, .count = 7, .format = 9, .usn = 1,
+                 .m = 1, .held = {0xC1, 0xC2, 0xC3}},
+    };
+    static const uint32_t start[3] = {0, 0, 0};
+    struct tejborun_state state;
+    CHECK(tejborun_reset((uint32_t *)&state, TEJBORUN_BLOCK_WORDS) == TEJBORUN_DONE);
+    run_state(&state, chain, sizeof chain / 4, start, 1 + 4 + 4 + 10 + 5);
     CHECK(memcmp(&state, &expected, sizeof state) == 0);
 }
 
@@ -608,11 +721,11 @@ static const struct wrong wrong_entry[] = {
     {LENGTH(main), 8, TEJBORUN_BAD_MAIN},
     {LENGTH(main), 257, TEJBORUN_BAD_MAIN},
     {LENGTH(main), TEJBORUN_MAIN_BYTES + 16, TEJBORUN_BAD_MAIN},
-    {LENGTH(data), TEJBORUN_DATA_WORDS - 1, TEJBORUN_BAD_DATA},
-    {LENGTH(data), TEJBORUN_DATA_WORDS + 1, TEJBORUN_BAD_DATA},
+    {LENGTH(data), TEJBORUN_VIF1_DATA_WORDS - 1, TEJBORUN_BAD_DATA},
+    {LENGTH(data), TEJBORUN_VIF1_DATA_WORDS + 1, TEJBORUN_BAD_DATA},
     {LENGTH(data), 0, TEJBORUN_BAD_DATA},
-    {LENGTH(code), TEJBORUN_CODE_BYTES - 1, TEJBORUN_BAD_CODE},
-    {LENGTH(code), TEJBORUN_CODE_BYTES + 1, TEJBORUN_BAD_CODE},
+    {LENGTH(code), TEJBORUN_VIF1_CODE_BYTES - 1, TEJBORUN_BAD_CODE},
+    {LENGTH(code), TEJBORUN_VIF1_CODE_BYTES + 1, TEJBORUN_BAD_CODE},
     {LENGTH(code), 0, TEJBORUN_BAD_CODE},
     {LENGTH(log), ENTRIES * TEJBORUN_ENTRY_NUMBERS - 1, TEJBORUN_BAD_LOG},
     {LENGTH(log), TEJBORUN_LOG_NUMBERS + TEJBORUN_ENTRY_NUMBERS, TEJBORUN_BAD_LOG},
@@ -639,6 +752,43 @@ static void test_wrong_entry(bool end)
     }
 }
 
+/* The lengths by the channel: VIF0's on channel 0, on every other VIF1's, also on one that does not exist; build and run takes VIF1's on each. */
+static void test_lengths_by_channel(bool end)
+{
+    static const struct wrong wrong[] = {
+        {LENGTH(data), TEJBORUN_VIF0_DATA_WORDS - 1, TEJBORUN_BAD_DATA}, {LENGTH(data), TEJBORUN_VIF0_DATA_WORDS + 1, TEJBORUN_BAD_DATA},
+        {LENGTH(data), TEJBORUN_VIF1_DATA_WORDS, TEJBORUN_BAD_DATA},     {LENGTH(data), 0, TEJBORUN_BAD_DATA},
+        {LENGTH(code), TEJBORUN_VIF0_CODE_BYTES - 1, TEJBORUN_BAD_CODE}, {LENGTH(code), TEJBORUN_VIF0_CODE_BYTES + 1, TEJBORUN_BAD_CODE},
+        {LENGTH(code), TEJBORUN_VIF1_CODE_BYTES, TEJBORUN_BAD_CODE},     {LENGTH(code), 0, TEJBORUN_BAD_CODE},
+        {LENGTH(main), 8, TEJBORUN_BAD_MAIN},                            {LENGTH(log), 1, TEJBORUN_BAD_LOG},
+    };
+    static const struct {
+        uint32_t channel, on_vif0, on_vif1; /* the answers with VIF0's lengths and with VIF1's */
+    } channels[] = {
+        {0, TEJBORUN_DONE, TEJBORUN_BAD_DATA}, {1, TEJBORUN_BAD_DATA, TEJBORUN_DONE}, {2, TEJBORUN_BAD_DATA, TEJBORUN_DONE},
+        {7, TEJBORUN_BAD_DATA, TEJBORUN_BAD_VALUE}, {UINT32_MAX, TEJBORUN_BAD_DATA, TEJBORUN_BAD_VALUE},
+    };
+    struct bench bench;
+    for (size_t i = 0; i < sizeof wrong / sizeof wrong[0]; i++) {
+        new_bench(&bench, but_for(good0, &wrong[i]), NULL, 0, end);
+        words(&bench.lent[BLOCK])[WORD(chain.channel)] = 0;
+        remember_all(&bench);
+        CHECK(call_run(&bench, UINT64_MAX) == wrong[i].answer && all_unchanged(&bench));
+        free_bench(&bench);
+    }
+    for (size_t i = 0; i < 2 * (sizeof channels / sizeof channels[0]); i++) {
+        uint32_t answer = i % 2 == 0 ? channels[i / 2].on_vif0 : channels[i / 2].on_vif1;
+        new_bench(&bench, i % 2 == 0 ? good0 : good, sheet, sizeof sheet, end);
+        words(&bench.lent[MAIN])[0] = 0x70000000;
+        words(&bench.lent[BLOCK])[WORD(chain.channel)] = channels[i / 2].channel;
+        remember_all(&bench);
+        CHECK(call_run(&bench, UINT64_MAX) == answer && all_kept_outside(&bench) && (answer == TEJBORUN_DONE || all_unchanged(&bench)));
+        answer = i % 2 == 0 ? TEJBORUN_BAD_DATA : channels[i / 2].channel > 2 ? TEJBORUN_BAD_VALUE : TEJBORUN_DONE;
+        CHECK(call_build_and_run(&bench, 0, UINT64_MAX) == answer && all_kept_outside(&bench) && (answer != TEJBORUN_DONE || holds_meaning(&bench, 0)));
+        free_bench(&bench);
+    }
+}
+
 /* Words of a state block that a run refuses with 5 or 14. */
 static void test_wrong_state(bool end)
 {
@@ -659,6 +809,10 @@ static void test_wrong_state(bool end)
         {WORD(vif1.mode), 3, TEJBORUN_BAD_VALUE},
         {WORD(vif1.waiting), 9, TEJBORUN_BAD_VALUE},
         {WORD(path3.place), 1, TEJBORUN_BAD_VALUE},
+        {WORD(vif0.wl), 256, TEJBORUN_BAD_VALUE},
+        {WORD(vif0.tops), 1, TEJBORUN_BAD_VALUE},
+        {WORD(vif0.waiting), TEJBORUN_WAITS_DIRECT, TEJBORUN_BAD_VALUE},
+        {WORD(vif0.due), 77, TEJBORUN_DONE},
     };
     for (size_t i = 0; i < sizeof states / sizeof states[0]; i++) {
         struct bench bench;
@@ -701,9 +855,11 @@ static void test_build_and_run(bool end)
         try_build_and_run(refused[i].bytes, refused[i].count, 0, refused[i].refusal, refused[i].offset, end);
 }
 
-/* Two boards that are compared, and the result. */
+/* Two boards that are compared, by their parts in the library's order, and the result. */
+enum { PARTS = 5, RESULT_NUMBERS = TEJBORUN_COMPARED };
+
 struct pair {
-    struct lent data[2], code[2], log[2], result;
+    struct lent data1[2], code1[2], log[2], data0[2], code0[2], result;
     uint64_t used[2];
 };
 
@@ -711,25 +867,35 @@ static void new_pair(struct pair *pair, const struct lengths *a, const struct le
 {
     for (int i = 0; i < 2; i++) {
         const struct lengths *lengths = i == 0 ? a : b;
-        pair->data[i] = lend(4 * lengths->data, end);
-        pair->code[i] = lend(lengths->code, end);
+        pair->data1[i] = lend(4 * lengths->data, end);
+        pair->code1[i] = lend(lengths->code, end);
         pair->log[i] = lend(8 * lengths->log, end);
+        pair->data0[i] = lend(4 * lengths->data0, end);
+        pair->code0[i] = lend(lengths->code0, end);
         pair->used[i] = 3;
     }
     pair->result = lend(8 * a->result, end);
     remember(&pair->result);
 }
 
-static uint32_t call_compare(struct pair *pair)
+static void set_read(struct pair *pair, bool only)
 {
-    struct lent *const read[6] = {&pair->data[0], &pair->code[0], &pair->log[0], &pair->data[1], &pair->code[1], &pair->log[1]};
-    for (int i = 0; i < 6; i++)
-        only_read(read[i], true);
-    uint32_t answer = tejborun_compare(words(read[0]), read[0]->bytes / 4, read[1]->at, read[1]->bytes, numbers(read[2]), read[2]->bytes / 8,
-                                       pair->used[0], words(read[3]), read[3]->bytes / 4, read[4]->at, read[4]->bytes, numbers(read[5]), read[5]->bytes / 8,
-                                       pair->used[1], numbers(&pair->result), pair->result.bytes / 8);
-    for (int i = 0; i < 6; i++)
-        only_read(read[i], false);
+    for (int i = 0; i < 2; i++) {
+        struct lent *const read[PARTS] = {&pair->data1[i], &pair->code1[i], &pair->log[i], &pair->data0[i], &pair->code0[i]};
+        for (int part = 0; part < PARTS; part++)
+            only_read(read[part], only);
+    }
+}
+
+static uint32_t call_compare(struct pair *pair, uint32_t parts)
+{
+    struct lent *d1 = pair->data1, *c1 = pair->code1, *d0 = pair->data0, *c0 = pair->code0, *log = pair->log;
+    set_read(pair, true);
+    uint32_t answer = tejborun_compare(words(&d1[0]), d1[0].bytes / 4, c1[0].at, c1[0].bytes, words(&d0[0]), d0[0].bytes / 4, c0[0].at, c0[0].bytes,
+                                       numbers(&log[0]), log[0].bytes / 8, pair->used[0], words(&d1[1]), d1[1].bytes / 4, c1[1].at, c1[1].bytes,
+                                       words(&d0[1]), d0[1].bytes / 4, c0[1].at, c0[1].bytes, numbers(&log[1]), log[1].bytes / 8, pair->used[1], parts,
+                                       numbers(&pair->result), pair->result.bytes / 8);
+    set_read(pair, false);
     CHECK(kept_outside(&pair->result));
     return answer;
 }
@@ -737,63 +903,119 @@ static uint32_t call_compare(struct pair *pair)
 static void free_pair(struct pair *pair)
 {
     for (int i = 0; i < 2; i++) {
-        give_back(&pair->data[i]);
-        give_back(&pair->code[i]);
+        give_back(&pair->data1[i]);
+        give_back(&pair->code1[i]);
         give_back(&pair->log[i]);
+        give_back(&pair->data0[i]);
+        give_back(&pair->code0[i]);
     }
     give_back(&pair->result);
 }
 
+/* Whether the result has these numbers. */
+static bool has_numbers(const struct pair *pair, const uint64_t expected[RESULT_NUMBERS])
+{
+    return memcmp(numbers(&pair->result), expected, RESULT_NUMBERS * sizeof *expected) == 0;
+}
+
+/* Every set of parts over boards that differ as the numbers say: the answer by the parts, and 0 for what is not asked for. */
+static void try_parts(struct pair *pair, const uint64_t all[RESULT_NUMBERS], bool log_differs)
+{
+    for (uint32_t parts = 1; parts <= TEJBORUN_PARTS; parts++) {
+        uint64_t expected[RESULT_NUMBERS] = {0};
+        bool different = (parts & TEJBORUN_PART_LOG) != 0 && log_differs;
+        for (int part = 0; part < PARTS; part++) {
+            if ((parts >> part & 1) == 0)
+                continue;
+            memcpy(expected + 2 * part, all + 2 * part, 2 * sizeof *expected);
+            different |= all[2 * part + 1] > 0;
+        }
+        CHECK(call_compare(pair, parts) == (different ? TEJBORUN_DIFFERENT : TEJBORUN_SAME) && has_numbers(pair, expected));
+    }
+}
+
 static void test_compare(bool end)
 {
-    struct lengths six = good, shorter = good;
+    struct lengths ten = good, shorter = good;
     struct pair pair;
-    six.result = 6;
+    ten.result = RESULT_NUMBERS;
     shorter.log = 4 * TEJBORUN_ENTRY_NUMBERS;
-    new_pair(&pair, &six, &shorter, end);
-    const uint64_t *result = numbers(&pair.result);
-    CHECK(call_compare(&pair) == TEJBORUN_SAME && result[0] == TEJBORUN_VIF1_QUADWORDS && result[1] == 0);
-    CHECK(result[2] == TEJBORUN_VIF1_INSTRUCTIONS && result[3] == 0 && result[4] == 3 && result[5] == 0);
-    words(&pair.data[1])[TEJBORUN_DATA_WORDS - 1]--;
-    CHECK(call_compare(&pair) == TEJBORUN_DIFFERENT && result[0] == LAST_QUADWORD && result[1] == 1);
-    CHECK(result[2] == TEJBORUN_VIF1_INSTRUCTIONS && result[5] == 0);
-    words(&pair.data[0])[0]++;
-    pair.code[0].at[TEJBORUN_CODE_BYTES - 1] ^= 1;
-    CHECK(call_compare(&pair) == TEJBORUN_DIFFERENT && result[0] == 0 && result[1] == 2 && result[2] == LAST_INSTRUCTION && result[3] == 1);
+    uint64_t all[RESULT_NUMBERS] = {TEJBORUN_VIF1_QUADWORDS, 0, TEJBORUN_VIF1_INSTRUCTIONS, 0, 3, 0, TEJBORUN_VIF0_QUADWORDS, 0, TEJBORUN_VIF0_INSTRUCTIONS, 0};
+    new_pair(&pair, &ten, &shorter, end);
+    try_parts(&pair, all, false);
+    words(&pair.data1[1])[TEJBORUN_VIF1_DATA_WORDS - 1]--;
+    pair.code0[0].at[TEJBORUN_VIF0_CODE_BYTES - 1] ^= 1;
+    all[0] = LAST_QUADWORD, all[1] = 1, all[8] = LAST_INSTRUCTION0, all[9] = 1;
+    try_parts(&pair, all, false);
+    words(&pair.data1[0])[0]++;
+    words(&pair.data0[0])[TEJBORUN_VIF0_DATA_WORDS - 1]++;
+    pair.code1[0].at[TEJBORUN_VIF1_CODE_BYTES - 1] ^= 1;
+    all[0] = 0, all[1] = 2, all[2] = LAST_INSTRUCTION, all[3] = 1, all[6] = LAST_QUADWORD0, all[7] = 1;
+    try_parts(&pair, all, false);
     entry(&pair.log[1], 2)[TEJBORUN_ENTRY_VALUE] ^= UINT64_C(1) << 63;
-    CHECK(call_compare(&pair) == TEJBORUN_DIFFERENT && result[4] == 2 && result[5] == 1);
+    all[4] = 2, all[5] = 1;
+    try_parts(&pair, all, true);
     pair.used[1] = 2;
-    CHECK(call_compare(&pair) == TEJBORUN_DIFFERENT && result[4] == 2 && result[5] == 0);
+    all[5] = 0;
+    try_parts(&pair, all, true);
     pair.used[1] = 5;
-    CHECK(call_compare(&pair) == TEJBORUN_REFUSED + TEJBORUN_BAD_LOG);
-    free_pair(&pair);
-    new_pair(&pair, &six, &six, end);
-    pair.used[0] = 4;
-    result = numbers(&pair.result);
-    CHECK(call_compare(&pair) == TEJBORUN_DIFFERENT && result[1] == 0 && result[3] == 0 && result[4] == 3 && result[5] == 0);
+    CHECK(call_compare(&pair, TEJBORUN_PARTS) == TEJBORUN_REFUSED + TEJBORUN_BAD_LOG);
+    CHECK(call_compare(&pair, TEJBORUN_PARTS - TEJBORUN_PART_LOG) == TEJBORUN_DIFFERENT);
     free_pair(&pair);
 }
 
+/* Lengths that are wrong on either side: refused where the part is asked for, and not looked at where it is not. */
 static void test_wrong_compare(bool end)
 {
-    struct lengths six = good, few = good;
-    six.result = 6;
-    few.result = 5;
+    static const struct {
+        struct wrong wrong;
+        uint32_t part;
+    } lengths[] = {
+        {{LENGTH(data), TEJBORUN_VIF1_DATA_WORDS - 1, TEJBORUN_BAD_DATA}, TEJBORUN_PART_VIF1_DATA},
+        {{LENGTH(data), 0, TEJBORUN_BAD_DATA}, TEJBORUN_PART_VIF1_DATA},
+        {{LENGTH(code), TEJBORUN_VIF1_CODE_BYTES + 1, TEJBORUN_BAD_CODE}, TEJBORUN_PART_VIF1_CODE},
+        {{LENGTH(code), 0, TEJBORUN_BAD_CODE}, TEJBORUN_PART_VIF1_CODE},
+        {{LENGTH(log), ENTRIES * TEJBORUN_ENTRY_NUMBERS - 1, TEJBORUN_BAD_LOG}, TEJBORUN_PART_LOG},
+        {{LENGTH(log), TEJBORUN_LOG_NUMBERS + TEJBORUN_ENTRY_NUMBERS, TEJBORUN_BAD_LOG}, TEJBORUN_PART_LOG},
+        {{LENGTH(log), 0, TEJBORUN_BAD_LOG}, TEJBORUN_PART_LOG},
+        {{LENGTH(data0), TEJBORUN_VIF1_DATA_WORDS, TEJBORUN_BAD_DATA}, TEJBORUN_PART_VIF0_DATA},
+        {{LENGTH(data0), 0, TEJBORUN_BAD_DATA}, TEJBORUN_PART_VIF0_DATA},
+        {{LENGTH(code0), TEJBORUN_VIF0_CODE_BYTES - 1, TEJBORUN_BAD_CODE}, TEJBORUN_PART_VIF0_CODE},
+        {{LENGTH(code0), 0, TEJBORUN_BAD_CODE}, TEJBORUN_PART_VIF0_CODE},
+    };
+    static const uint64_t zeros[RESULT_NUMBERS];
+    struct lengths ten = good;
+    ten.result = RESULT_NUMBERS;
     struct pair pair;
-    for (size_t i = 0; i < WRONG_ENTRY; i++) {
-        struct lengths wrong = with_wrong(&wrong_entry[i]);
-        wrong.result = 6;
-        if (wrong_entry[i].answer < TEJBORUN_BAD_DATA || wrong_entry[i].answer > TEJBORUN_BAD_LOG)
-            continue;
-        for (int side = 0; side < 2; side++) {
-            new_pair(&pair, side == 0 ? &wrong : &six, side == 0 ? &six : &wrong, end);
-            pair.used[0] = pair.used[1] = 2;
-            CHECK(call_compare(&pair) == TEJBORUN_REFUSED + wrong_entry[i].answer);
-            free_pair(&pair);
-        }
+    for (size_t i = 0; i < 2 * (sizeof lengths / sizeof lengths[0]); i++) {
+        const struct lengths wrong = but_for(ten, &lengths[i / 2].wrong);
+        new_pair(&pair, i % 2 == 0 ? &wrong : &ten, i % 2 == 0 ? &ten : &wrong, end);
+        CHECK(call_compare(&pair, TEJBORUN_PARTS) == TEJBORUN_REFUSED + lengths[i / 2].wrong.answer && has_numbers(&pair, zeros));
+        CHECK(call_compare(&pair, lengths[i / 2].part) == TEJBORUN_REFUSED + lengths[i / 2].wrong.answer && has_numbers(&pair, zeros));
+        CHECK(call_compare(&pair, TEJBORUN_PARTS - lengths[i / 2].part) == TEJBORUN_SAME);
+        free_pair(&pair);
     }
+}
+
+/* Parts that do not exist, a short result, and buffers of parts that are not asked for: null. */
+static void test_wrong_parts(bool end)
+{
+    static const uint32_t wrong[] = {0, TEJBORUN_PARTS + 1, 64, UINT32_MAX};
+    static const uint64_t zeros[RESULT_NUMBERS];
+    struct lengths ten = good, few = good;
+    ten.result = RESULT_NUMBERS;
+    few.result = RESULT_NUMBERS - 1;
+    struct pair pair;
+    new_pair(&pair, &ten, &good, end);
+    for (size_t i = 0; i < sizeof wrong / sizeof wrong[0]; i++)
+        CHECK(call_compare(&pair, wrong[i]) == TEJBORUN_REFUSED + TEJBORUN_BAD_VALUE && has_numbers(&pair, zeros));
+    uint64_t result[RESULT_NUMBERS];
+    CHECK(tejborun_compare(NULL, 0, NULL, 0, words(&pair.data0[0]), TEJBORUN_VIF0_DATA_WORDS, NULL, 0, NULL, 0, 9, NULL, 0, NULL, 0, words(&pair.data0[1]),
+                           TEJBORUN_VIF0_DATA_WORDS, NULL, 0, NULL, 0, 7, TEJBORUN_PART_VIF0_DATA, result, RESULT_NUMBERS) == TEJBORUN_SAME);
+    CHECK(result[6] == TEJBORUN_VIF0_QUADWORDS && result[7] == 0);
+    free_pair(&pair);
     new_pair(&pair, &few, &good, end);
-    CHECK(call_compare(&pair) == TEJBORUN_SHORT && unchanged(&pair.result));
+    CHECK(call_compare(&pair, TEJBORUN_PARTS) == TEJBORUN_SHORT && call_compare(&pair, 0) == TEJBORUN_SHORT && unchanged(&pair.result));
     free_pair(&pair);
 }
 
@@ -805,7 +1027,7 @@ static void test_messages(void)
         TEJBORUN_BAD_TADR,   TEJBORUN_BAD_ADDR,    TEJBORUN_BAD_SPR,    TEJBORUN_BAD_CALL,   TEJBORUN_BAD_PAYLOAD,    TEJBORUN_BAD_CMD,
         TEJBORUN_BAD_FORMAT, TEJBORUN_BAD_CYCLE,   TEJBORUN_BAD_MODE,   TEJBORUN_BAD_DIRECT, TEJBORUN_BAD_DESCRIPTOR, TEJBORUN_LOG_FULL,
         TEJBORUN_BAD_MARK,   TEJBORUN_BAD_KIND,    TEJBORUN_BAD_COUNT,  TEJBORUN_BAD_ADDRESS, TEJBORUN_CUT_RECORD,    TEJBORUN_BAD_PAD,
-        TEJBORUN_LONG_SHEET, TEJBORUN_LONG_CHAIN,  TEJBORUN_SHORT,      TEJBORUN_ALLOWANCE,  TEJBORUN_INTERRUPT,
+        TEJBORUN_LONG_SHEET, TEJBORUN_LONG_CHAIN,  TEJBORUN_SHORT,      TEJBORUN_ALLOWANCE,  TEJBORUN_INTERRUPT,      TEJBORUN_BAD_TOPS,
     };
     enum { ANSWERS = sizeof answers / sizeof answers[0] };
     const char *none = tejborun_message(UINT32_MAX);
@@ -859,14 +1081,19 @@ int main(void)
         test_start(end);
         test_run(end);
         test_stops(end);
+        test_vif0_run(end);
+        test_vif0_stops(end);
         test_gif_stops(end);
         test_wrong_entry(end);
+        test_lengths_by_channel(end);
         test_wrong_state(end);
         test_build_and_run(end);
         test_compare(end);
         test_wrong_compare(end);
+        test_wrong_parts(end);
     }
     test_unit_words();
+    test_vif0_words();
     test_path_words();
     test_messages();
     test_used();

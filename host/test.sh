@@ -73,20 +73,23 @@ word() {
 }
 
 # The layout of files, from what the command itself writes: the bytes of a state block, the lengths of the memories and of the longest log, and the numbers of
-# a log entry. The head of a capture before the state block has 40 bytes, that of a sheet case 48; a result has 16 before and 4 behind it.
+# a log entry. The head of a capture before the state block has 56 bytes, that of a test case and of a sheet case 48; a result has 16 before and 8 behind it.
 layout() {
     echo 'state channel=1' > reset.txt
     echo capture > empty.txt
     expect 0 assemble state reset.txt -o reset.state
     expect 0 assemble capture empty.txt -o empty.capture
     block_bytes=$(($(wc -c < reset.state)))
-    calls_at=$((40 + block_bytes)) sheet_at=$((48 + block_bytes)) result_head=$((16 + block_bytes + 4))
-    set -- $(words empty.capture 12 3)
-    data_words=$1 code_bytes=$2 log_numbers=$3
+    head_bytes=56 case_head=48
+    calls_at=$((head_bytes + block_bytes)) case_calls_at=$((case_head + block_bytes)) sheet_at=$((48 + block_bytes)) result_head=$((16 + block_bytes + 8))
+    set -- $(words empty.capture 12 5)
+    data_words=$1 code_bytes=$2 data0_words=$3 code0_bytes=$4 log_numbers=$5
     memory_bytes=$((4 * data_words + code_bytes)) quadwords=$((data_words / 4)) instructions=$((code_bytes / 8))
+    memory0_bytes=$((4 * data0_words + code0_bytes)) quadwords0=$((data0_words / 4)) instructions0=$((code0_bytes / 8))
     entries=65536
     entry_numbers=$((log_numbers / entries))
-    echo "layout: a state block of $((block_bytes / 4)) words, $data_words words, $code_bytes bytes, $entries entries of $entry_numbers numbers"
+    echo "layout: a state block of $((block_bytes / 4)) words; VIF1 $data_words words, $code_bytes bytes; VIF0 $data0_words words, $code0_bytes bytes;" \
+        "$entries entries of $entry_numbers numbers"
 }
 
 # round KIND FILE: text and back gives the same bytes.
@@ -111,10 +114,8 @@ give() {
 
 # give_unit PREFIX, give_path PREFIX: the fields of a unit or a path block.
 give_unit() {
-    unit_at=$next
     for field in cl wl ofst base tops top itops itop dbf mode mskpath3 mark mask row0 row1 row2 row3 col0 col1 col2 col3; do give "$1$field" 1; done
     for field in waiting irq due address count format usn m held0 held1 held2; do give "$1$field" 1; done
-    unit_bytes=$((4 * (next - unit_at)))
 }
 
 give_path() {
@@ -132,6 +133,7 @@ state_words() {
     give_unit ''
     give_path path2.
     give_path path3.
+    give_unit vif0.
     expect 0 assemble state state.txt -o state
     words state 0 $((block_bytes / 4)) | tr -s ' ' '\n' | sed '/^$/d' > got
     seq 1000 $((next - 1)) > wanted
@@ -206,7 +208,7 @@ bench_points() {
 
 # Every answer of the scope document has a meaning in words.
 meanings() {
-    for answer in 0 1 2 3 4 5 10 11 12 13 14 20 21 22 23 24 30 31 40 41 42 43 44 45 46 47 60 90 91; do
+    for answer in 0 1 2 3 4 5 10 11 12 13 14 20 21 22 23 24 26 30 31 40 41 42 43 44 45 46 47 60 90 91; do
         echo "result answer=$answer" > meaning.txt
         expect 0 assemble result meaning.txt -o meaning.result
         expect 0 dump meaning.result
@@ -215,6 +217,8 @@ meanings() {
     if grep -F 'without a meaning' meanings.txt >&2; then fail 'an answer without a meaning'; fi
     if sed 's/.*#//' meanings.txt | sort | uniq -d | grep . >&2; then fail 'a meaning that two answers have'; fi
     says meanings.txt '# main memory has length 0, no multiple of 16 or more than 1,048,576 bytes'
+    says meanings.txt '# data memory is not 4,096 words, of VIF0 (channel 0) not 1,024'
+    says meanings.txt '# UNPACK with IMM bit 15 (TOPS) on VIF0'
     says meanings.txt "# a state block that is not $((block_bytes / 4)) words, or a result with too few numbers"
     echo 'result answer=92' > meaning.txt
     expect 0 assemble result meaning.txt -o meaning.result
@@ -307,12 +311,14 @@ generated_sheets() {
     echo "generated sheets: $tried of $number built as the second program builds them, to text and back, played as they are meant"
 }
 
-# replayed: reads the results of the case for its calls; sets where the last state block, the last run and its memories are, the exit status that the calls
-# have (3 where the last run stopped before the end or there is none, else 1 where a call was refused), and whether none did anything.
+# replayed: reads the results of the case for its calls; sets where the last state block, the last run, each unit's memories and the log are, the exit status
+# that the calls have (3 where the last run stopped before the end or there is none, else 1 where a call was refused), and whether none did anything.
+# The lengths: VIF1's data and code memory, the log, VIF0's data and code memory, the number of calls.
 replayed() {
-    data=$1 code=$2 log=$3 calls=$4
-    at=0 block=none run=none memories=none any_refused=0 last=90 idle=1
-    for kind in $(words case "$calls_at" $((4 * calls)) | awk '{ print $1 }'); do
+    data=$1 code=$2 log=$3 data0=$4 code0=$5 calls=$6
+    at=0 block=none run=none memories=none memories0=none log_at=none any_refused=0 last=90 idle=1
+    channel=$(($(words case "$case_head" 1)))
+    for kind in $(words case "$case_calls_at" $((4 * calls)) | awk '{ print $1 }'); do
         answer=$(($(words results $at 1)))
         case $answer in
         0 | 90 | 91) idle=0 ;;
@@ -323,9 +329,11 @@ replayed() {
             block=$((at + 4))
             at=$((at + 4 + block_bytes))
         else
-            run=$at last=$answer block=$((at + 12)) memories=$((at + 12 + block_bytes))
-            at=$((memories + 4 * data + (code + 3) / 4 * 4 + 8 * log))
+            run=$at last=$answer block=$((at + 12))
+            replayed_memories $((at + 12 + block_bytes))
+            at=$((log_at + 8 * log))
         fi
+        channel=$(($(words results "$block" 1)))
     done
     test "$at" = $(($(wc -c < results))) || fail 'results of another length'
     case $last in
@@ -334,52 +342,79 @@ replayed() {
     esac
 }
 
+# replayed_memories OFFSET: the memories of a run, VIF0's where the channel before it was 0.
+replayed_memories() {
+    if test "$channel" = 0; then
+        memories0=$1
+        log_at=$(($1 + 4 * data0 + (code0 + 3) / 4 * 4))
+    else
+        memories=$1
+        log_at=$(($1 + 4 * data + (code + 3) / 4 * 4))
+    fi
+}
+
+# wanted_memories OFFSET BYTES DATA CODE: a unit's memories from the results, or, where no run was lent them, as the case begins.
+wanted_memories() {
+    if test "$1" != none; then
+        slice results "$1" "$2"
+    else
+        expect 0 export case "--$3" wanted.data "--$4" wanted.code
+        cat wanted.data wanted.code
+    fi
+}
+
 # wanted_result FILE OFFSET: what the run of the case has to leave, from the results, with the state block of a file.
 wanted_result() {
-    printf 'TRES'
-    if test $run = none; then printf '\0\0\0\0\0\0\0\0\0\0\0\0'; else slice results "$run" 12; fi
+    printf 'TRE3'
+    if test "$run" = none; then printf '\0\0\0\0\0\0\0\0\0\0\0\0'; else slice results "$run" 12; fi
     slice "$1" "$2" "$block_bytes"
     slice case 20 4
-    if test $memories != none; then slice results "$memories" $((memory_bytes + 8 * log)); fi
+    printf '\37\0\0\0'
+    if test "$run" = none; then return; fi
+    wanted_memories "$memories" "$memory_bytes" data code
+    wanted_memories "$memories0" "$memory0_bytes" data0 code0
+    slice results "$log_at" $((8 * log))
 }
 
 # one_capture: the case to text and back, and run; its result is replay's.
 one_capture() {
-    set -- $(words case 4 9)
+    set -- $(words case 4 11)
     round capture case
-    slice case 40 "$block_bytes" > state
+    slice case "$case_head" "$block_bytes" > state
     round state state
     if test "$2" -gt 0 && test $(($2 % 4)) = 0 && test "$2" -le 262144; then
-        slice case $((calls_at + 16 * $9)) $((4 * $2)) > main
+        slice case $((case_calls_at + 16 * $9)) $((4 * $2)) > main
         round chain main
     fi
     { slice case 0 32; printf '\1\0\0\0'; tail -c +37 case; } > whole
     "$replay" < whole > results || fail 'replay'
-    replayed "$3" "$4" "$5" "$9"
+    replayed "$3" "$4" "$5" "${10}" "${11}" "$9"
     rm -f result
-    if test "$3" != "$data_words" || test "$4" != "$code_bytes" || test $(($5 % entry_numbers)) != 0 || test "$5" -gt "$log_numbers"; then
+    if test "$3 $4 ${10} ${11}" != "$data_words $code_bytes $data0_words $code0_bytes" || test $(($5 % entry_numbers)) != 0 || test "$5" -gt "$log_numbers"; then
         expect 2 run case -o result
         says err 'not written'
         absent result
         return
     fi
+    if test $block = none; then wanted_result case "$case_head" > wanted; else wanted_result results "$block" > wanted; fi
     expect "$status" run case -o result
-    if test $block = none; then wanted_result case 40 > wanted; else wanted_result results "$block" > wanted; fi
-    if test $memories = none; then head -c "$result_head" result > part; else cp result part; fi
+    cp out said
+    if test $run = none; then head -c "$result_head" result > part; else cp result part; fi
     # A refusal changes no buffer: then the words that mean nothing may stand as they were given, where replay writes zero.
-    if test $idle = 1 && ! cmp -s part wanted; then wanted_result case 40 > wanted; fi
+    if test $idle = 1 && ! cmp -s part wanted; then wanted_result case "$case_head" > wanted; fi
     same part wanted "capture $number"
-    if test $run != none; then says out "answer $(($(words results $run 1))), "; fi
+    if test $run != none; then says said "answer $(($(words results $run 1))), "; fi
+    case $memories0 in none) ;; *) on_vif0=$((on_vif0 + 1)) ;; esac
     round result result
 }
 
 generated_captures() {
     "$second" generate-capture 2 100 > captures || fail 'generate-capture'
     size=$(wc -c < captures)
-    at_case=0 number=0 tried=0
+    at_case=0 number=0 tried=0 on_vif0=0
     while test $at_case -lt "$size"; do
         set -- $(words captures $((at_case + 8)) 8)
-        length=$((calls_at + 16 * $8 + 4 * $1))
+        length=$((case_calls_at + 16 * $8 + 4 * $1))
         if test $((number % every)) = 0; then
             slice captures $at_case $length > case
             one_capture
@@ -387,11 +422,11 @@ generated_captures() {
         fi
         at_case=$((at_case + length)) number=$((number + 1))
     done
-    echo "generated captures: $tried of $number to text and back (capture, state, main memory, result), run as replay runs them"
+    echo "generated captures: $tried of $number to text and back (capture, state, main memory, result), run as replay runs them; $on_vif0 with a run on VIF0"
 }
 
 examples() {
-    for name in all-kinds.sheet difference.capture; do
+    for name in all-kinds.sheet difference.capture vif0.capture; do
         kind=${name#*.}
         expect 0 assemble "$kind" "$here/../examples/$name.txt" -o "$name"
         expect 0 dump "$name"
@@ -481,7 +516,7 @@ damaged() {
     kind=$1 file=$2
     shift 2
     size=$(wc -c < "$file")
-    for length in 0 1 3 4 39 40 100 $((block_bytes - 1)) $((result_head - 1)) $((calls_at - 1)) $((size / 2)) $((size - 1)); do
+    for length in 0 1 3 4 39 40 55 56 100 $((block_bytes - 1)) $((result_head - 1)) $((calls_at - 1)) $((size / 2)) $((size - 1)); do
         test "$length" -lt "$size" || continue
         head -c "$length" "$file" > broken
         expect 2 dump "$kind" broken
@@ -517,9 +552,13 @@ damaged_files() {
     limit 8 $((8192 / 4 + 1))
     limit 12 $((data_words + 5))
     limit 16 $((code_bytes + 9))
-    limit 20 $((log_numbers + 9))
-    limit 32 2
-    limit 36 65536
+    limit 20 $((data0_words + 5))
+    limit 24 $((code0_bytes + 9))
+    limit 28 $((log_numbers + 9))
+    for at in 32 36 40 44; do limit $at 2; done
+    limit 48 1
+    limit 40 $((data0_words + 4))
+    limit 52 65536
     limit "$calls_at" 3
     sed 's/^capture/capture fill=0/' "$here/../examples/difference.capture.txt" > test-case.txt
     expect 0 assemble capture test-case.txt -o test-case
@@ -529,7 +568,7 @@ damaged_files() {
     cat difference.capture difference.capture > broken
     expect 2 run broken -o broken.out
     says err 'give a capture of one case'
-    slice difference.capture 40 "$block_bytes" > state
+    slice difference.capture "$head_bytes" "$block_bytes" > state
     damaged state state
     for length in 0 1 3 17 100; do
         head -c $length difference.capture > broken
@@ -564,15 +603,16 @@ damaged_files() {
     echo "damaged files: cut, longer, without mark, beyond each limit; outputs that cannot be written"
 }
 
-# another_layout KIND FILE END COMMAND..: the file, whose state block ends at a byte, is not read with a unit block more or less; the message tells the layout.
-another_layout() {
-    kind=$1 file=$2 end=$3
+# earlier KIND MARK BYTES COMMAND..: a file of so many bytes with a mark from before VIF0 is told to be one.
+earlier() {
+    kind=$1 mark=$2 bytes=$3
     shift 3
-    for more in $unit_bytes -$unit_bytes; do
-        { { slice "$file" 0 "$end"; head -c "$unit_bytes" /dev/zero; } | head -c $((end + more)); tail -c +$((end + 1)) "$file"; } > broken
-        expect 2 dump "$kind" broken
-        says err "broken: a $kind of another layout: its state block has $(((block_bytes + more) / 4)) words, here it has $((block_bytes / 4));"
-        test $# = 0 || { expect 2 "$@"; says err 'of another layout'; }
+    { printf '%s' "$mark"; head -c $((bytes - 4)) /dev/zero; } > broken
+    for words in "dump broken" "dump $kind broken" "$*"; do
+        # shellcheck disable=SC2086
+        expect 2 $words
+        says err "broken: a $kind from before VIF0: its state has 63 words, here it has 95; dump it with the version that wrote it, and assemble the text here"
+        if grep -q damaged err; then fail 'said to be damaged'; fi
     done
     absent broken.out
 }
@@ -587,11 +627,15 @@ another_kind() {
 }
 
 other_layouts() {
-    another_layout state state "$block_bytes"
-    another_layout capture difference.capture "$calls_at" run broken -o broken.out
-    another_layout result difference.result $((16 + block_bytes)) compare difference.result broken
-    numbers=$(($(words difference.result $((result_head - 4)) 1)))
-    patched difference.result $((result_head - 4)) $((numbers + 1))
+    earlier capture TCAP 292 run broken -o broken.out
+    earlier capture TCA2 292 export broken --main broken.out
+    earlier result TRES $((272 + 2 * 16384)) compare difference.result broken
+    earlier result TRE2 $((276 + 16384)) run difference.capture --from broken -o broken.out
+    head -c 252 /dev/zero > broken
+    expect 2 dump state broken
+    says err 'broken: a state from before VIF0: its state has 63 words'
+    numbers=$(($(words difference.result $((result_head - 8)) 1)))
+    patched difference.result $((result_head - 8)) $((numbers + 1))
     expect 2 dump broken
     says err "broken: damaged result: its log has $((numbers + 1)) numbers"
     head -c 8 /dev/zero >> broken
@@ -604,7 +648,7 @@ other_layouts() {
     says err 'no state: '
     says err 'it begins with the mark of a capture'
     absent broken.out
-    echo "other layouts: a state block with a unit block more or less, a log of no whole entries, another kind of file: each named"
+    echo "other layouts: files from before VIF0, a log of no whole entries, another kind of file: each named"
 }
 
 # bad_text KIND LINE MESSAGE TEXT: the text is not assembled; the message names the line.
@@ -642,7 +686,7 @@ bad_texts() {
     bad_text chain 1 'at 0xFFFFFFFFFFFFFFFF: main memory ends' 'at 0xFFFFFFFFFFFFFFFF\n'
     bad_text chain 1 "'vector' is no tag (refe, cnt, next, ref, refs, call, ret, end), code (NOP, STCYCL, " 'vector 1 2 3 4\n'
     bad_text capture 2 "'vector' is no tag (refe, " 'capture\nvector 1 2 3 4\n'
-    says err ', giftag, word, byte or at, and no capture, state, quadword, instruction, entry, start or run'
+    says err ', giftag, word, byte or at, and no capture, state, quadword, instruction, vif0.quadword, vif0.instruction, entry, start or run'
     bad_text chain '' 'makes 4 bytes; a chain is whole quadwords' 'NOP\n'
     bad_text chain '' 'makes 0 bytes' '\n# nothing\n'
     bad_text chain '' 'makes 1048592 bytes' 'at 0x100010\n'
@@ -651,13 +695,18 @@ bad_texts() {
     bad_text state '' 'has no line that begins with state' ''
     bad_text capture '' "has no line 'capture'" 'state channel=1\n'
     bad_text capture 2 "'capture' is given twice" 'capture\ncapture\n'
-    bad_text capture '' "damaged capture: $((data_words + 5)) words of data memory; the most is $((data_words + 4))" "capture data-words=$((data_words + 5))\n"
+    bad_text capture '' "damaged capture: $((data_words + 5)) words of VIF1's data memory; the most is $((data_words + 4))" "capture data-words=$((data_words + 5))\n"
+    bad_text capture '' "damaged capture: $((data0_words + 5)) words of VIF0's data memory; the most is $((data0_words + 4))" "capture vif0.data-words=$((data0_words + 5))\n"
+    bad_text capture '' "damaged capture: $((code0_bytes + 9)) bytes of VIF0's code memory; the most is $((code0_bytes + 8))" "capture vif0.code-bytes=$((code0_bytes + 9))\n"
     bad_text capture '' 'damaged capture: 4 words given of main memory; the most is 3' 'capture main-bytes=15\nend\n'
     bad_text capture '' 'makes 1 bytes of main memory; give whole words' 'capture\nbyte 1\n'
     bad_text capture 2 "'start' has no field 'allowance'" 'capture\nstart allowance=1\n'
     bad_text result 1 "'state': the first line is 'result'" 'state channel=1\nresult\n'
     bad_text result 2 "quadword $quadwords: the last is $((quadwords - 1))" "result\nquadword $quadwords 1 2 3 4\n"
     bad_text result 2 "instruction $instructions: the last is $((instructions - 1))" "result\ninstruction $instructions 1\n"
+    bad_text result 2 "vif0.quadword $quadwords0: the last is $((quadwords0 - 1))" "result\nvif0.quadword $quadwords0 1 2 3 4\n"
+    bad_text result 2 "vif0.instruction $instructions0: the last is $((instructions0 - 1))" "result\nvif0.instruction $instructions0 1\n"
+    bad_text result 2 "'vif1.quadword' is no line of a result: result, state, quadword, instruction, vif0.quadword" "result\nvif1.quadword 1 1 2 3 4\n"
     bad_text result 2 "entry $entries: the last is $((entries - 1))" "result\nentry $entries 1 1\n"
     bad_text result 2 "entry 2: the log has $((2 * entry_numbers)) numbers, $entry_numbers for each" "result log-numbers=$((2 * entry_numbers))\nentry 2 1 1\n"
     bad_text result '' 'not written: a result keeps a log of whole entries' "result log-numbers=$((entry_numbers + 1))\n"
@@ -744,9 +793,9 @@ beginnings() {
     expect 0 dump zero.result
     if grep -e '^quadword' -e '^instruction' -e '^entry' out; then fail 'a memory that is not zero at first'; fi
     capture_of filled.capture 'capture fill=0 log-numbers=8\nstart channel=1\nrun\nend\n'
-    test "$(head -c 4 filled.capture)" = TCAP || fail 'the mark of a test case'
+    test "$(head -c 4 filled.capture)" = TCP2 || fail 'the mark of a test case'
     "$replay" < filled.capture > results || fail 'a test case for replay'
-    test "$(head -c 4 zero.capture)" = TCA2 || fail 'the mark of a capture'
+    test "$(head -c 4 zero.capture)" = TCA3 || fail 'the mark of a capture'
     expect 0 run filled.capture -o filled.result
     expect 0 dump filled.result
     says out "quadword 1 0x"
@@ -763,10 +812,10 @@ beginnings() {
     round capture zeros.capture
     bad_text capture '' "has 'fill=' and gives a memory" 'capture fill=0\nquadword 1 1 2 3 4\n'
     bad_text capture '' "has 'whole=' without 'fill='" 'capture whole=1\n'
-    bad_text capture '' 'damaged capture: 8 words given of data memory; the most is 4' 'capture data-words=4\nquadword 1 1 2 3 4\n'
+    bad_text capture '' "damaged capture: 8 words given of VIF1's data memory; the most is 4" 'capture data-words=4\nquadword 1 1 2 3 4\n'
     capture_of run.capture 'capture\nrun\n'
     words run.capture "$calls_at" 4 | grep -q '^ *2 4294967295 4294967295 *0$' || fail 'a run without allowance'
-    words run.capture 40 1 | grep -q '^ *1$' || fail 'no state line: reset'
+    words run.capture "$head_bytes" 1 | grep -q '^ *1$' || fail 'no state line: reset'
     raw_beginnings
     continued
     echo "beginnings: zeros, lines, raw files, a result; a fill as before; a run that goes on where one stopped"
@@ -790,7 +839,7 @@ raw_beginnings() {
     says out 'entry 0 MSCAL 0x0000000000000007'
     printf x >> raw.data
     expect 2 assemble capture raw.txt -o bad.out --data raw.data
-    says err "raw.data: no dump of data memory: $((4 * data_words + 1)) bytes; it has $((4 * data_words))"
+    says err "raw.data: no dump of VIF1's data memory: $((4 * data_words + 1)) bytes; it has $((4 * data_words))"
     printf x >> raw.log
     expect 2 assemble capture raw.txt -o bad.out --log raw.log
     says err 'raw.log: no dump of a log'
@@ -984,9 +1033,9 @@ boards() {
 rack() {
     boards
     expect 1 compare expected good low short
-    says out 'board     verdict       first difference    how many'
+    says out 'board     verdict       first difference      how many'
     says out 'good      equal'
-    says out 'low       different     quadword 9          1 quadword, 1 instruction, 1 entry'
+    says out 'low       different     quadword 9            1 quadword, 1 instruction, 1 entry'
     says out "short     different     log's length 1, not 2"
     says out '3 boards beside expected: 1 equal, 2 different'
     cp good again
@@ -1021,12 +1070,12 @@ rack_json() {
     says out '{"number": 9, "result": ["0x00000001", "0x00000002", "0x00000003", "0x00000004"], "board": ["0x00000000", "0x00000002", "0x00000003", "0x00000004"]}'
     says out '{"number": 1, "result": {"register": 0, "value": "0x0000000000000006"}, "board": {"register": 0, "value": "0x0000000000000007"}}'
     says out '"result_entries": 2, "board_entries": 1'
-    says out '"summary": {"boards": 3, "equal": 1, "different": 2, "refused": 0, "no_verdict": 0, "not_read": 0}'
+    says out '"summary": {"boards": 3, "equal": 1, "equal_in_parts": 0, "different": 2, "refused": 0, "no_verdict": 0, "not_read": 0}'
     says out '"status": 1'
     expect 2 compare expected "$odd" refused missing --json
     well_formed json out
     says out '"na\"m\\e\u0009<&>\uFFFD"'
-    says out '"verdict": "refused", "status": 1, "has": "data memory, code memory and log", "refusal": 4'
+    says out '"verdict": "refused", "status": 1, "has": "VIF1'"'"'s data memory, VIF1'"'"'s code memory, VIF0'"'"'s data memory, VIF0'"'"'s code memory and log", "refusal": 4'
     says out '"verdict": "not read", "status": 2'
     "$command" compare stopped good --unfinished --json > out 2> err
     well_formed json out
@@ -1071,11 +1120,11 @@ long_runs() {
     { echo 'capture fill=7 whole=1 main-bytes=16 log-numbers=8'; cat endless.txt; } > case.txt
     expect 0 assemble capture case.txt -o case
     "$replay" < case > results || fail 'replay'
-    replayed "$data_words" "$code_bytes" 8 2
+    replayed "$data_words" "$code_bytes" 8 "$data0_words" "$code0_bytes" 2
     expect 3 run case -o result
+    says out 'answer 90, the step allowance is used; 2500000 steps'
     wanted_result results "$block" > wanted
     same result wanted 'a run of 2,500,000 steps'
-    says out 'answer 90, the step allowance is used; 2500000 steps'
     { printf 'capture\n'; sed 's/ allowance.*//' endless.txt; } > endless.capture.txt
     expect 0 assemble capture endless.capture.txt -o endless.capture
     timeout --foreground --preserve-status -k 20 -s INT 1 "$command" run endless.capture -o stopped.result > out 2> err
@@ -1180,7 +1229,7 @@ report() {
     "$command" compare expected good low short refused "$odd" missing --json > out 2> err
     sed -n 's/.*"different": \([0-9]*\), .*differences.*/\1/p' out > wanted
     grep '^<tr><td>' page.html | grep -o '<td class="number">[0-9][0-9]*</td>' | tr -dc '0-9\n' > got
-    test "$(wc -l < wanted)" = 12 || fail 'numbers of compare --json'
+    test "$(wc -l < wanted)" = 20 || fail 'numbers of compare --json'
     same got wanted 'the numbers of the page'
     test "$(grep -c '<rect class="different"' page.html)" = 2 || fail 'what differs in the maps'
     expect 1 report expected low -o page.html --from short
@@ -1197,39 +1246,19 @@ report() {
     echo "report: a page of each kind of verdict, well formed, with the numbers of compare --json and the sums of sha256sum"
 }
 
-# A board's own dumps: into a result and back, any of the three; a result that lacks a part has no verdict.
+# A board's own dumps: into a result and back, any of the five.
 dumps() {
     halves
-    state_words > /dev/null
-    printf 'capture main-bytes=8192 log-numbers=64\nstart channel=1\nrun\n' > calls.txt
-    expect 0 assemble capture calls.txt -o again.capture
-    expect 0 assemble sheet "$here/../examples/all-kinds.sheet.txt" -o all.sheet
-    expect 0 play all.sheet -o all.result
-    expect 0 export all.result --data vu.bin --code micro.bin --log log.bin
-    slice all.result "$result_head" $((4 * data_words)) > wanted
-    same vu.bin wanted
-    slice all.result $((result_head + 4 * data_words)) "$code_bytes" > wanted
-    same micro.bin wanted
-    slice all.result $((result_head + memory_bytes)) $((8 * 7 * entry_numbers)) > wanted
-    same log.bin wanted
-    expect 0 import --data vu.bin --code micro.bin --log log.bin -o board.result
-    says out 'board.result: data memory, code memory and log'
+    dump_files
+    expect 0 import --data vu.bin --code micro.bin --data0 vu0.bin --code0 micro0.bin --log log.bin -o board.result
+    says out "board.result: VIF1's data memory, VIF1's code memory, VIF0's data memory, VIF0's code memory and log"
     expect 0 compare all.result board.result
-    says out 'equal'
-    for parts in data code log 'data code' 'data log' 'code log'; do one_import; done
-    expect 2 import -o lacking.result
-    says err 'give a dump'
-    head -c 100 vu.bin > cut.bin
-    expect 2 import --data cut.bin -o lacking.result
-    says err 'cut.bin: no dump of data memory: 100 bytes'
-    expect 2 import --log cut.bin -o lacking.result
-    expect 2 import --data vu.bin -o vu.bin
-    says err 'is an input and the output'
-    expect 2 export all.result
-    expect 2 export all.result --data x.bin --code x.bin
-    says err 'x.bin is given for two dumps'
-    expect 2 export all.result --data all.result
-    expect 2 export all.result --main x.bin
+    test "$(tail -n 1 out)" = equal || fail 'whole results that are equal'
+    for parts in data code log data0 code0 'data code' 'data log' 'code log' 'data code log' 'log data0' 'data0 code0' 'log data0 code0' 'code code0' \
+        'data code data0 code0' 'data code log data0' 'code log data0 code0'; do
+        one_import
+    done
+    wrong_dumps
     expect 0 export whole.capture --main main.bin --data zeros.bin
     expect 0 assemble capture --main main.bin -o again.capture - < calls.txt
     expect 0 run again.capture -o again.result
@@ -1238,48 +1267,326 @@ dumps() {
     same zeros.bin wanted
     partial_files
     absent lacking.result x.bin
-    echo "dumps: any of the three into a result and back, main memory out of a capture and into one; no verdict where a part is lacking"
+    echo "dumps: any of the five into a result and back, main memory out of a capture and into one; what is lacking is named, sizes too"
 }
 
-# One import of some parts: its text, its dumps, no verdict.
+# A result with something in each part, and its dumps.
+dump_files() {
+    printf 'capture main-bytes=8192 log-numbers=64\nstart channel=1\nrun\n' > calls.txt
+    expect 0 assemble capture calls.txt -o again.capture
+    expect 0 assemble sheet "$here/../examples/all-kinds.sheet.txt" -o all.sheet
+    expect 0 play all.sheet -o all.result
+    "$command" dump all.result > all.txt
+    printf 'vif0.quadword 255 1 2 3 4\nvif0.instruction 511 5\nvif0.instruction 0 6\n' >> all.txt
+    expect 0 assemble result all.txt -o all.result
+    expect 0 export all.result --data vu.bin --code micro.bin --data0 vu0.bin --code0 micro0.bin --log log.bin
+    at=$result_head
+    for dump in "vu.bin $((4 * data_words))" "micro.bin $code_bytes" "vu0.bin $((4 * data0_words))" "micro0.bin $code0_bytes" "log.bin $((8 * 7 * entry_numbers))"; do
+        slice all.result "$at" "${dump#* }" > wanted
+        same "${dump% *}" wanted
+        at=$((at + ${dump#* }))
+    done
+}
+
+# One import of some parts: its text, its dumps, the verdict over these parts; which runs may begin with it.
 one_import() {
     set --
-    for part in $parts; do
-        case $part in data) set -- "$@" --data vu.bin ;; code) set -- "$@" --code=micro.bin ;; log) set -- "$@" --log log.bin ;; esac
+    lacking=
+    for part in data code log data0 code0; do
+        case " $parts " in
+        *" $part "*) ;;
+        *) lacking=$part && continue ;;
+        esac
+        set -- "$@" "--$part" "$(echo "$part" | sed 's/data/vu/;s/code/micro/').bin"
     done
     expect 0 import "$@" -o part.result
+    words=$(sed 's/^part.result: //' out)
     round result part.result
     expect 0 dump part.result
     says out "parts=$(echo "$parts" | tr ' ' '+')"
-    for side in 'all.result part.result' 'part.result all.result'; do
-        # shellcheck disable=SC2086
-        expect 3 compare $side
-        says err 'no verdict: '
-        if grep -q -e equal -e different out; then fail 'a verdict over parts'; fi
-    done
-    expect 3 compare all.result board.result part.result
-    says out '2 boards beside all.result: 1 equal, 1 no verdict'
-    for part in data code log; do
+    one_verdict
+    for part in data code log data0 code0; do
         case " $parts " in
         *" $part "*) expect 0 export part.result --$part back.bin ;;
         *) expect 2 export part.result --$part lacking.bin ;;
         esac
     done
-    expect 2 run again.capture --from part.result -o lacking.result
+    case $parts in
+    'data code log'*) expect 0 run again.capture --from part.result -o from.result && expect 0 dump from.result && says out "parts=$(echo "$parts" | tr ' ' '+')" ;;
+    *) expect 2 run again.capture --from part.result -o lacking.result && says err "part.result: has $words: this run begins with VIF1's data memory, VIF1's code memory and log" ;;
+    esac
     absent lacking.bin lacking.result
+}
+
+# The verdict on part.result, which has these parts and lacks one.
+one_verdict() {
+    for side in 'all.result part.result' 'part.result all.result'; do
+        # shellcheck disable=SC2086
+        expect 0 compare $side
+        test "$(tail -n 1 out)" = "equal in $words" || fail "the verdict over $parts: $(tail -n 1 out)"
+        # shellcheck disable=SC2086
+        expect 0 compare $side --only "$(echo "$parts" | tr ' ' ',')"
+        test "$(tail -n 1 out)" = "equal in $words" || fail "the verdict over $parts alone: $(tail -n 1 out)"
+        # shellcheck disable=SC2086
+        expect 3 compare $side --only "$lacking"
+        says err 'no verdict: asked for '
+        if grep -q -e equal -e different out; then fail 'a verdict over a part that is lacking'; fi
+    done
+    expect 0 compare all.result board.result part.result
+    says out "part.result   equal in $words"
+    says out '2 boards beside all.result: 1 equal, 1 equal in parts'
+    expect 0 compare all.result part.result --json
+    well_formed json out
+    says out "\"verdict\": \"equal in $words\", \"status\": 0"
+}
+
+wrong_dumps() {
+    expect 2 import -o lacking.result
+    says err 'give a dump'
+    head -c 100 vu.bin > cut.bin
+    expect 2 import --data cut.bin -o lacking.result
+    says err "cut.bin: no dump of VIF1's data memory: 100 bytes; it has 16384"
+    expect 2 import --log cut.bin -o lacking.result
+    expect 2 import --data vu0.bin -o lacking.result
+    says err "vu0.bin: no dump of VIF1's data memory: 4096 bytes; it has 16384, and VIF0's data memory has 4096: --data0"
+    expect 2 import --code0 micro.bin -o lacking.result
+    says err "micro.bin: no dump of VIF0's code memory: 16384 bytes; it has 4096, and VIF1's code memory has 16384: --code"
+    expect 2 import --data0 cut.bin -o lacking.result
+    says err "cut.bin: no dump of VIF0's data memory: 100 bytes; it has 4096"
+    expect 2 import --data vu.bin -o vu.bin
+    says err 'is an input and the output'
+    expect 2 export all.result
+    expect 2 export all.result --data x.bin --code x.bin
+    says err 'x.bin is given for two dumps'
+    expect 2 export all.result --data x.bin --code0 x.bin
+    expect 2 export all.result --data all.result
+    expect 2 export all.result --main x.bin
+    expect 0 import --data vu.bin --code micro.bin -o data.result
+    expect 0 import --data0 vu0.bin --code0 micro0.bin -o data0.result
+    expect 3 compare data.result data0.result
+    says err "data0.result: no verdict: data.result has VIF1's data memory and VIF1's code memory, data0.result VIF0's data memory and VIF0's code memory; they have nothing in common"
+    for words in nonsense 'data,' '' data+log 'data,,log'; do
+        expect 2 compare all.result board.result --only "$words"
+        says err 'is no part: give some of data, code, data0, code0 and log'
+    done
+    expect 0 compare all.result board.result --only log,code0,data0,code,data
+    test "$(tail -n 1 out)" = equal || fail 'all parts named'
 }
 
 partial_files() {
     expect 0 import --data vu.bin -o part.result
     damaged result part.result compare all.result broken
-    patched part.result "$result_head" 7
+    for parts in 0 32 4294967295; do
+        patched part.result $((result_head - 4)) $parts
+        expect 2 dump broken
+        says err "damaged result: its parts are $parts"
+    done
+    patched part.result $((result_head - 8)) 2
     expect 2 dump broken
-    says err 'damaged result: its parts are 7'
-    patched part.result "$result_head" 0
-    expect 2 dump broken
-    bad_text result 1 'parts=7' 'result parts=7\n'
+    says err 'damaged result: it has no log, and 2 numbers of one'
+    bad_text result 1 'parts=0' 'result parts=0\n'
+    bad_text result 1 'parts=32' 'result parts=32\n'
+    bad_text result 1 'parts=log+data: the field has 32 bits' 'result parts=log+data\n'
     bad_text result 2 "'quadword': the result has log alone" 'result parts=log\nquadword 1 1 2 3 4\n'
-    another_layout result part.result $((16 + block_bytes)) compare all.result broken
+    bad_text result 2 "'vif0.quadword': the result has VIF1's data memory alone" 'result parts=data\nvif0.quadword 1 1 2 3 4\n'
+    result_of all 'result parts=data+code+log+data0+code0\n'
+    result_of plain 'result\n'
+    same all plain
+}
+
+# VIF0: a run on channel 0, its text, its refusals, what a run is lent, what it begins with; VIF1 beside it.
+vif0() {
+    expect 0 assemble capture "$here/../examples/vif0.capture.txt" -o vif0.capture
+    round capture vif0.capture
+    expect 0 run vif0.capture -o vif0.result
+    says out 'start on channel 0 at 0x0'
+    says out 'answer 0, done; 26 steps'
+    says out "VIF0's data memory: 2 quadwords changed, first 0, last 255"
+    says out "VIF0's code memory: 2 instructions changed, first 0, last 511"
+    says out 'log: 1 entry added, first 0, last 0'
+    if grep "VIF1" out; then fail 'VIF1 on channel 0'; fi
+    round result vif0.result
+    expect 0 dump vif0.result
+    says out 'state channel=0 tadr=0x70 tte=0 ended=1 used=1'
+    says out 'state vif0.cl=1 vif0.wl=1 vif0.itops=7 vif0.itop=7 vif0.mark=1'
+    says out 'vif0.quadword 255 0x00000001 0x00000002 0x00000003 0x00000004'
+    says out 'vif0.quadword 0 0x00000005 0x00000006 0x00000007 0x00000008'
+    says out 'vif0.instruction 511 0x8000033C000002FF'
+    says out 'vif0.instruction 0 0x8000033C400002FF'
+    says out 'entry 0 MSCAL 0x0000000000000005'
+    if grep -e '^quadword' -e '^instruction' out; then fail "VIF1's memories on channel 0"; fi
+    vif0_refusals
+    vif0_lent
+    vif0_states
+    vif0_compared
+    echo "VIF0: run, refused with 20, 22, 26, 2, 3 and 5, lent by the channel, stopped and gone on; its text, dumps and pages beside VIF1's"
+}
+
+# vif0_refused ANSWER STEPS CODES: a chain of the codes on channel 0 is refused; on channel 1 it is not with this number.
+vif0_refused() {
+    capture_of small.capture "capture main-bytes=48\nstart channel=0\nrun\nend qwc=2\n$3"
+    round capture small.capture
+    expect 1 run small.capture
+    says out "answer $1, refused: "
+    says out "; $2 step"
+    expect 0 dump small.capture
+    cp out small.txt
+    sed 's/channel=0/channel=1/' small.capture.txt > other.txt
+    expect 0 assemble capture other.txt -o other.capture
+    "$command" run other.capture > out 2> err
+    if test "$1" != 22 && grep "answer $1" out; then fail "$3 on channel 1"; fi
+}
+
+vif0_refusals() {
+    for code in '02 OFFSET ofst=3' '03 BASE base=3' '06 MSKPATH3 mask=1' '11 FLUSH' '13 FLUSHA' '15 MSCALF imm=3' '50 DIRECT imm=1' '51 DIRECTHL imm=1'; do
+        vif0_refused 20 2 "NOP\n${code#* }\n"
+        grep -q "^  word 0x${code%% *}.*  # no code of VIF0: CMD ${code%% *}$" small.txt || fail "${code#* } as a code of VIF0: $(cat small.txt)"
+        expect 0 dump other.capture
+        says out "  ${code#* }"
+    done
+    for channel in 0 1; do
+        capture_of tag.capture "capture\nstart channel=$channel tte=1\nrun\nend qwc=0 word2=0x4000007 word3=0x50000001\n"
+        round capture tag.capture
+        expect 0 dump tag.capture
+        says out '; word2 as a code: ITOP itop=7'
+        test "$(grep -c 'word3 as a code: DIRECT imm=1' out)" = $channel || fail "the tag words on channel $channel"
+    done
+    vif0_refused 26 2 'STCYCL cl=1 wl=1\nUNPACK format=V4-32 num=1 addr=3 tops=1\n'
+    says small.txt 'UNPACK format=V4-32 num=1 addr=3 tops=1'
+    vif0_refused 22 1 'UNPACK format=V4-32 num=1 addr=3 tops=1\n'
+    for code in FLUSHE 'MARK mark=9' 'ITOP itop=1023' 'STMOD mode=2' MSCNT 'MSCAL imm=9'; do
+        capture_of small.capture "capture main-bytes=32\nstart channel=0\nrun\nend qwc=1\n$code\n"
+        expect 0 run small.capture
+        says out 'answer 0, done; 5 steps'
+    done
+}
+
+# What a run is lent: by the channel in the state before it.
+vif0_lent() {
+    chain='cnt qwc=2\nSTCYCL cl=1 wl=1\nSTMOD\nNOP\nUNPACK format=V4-32 num=1 addr=300\nword 1 2 3 4\nend qwc=0\n'
+    capture_of both.capture "capture main-bytes=256\nquadword 9 1 1 1 1\nvif0.quadword 9 2 2 2 2\nvif0.instruction 3 4\nstart\nrun\nstart channel=0\nrun\n$chain"
+    round capture both.capture
+    words both.capture "$calls_at" 4 | grep -q '^ *1 *1 *0 *0$' || fail 'a start without a channel'
+    expect 0 run both.capture -o both.result
+    says out "VIF1's data memory: 1 quadword changed, first 300, last 300"
+    says out "VIF0's data memory: 1 quadword changed, first 44, last 44"
+    expect 0 dump both.result
+    for line in 'quadword 9 0x00000001' 'quadword 300 0x00000001' 'vif0.quadword 9 0x00000002' 'vif0.quadword 44 0x00000001' 'vif0.instruction 3 0x0000000000000004'; do
+        says out "$line"
+    done
+    for length in vif0.data-words=1023 vif0.data-words=4096 vif0.code-bytes=4095 vif0.code-bytes=16384; do vif0_length $length 0 1; done
+    for length in data-words=4095 data-words=1024 code-bytes=16383 code-bytes=4096; do vif0_length $length 1 0; done
+}
+
+# vif0_length LENGTH CHANNEL OTHER: a run on the channel is refused with the length, one on the other is not; no result keeps it.
+vif0_length() {
+    case $1 in *data*4096 | *code*16384) longer=yes ;; *) longer= ;; esac
+    if test -n "$longer" && test "${1#vif0}" != "$1"; then
+        bad_text capture '' 'damaged capture: ' "capture $1\n"
+        return
+    fi
+    capture_of wrong.capture "capture main-bytes=256 $1\nstart channel=$2\nrun\n$chain"
+    round capture wrong.capture
+    expect 1 run wrong.capture
+    case $1 in *data*) says out 'answer 2, refused: data memory is not ' ;; *) says out 'answer 3, refused: code memory is not ' ;; esac
+    says out "VIF$2's memories and log: untouched, with these lengths every run is refused"
+    capture_of wrong.capture "capture main-bytes=256 $1\nstart channel=$3\nrun\n$chain"
+    expect 0 run wrong.capture
+    expect 2 run wrong.capture -o wrong.result
+    says err 'wrong.result: not written: a result keeps '
+    says err "of VIF$2's "
+    absent wrong.result
+}
+
+# States of VIF0: what is out of range, a code that waits, a run that goes on; main memory by VIF0's rules.
+vif0_states() {
+    for field in ofst base tops top dbf mskpath3; do
+        refused_value "state vif0.$field=1" "state vif0.$field=1\nrun"
+        refused_value "state vif0.$field=1" "state channel=0 vif0.$field=1\nrun"
+    done
+    refused_value 'state vif0.mode=3' 'state vif0.mode=3\nstart channel=0'
+    refused_value 'state vif0.waiting=DIRECT' 'state vif0.waiting=DIRECT vif0.due=1\nrun'
+    refused_value 'start channel=3' 'start channel=3\nrun'
+    expect 3 run vif0.capture --allowance 6 -o half.result
+    expect 0 dump half.result
+    says out 'state vif0.waiting=UNPACK vif0.due=7 vif0.address=255 vif0.count=2 vif0.format=V4-32 vif0.held2=0x1'
+    says out 'state waiting=none'
+    expect 0 run vif0.capture --from half.result --no-start -o rest.result
+    says out 'answer 0, done; 20 steps'
+    expect 0 compare vif0.result rest.result
+    capture_of pending.capture "capture main-bytes=32\nstate channel=0 ended=1 payload-words=4 vif0.waiting=STROW vif0.due=4\nrun\nword 0x5000001 2 3 4\n"
+    expect 0 run pending.capture -o pending.result
+    expect 0 dump pending.capture
+    says out '    word 0x05000001 0x00000002 0x00000003 0x00000004'
+    round capture pending.capture
+    expect 0 dump pending.result
+    says out 'state vif0.row0=0x5000001 vif0.row1=0x2 vif0.row2=0x3 vif0.row3=0x4'
+    capture_of filled.capture 'capture fill=0x100000000 log-numbers=8\nstart channel=0\nrun\nend\n'
+    round capture filled.capture
+    expect 0 export filled.capture --data0 filled.data --code0 filled.code
+    words filled.data 0 2 | grep -q "^ *5 $((0x7F4A7C15 + 5))\$" || fail "the fill of VIF0's data memory: $(words filled.data 0 2)"
+    test "$(od -An -tu1 -N 2 filled.code | tr -s ' ')" = " 6 $((0x15 + 6))" || fail "the fill of VIF0's code memory"
+}
+
+# VIF0's memories compared, imported, shown and drawn.
+vif0_compared() {
+    "$command" dump vif0.result > vif0.txt
+    edited vif0.txt 's/^vif0.quadword 255 0x00000001/vif0.quadword 255 0x00000000/'
+    expect 1 compare vif0.result board
+    says out "VIF0's data memory: 1 quadword differs, the first is 255"
+    says out '  VIF0 quadword 255 (0xFF)'
+    says out "VIF1's data memory: the same, 1024 quadwords compared"
+    test "$(tail -n 1 out)" = different || fail 'different'
+    expect 0 compare vif0.result board --only data,code,code0,log
+    test "$(tail -n 1 out)" = "equal in VIF1's data memory, VIF1's code memory, VIF0's code memory and log" || fail "$(tail -n 1 out)"
+    expect 1 compare vif0.result board --only data0,log
+    test "$(tail -n 1 out)" = "different; compared in VIF0's data memory and log" || fail "$(tail -n 1 out)"
+    if grep "VIF1" out; then fail 'a part that was not asked for'; fi
+    cp vif0.result good.result
+    expect 1 compare vif0.result board good.result
+    says out 'board        different     VIF0 quadword 255     1 VIF0 quadword'
+    expect 1 compare vif0.result board good.result --only data0
+    says out "board        different     VIF0 quadword 255     1 VIF0 quadword; compared in VIF0's data memory"
+    says out "good.result  equal in VIF0's data memory"
+    says out '2 boards beside vif0.result: 1 equal in parts, 1 different'
+    expect 1 compare vif0.result board --json
+    well_formed json out
+    says out '"compared": ["data", "code", "data0", "code0", "log"]'
+    says out '"data0": {"compared": 256, "different": 1, "differences": ['
+    says out '"code0": {"compared": 512, "different": 0, "differences": []}'
+    expect 1 report vif0.result board -o page.html
+    well_formed page page.html
+    says page.html "<figcaption>VIF0&#39;s data memory by quadword</figcaption>"
+    says page.html "<figcaption>VIF0&#39;s code memory by instruction</figcaption>"
+    test "$(grep -c '<rect class="different"' page.html)" = 1 || fail 'what differs in the maps'
+    vif0_dumps
+}
+
+vif0_dumps() {
+    expect 0 export vif0.result --data0 vu0.bin --code0 micro0.bin --log log0.bin
+    expect 0 import --data0 vu0.bin --code0 micro0.bin --log log0.bin -o part.result
+    expect 0 compare vif0.result part.result
+    test "$(tail -n 1 out)" = "equal in VIF0's data memory, VIF0's code memory and log" || fail "$(tail -n 1 out)"
+    expect 0 report vif0.result part.result -o page.html
+    well_formed page page.html
+    says page.html "<td class=\"verdict good\">equal in VIF0&#39;s data memory, VIF0&#39;s code memory and log</td>"
+    says page.html "<figcaption>VIF0&#39;s data memory by quadword</figcaption>"
+    if grep "VIF1&#39;s data memory by" page.html; then fail 'a map of a part that is lacking'; fi
+    expect 0 run vif0.capture --from part.result -o from.result
+    expect 0 dump from.result
+    says out 'parts=log+data0+code0'
+    expect 2 run both.capture --from part.result
+    expect 2 report vif0.result good.result -o none.html --from part.result
+    says err "part.result: has VIF0's data memory, VIF0's code memory and log: the transfer began with VIF1's data memory"
+    printf 'capture main-bytes=16\nstart channel=0\nrun\nend\n' > raw0.txt
+    expect 0 assemble capture raw0.txt -o raw0.capture --data0 vu0.bin --code0 micro0.bin
+    round capture raw0.capture
+    expect 0 run raw0.capture -o raw0.result
+    expect 0 compare raw0.result vif0.result --only data0,code0
+    expect 2 assemble capture raw0.txt -o none.html --data vu0.bin
+    expect 2 assemble state raw0.txt -o none.html --data0 vu0.bin
+    says err 'takes no raw memories: --main, --data, --code, --data0, --code0 and --log belong to a capture'
+    absent none.html
 }
 
 # What is given twice; and every one of 65,536 differences shown in a moment.
@@ -1301,7 +1608,7 @@ repeated() {
 }
 
 for name in ${TESTS:-layout state_words usage bench_points meanings refused_sheets examples comparisons damaged_files other_layouts bad_texts entries_used \
-    unfinished beginnings one_file outputs dashes repeated rack messages long_runs conventions report dumps generated_sheets generated_captures}; do
+    unfinished beginnings one_file outputs dashes repeated rack messages long_runs conventions report dumps vif0 generated_sheets generated_captures}; do
     "$name"
 done
 echo "host/test.sh: all as it has to be"

@@ -7,53 +7,66 @@
 int status_of_verdict(enum verdict verdict)
 {
     static const int statuses[] = {
-        [VERDICT_EQUAL] = STATUS_DONE,
-        [VERDICT_DIFFERENT] = STATUS_REFUSED,
-        [VERDICT_REFUSED] = STATUS_REFUSED,
-        [VERDICT_NONE] = STATUS_STOPPED,
+        [VERDICT_EQUAL] = STATUS_DONE,      [VERDICT_EQUAL_IN_PARTS] = STATUS_DONE, [VERDICT_DIFFERENT] = STATUS_REFUSED,
+        [VERDICT_REFUSED] = STATUS_REFUSED, [VERDICT_NONE] = STATUS_STOPPED,
     };
     return statuses[verdict];
+}
+
+bool is_compared(enum verdict verdict)
+{
+    return verdict <= VERDICT_DIFFERENT;
+}
+
+bool has_part(const struct comparison *comparison, enum part part)
+{
+    return is_compared(comparison->verdict) && (comparison->parts & PART_BIT(part)) != 0;
 }
 
 /* What the library's numbers say of a part: it gives the number compared in place of the first where none differs. */
 static struct found found_in(const struct board *a, const struct board *b, enum part part, const uint64_t *numbers)
 {
     uint64_t both = board_used(a) < board_used(b) ? board_used(a) : board_used(b);
-    const uint64_t compared[PARTS] = {board_quadwords(a), board_instructions(a), both};
-    return (struct found){.compared = compared[part], .count = numbers[2 * part + 1], .first = numbers[2 * part]};
+    return (struct found){
+        .compared = part == PART_LOG ? both : board_units(a, part),
+        .count = numbers[2 * part + 1],
+        .first = numbers[2 * part],
+    };
 }
 
-struct comparison compare_results(const struct result *result, const struct result *board, bool unfinished)
+/* The library's verdict over parts. */
+static struct comparison ask(const struct board *a, const struct board *b, unsigned parts)
 {
-    struct comparison comparison = {.verdict = VERDICT_NONE};
-    uint64_t numbers[2 * PARTS] = {0};
-    if (result->answer != TEJBORUN_DONE && !unfinished) {
-        comparison.reason = REASON_UNFINISHED;
-        return comparison;
-    }
-    if (result->parts != PARTS_ALL || board->parts != PARTS_ALL) {
-        comparison.reason = REASON_PARTS;
-        return comparison;
-    }
-    uint32_t answer = compare_boards(&result->board, &board->board, numbers);
+    struct comparison comparison = {.verdict = VERDICT_REFUSED, .parts = parts};
+    uint64_t numbers[TEJBORUN_COMPARED] = {0};
+    uint32_t answer = compare_boards(a, b, parts, numbers);
     if (answer != TEJBORUN_SAME && answer != TEJBORUN_DIFFERENT) {
-        comparison.verdict = VERDICT_REFUSED;
         comparison.refusal = answer >= TEJBORUN_REFUSED ? answer - TEJBORUN_REFUSED : answer;
         return comparison;
     }
-    comparison.verdict = answer == TEJBORUN_SAME ? VERDICT_EQUAL : VERDICT_DIFFERENT;
+    if (answer == TEJBORUN_DIFFERENT)
+        comparison.verdict = VERDICT_DIFFERENT;
+    else
+        comparison.verdict = parts == PARTS_ALL ? VERDICT_EQUAL : VERDICT_EQUAL_IN_PARTS;
     for (size_t part = 0; part < PARTS; part++)
-        comparison.found[part] = found_in(&result->board, &board->board, (enum part)part, numbers);
+        if ((parts & PART_BIT(part)) != 0)
+            comparison.found[part] = found_in(a, b, part, numbers);
     return comparison;
+}
+
+struct comparison compare_results(const struct result *result, const struct result *board, const struct wanted *wanted)
+{
+    unsigned both = result->parts & board->parts, parts = wanted->is_named ? wanted->only : both;
+    if (result->answer != TEJBORUN_DONE && !wanted->unfinished)
+        return (struct comparison){.verdict = VERDICT_NONE, .reason = REASON_UNFINISHED};
+    if (parts == 0 || (parts & ~both) != 0)
+        return (struct comparison){.verdict = VERDICT_NONE, .reason = REASON_PARTS};
+    return ask(&result->board, &board->board, parts);
 }
 
 static bool differs(const struct board *a, const struct board *b, enum part part, size_t unit)
 {
-    if (part == PART_DATA)
-        return memcmp(a->data + 4 * unit, b->data + 4 * unit, 4 * sizeof *a->data) != 0;
-    if (part == PART_CODE)
-        return memcmp(a->code + 8 * unit, b->code + 8 * unit, 8) != 0;
-    return memcmp(board_entry(a, unit), board_entry(b, unit), TEJBORUN_ENTRY_NUMBERS * sizeof *a->log) != 0;
+    return memcmp(board_unit(a, part, unit), board_unit(b, part, unit), part_bytes(part, part_shapes[part].unit_elements)) != 0;
 }
 
 size_t *differing_units(const struct board *a, const struct board *b, enum part part, const struct found *found)

@@ -5,7 +5,8 @@
 #include "board.h"
 
 enum verdict {
-    VERDICT_EQUAL,
+    VERDICT_EQUAL,          /* in all parts */
+    VERDICT_EQUAL_IN_PARTS, /* in those that were compared */
     VERDICT_DIFFERENT,
     VERDICT_REFUSED, /* the library does not compare these two */
     VERDICT_NONE,
@@ -15,7 +16,7 @@ enum verdict {
 /* Why there is no verdict. */
 enum reason {
     REASON_UNFINISHED, /* the result is of a run that did not end with done */
-    REASON_PARTS,      /* the result or the board lacks a part */
+    REASON_PARTS,      /* a part that is asked for is lacking, or they have none in common */
 };
 
 /* What was found in a part: how many units differ, and the first of them. */
@@ -27,15 +28,27 @@ struct comparison {
     enum verdict verdict;
     uint32_t refusal;   /* where refused */
     enum reason reason; /* where there is none */
+    unsigned parts;     /* that were compared */
     struct found found[PARTS];
+};
+
+/* What is asked for: parts, all those that both have where none is named, and whether an unfinished result is compared too. */
+struct wanted {
+    unsigned only;
+    bool is_named, unfinished;
 };
 
 /* The exit status of a verdict. */
 int status_of_verdict(enum verdict verdict);
 
-/* Asks the library for its verdict; for an unfinished result only where that is wanted. The one place where a verdict is asked for: that over parts, a proved
- * function's too, belongs here; until there is one, a part that is lacking means no verdict. */
-struct comparison compare_results(const struct result *result, const struct result *board, bool unfinished);
+/* Whether the verdict is on what was compared: equal, in parts, or different. */
+bool is_compared(enum verdict verdict);
+
+/* Whether a part was compared. */
+bool has_part(const struct comparison *comparison, enum part part);
+
+/* Asks the library for its verdict. The one place where a verdict is asked for. */
+struct comparison compare_results(const struct result *result, const struct result *board, const struct wanted *wanted);
 
 /* The numbers of the units of a part that differ, as many as the library has counted; null where the boards have others. The caller frees them. */
 size_t *differing_units(const struct board *a, const struct board *b, enum part part, const struct found *found);

@@ -3,15 +3,16 @@ _tejborun() {
     local word=${COMP_WORDS[COMP_CWORD]} command=${COMP_WORDS[1]}
     local commands='build steps meaning run play compare report import export dump assemble help'
     local kinds='sheet chain state capture result'
+    local parts='data code data0 code0 log'
     local options='--help'
     case $command in
     build | meaning | play) options='-o --output --help' ;;
     run) options='-o --output --allowance --from --no-start --help' ;;
-    compare) options='--all --unfinished --quiet --json --help' ;;
-    report) options='-o --output --from --unfinished --help' ;;
-    import) options='-o --output --data --code --log --help' ;;
-    export) options='--main --data --code --log --help' ;;
-    assemble) options='-o --output --main --data --code --log --help' ;;
+    compare) options='--only --all --unfinished --quiet --json --help' ;;
+    report) options='-o --output --from --only --unfinished --help' ;;
+    import) options='-o --output --data --code --data0 --code0 --log --help' ;;
+    export) options='--main --data --code --data0 --code0 --log --help' ;;
+    assemble) options='-o --output --main --data --code --data0 --code0 --log --help' ;;
     esac
     if test "$COMP_CWORD" = 1; then
         mapfile -t COMPREPLY < <(compgen -W "$commands --help --version" -- "$word")
@@ -19,6 +20,8 @@ _tejborun() {
         mapfile -t COMPREPLY < <(compgen -W "$commands" -- "$word")
     elif test "$COMP_CWORD" = 2 && { test "$command" = dump || test "$command" = assemble; }; then
         mapfile -t COMPREPLY < <(compgen -W "$kinds" -- "$word"; compgen -f -- "$word")
+    elif test "${COMP_WORDS[COMP_CWORD - 1]}" = --only; then
+        mapfile -t COMPREPLY < <(compgen -W "$parts" -- "$word")
     elif test "${word#-}" != "$word"; then
         mapfile -t COMPREPLY < <(compgen -W "$options" -- "$word")
     else
