@@ -22,7 +22,7 @@ use Rattle.vif.specs.Range.{registersInRange, waitingInRange, unitInRange}
 use Rattle.vif.specs.Step.{codeStep, giveQuadword, unpackStep, vifStep}
 use Rattle.fields.specs.Memory.{wordAt, longAt}
 use Rattle.vif.specs.Words.{incomingAt}
-use Rattle.chain.specs.Pending.{payloadAfter}
+use Rattle.chain.specs.Pending.{tagsAfter, payloadAfter}
 use Rattle.chain.specs.Range.{unitOf, channelInRange, startInRange, stackInRange, tagsInRange, payloadInRange, stateInRange, mainRefused, tagsInside, payloadInside, entryRefusal}
 use Rattle.chain.specs.Tags.{nextStack, usesAddr, payloadAt, nextTadr, endsChain, tagWordsOf, payloadOf, tagRefusal, tagState, tagRead}
 use Rattle.chain.specs.Start.{resetState, startOf}
@@ -34,7 +34,7 @@ use Rattle.sheet.specs.Sizes.{sheetSteps}
 use Rattle.sheet.specs.Layout.{laidOut, chainOf}
 use Rattle.sheet.specs.Build.{buildOf}
 use Rattle.conformance.specs.Demand.{recordsOf}
-use Rattle.conformance.specs.Points.{AllHold, runIn, runOfWords, builtFrom, sizeOf, chainBytes, wordsAt, chainWords, runOfSheet, stepsFor, loggedIn, quadwordIn, instructionIn, allZero, partsWritten, quadwordsFrom, instructionsFrom, dueIn, rowIn, answerIn, runOfVif0, answersTo, programStart, startedIn, left0, left1, runFrom, second, third, playedFrom0, points, requestPoints}
+use Rattle.conformance.specs.Points.{AllHold, runIn, runOfWords, builtFrom, sizeOf, chainBytes, wordsAt, chainWords, runOfSheet, stepsFor, loggedIn, quadwordIn, instructionIn, allZero, partsWritten, quadwordsFrom, instructionsFrom, dueIn, rowIn, answerIn, runOfVif0, answersTo, programStart, startedIn, tagTransferred, runOn7, left0, left1, runFrom, second, third, playedFrom0, points, requestPoints}
 use Rattle.conformance.specs.Play.{playRefusal, playOf}
 
 -- ---- the definitions that the table computes through
@@ -60,7 +60,7 @@ unfolding zerosAt padsZero marked kindOf rowRefusal recordRefusal readingAt reco
 sheetOpen = tt
 
 benchOpen : Unit {0}
-unfolding recordsOf runIn runOfWords builtFrom sizeOf chainBytes wordsAt chainWords runOfSheet stepsFor loggedIn quadwordIn instructionIn allZero partsWritten quadwordsFrom instructionsFrom dueIn rowIn answerIn runOfVif0 answersTo startedIn runFrom second third playRefusal playOf playedFrom0
+unfolding recordsOf runIn runOfWords builtFrom sizeOf chainBytes wordsAt chainWords runOfSheet stepsFor loggedIn quadwordIn instructionIn allZero partsWritten quadwordsFrom instructionsFrom dueIn rowIn answerIn runOfVif0 answersTo startedIn tagTransferred runOn7 runFrom second third playRefusal playOf playedFrom0
 benchOpen = tt
 
 opened : Unit {0}
@@ -74,7 +74,7 @@ mpg : AllHold (drop 25 points)
 unfolding opened
 mpg = (refl, (refl, (refl, tt)))
 
--- "CL 4, WL 2. CL 2, WL 3"
+-- "CL 4, WL 2, NUM 4, A 0", "CL 2, WL 3"
 cycle : AllHold (drop 20 points)
 unfolding opened
 cycle = (refl, (refl, (refl, (refl, (refl, mpg)))))
@@ -89,7 +89,7 @@ five-bits : AllHold (drop 17 points)
 unfolding opened
 five-bits = (refl, mode)
 
--- "V3-8, NUM 5. V4-32, NUM 0"
+-- "V3-8, NUM 5", "V4-32, NUM 0"
 words : AllHold (drop 15 points)
 unfolding opened
 words = (refl, (refl, five-bits))
@@ -126,9 +126,14 @@ unfolding opened requestPoints
 requestsOpened = tt
 
 -- request 10
-vif0 : AllHold (drop 12 requestPoints)
+vif0 : AllHold (drop 16 requestPoints)
+unfolding requestsOpened tagsAfter
+vif0 = (refl, (refl, (refl, (refl, (refl, (refl, (refl, (refl, (refl, (refl, (refl, (refl, (refl, tt)))))))))))))
+
+-- request 3, what fills write and how much payload they leave
+fills-hold : AllHold (drop 12 requestPoints)
 unfolding requestsOpened
-vif0 = (refl, (refl, (refl, (refl, (refl, (refl, (refl, (refl, (refl, tt)))))))))
+fills-hold = (refl, (refl, (refl, (refl, vif0))))
 
 -- channels 0, 1 and 2 in turn: each run ends in the state in which the next begins
 pub capture-states : (runOfVif0 1 programStart .after .state ≡ left0) × (second .after .state ≡ left1)
@@ -138,4 +143,4 @@ capture-states = (refl, refl)
 -- every point of a request holds
 pub request-points-hold : AllHold requestPoints
 unfolding requestsOpened
-request-points-hold = (refl, (refl, (refl, (refl, (refl, (refl, (refl, (refl, (refl, (refl, (refl, (refl, vif0))))))))))))
+request-points-hold = (refl, (refl, (refl, (refl, (refl, (refl, (refl, (refl, (refl, (refl, (refl, (refl, fills-hold))))))))))))

@@ -26,7 +26,7 @@ use Rattle.sheet.specs.Build.{Left, buildOf, exportedNumber}
 use Rattle.conformance.specs.Demand.{stepsMeant}
 use Rattle.conformance.specs.Play.{Played, playOf, playNumber}
 
--- a point: the numbers that the definitions give, and those that document 01 states
+-- a point: the numbers that the definitions give, and those that document 01 states or, for document 02, that were worked out from it by hand
 pub record Point : Type 0 where
   pub computed : List ℕ
   pub stated : List ℕ
@@ -260,6 +260,18 @@ fillOfRow = 0x20000000 ∷ 0x00005500 ∷ 0x30000000 ∷ 10 ∷ 20 ∷ 30 ∷ 40
 abbrev pub fillAcross : List ℕ
 fillAcross = 0x01000201 ∷ 0 ∷ 0 ∷ 0x600203ff ∷ 5 ∷ 0 ∷ 0 ∷ 0 ∷ []
 
+-- STROW 10, 20, 30, 40; STMOD 2; STCYCL 1, 2; UNPACK S-32, NUM 2, A 0; its word; three NOPs
+abbrev pub fillOfData : List ℕ
+fillOfData = 0x30000000 ∷ 10 ∷ 20 ∷ 30 ∷ 40 ∷ 0x05000002 ∷ 0x01000201 ∷ 0x60020000 ∷ 1 ∷ 0 ∷ 0 ∷ 0 ∷ []
+
+-- STCYCL 1, 1; UNPACK S-32, NUM 1, A 0 and its word, the same with A 1; STCYCL 0, 1; UNPACK S-32, NUM 1, A 0; NOP
+abbrev pub unfedOver : List ℕ
+unfedOver = 0x01000101 ∷ 0x60010000 ∷ 5 ∷ 0x60010001 ∷ 5 ∷ 0x01000100 ∷ 0x60010000 ∷ 0 ∷ []
+
+-- STCYCL 2, 3; two NOPs; UNPACK S-32, NUM 4
+abbrev pub fillingDue : List ℕ
+fillingDue = 0x01000302 ∷ 0 ∷ 0 ∷ 0x60040000 ∷ []
+
 -- VIF0's memories and a log of four entries, all zeros
 abbrev pub blank0 : Lent
 blank0 = lent (replicate (dataWords Vif0) 0) (replicate (codeBytes Vif0) 0) (replicate 8 0)
@@ -275,6 +287,36 @@ dataAcross = 0x01000101 ∷ 0 ∷ 0 ∷ 0x600200ff ∷ 5 ∷ 6 ∷ 0 ∷ 0 ∷ [
 -- three NOPs; MPG at 511, NUM 2; its words
 abbrev pub codeAcross : List ℕ
 codeAcross = 0 ∷ 0 ∷ 0 ∷ 0x4a0201ff ∷ 1 ∷ 2 ∷ 3 ∷ 4 ∷ []
+
+-- STCYCL 1, 2; two NOPs; UNPACK S-32, NUM 2, A 511, which is quadword 255 of VIF0; its word; three NOPs
+abbrev pub fillAcross0 : List ℕ
+fillAcross0 = 0x01000201 ∷ 0 ∷ 0 ∷ 0x600201ff ∷ 5 ∷ 0 ∷ 0 ∷ 0 ∷ []
+
+-- an end tag whose words 2 and 3 are ITOP 5 and MSCAL 9, with tag transfer on
+unfoldable pub tagTransferred : Ran
+tagTransferred = runOf (wordsBytes (0x70000000 ∷ 0 ∷ 0x04000005 ∷ 0x14000009 ∷ [])) 100 (startOf resetState 0 0 true .state) blank0
+
+-- a state on a channel, at an end tag at 32, with so many entries used and these units; nothing waits in either path
+abbrev pub leftOn : ℕ → ℕ → Vif → Vif → State
+leftOn channel used v u =
+    record {
+      channel = channel;
+      tadr = 32;
+      tte = false;
+      ended = true;
+      stack = Empty;
+      tags = NoTagWords;
+      payload = NoPayload;
+      used = used;
+      vif0 = v;
+      vif1 = u;
+      path2 = resetPath;
+      path3 = resetPath;
+    }
+
+-- a run on channel 7, which is none
+unfoldable pub runOn7 : Lent → Ran
+runOn7 m = runOf (wordsBytes (tagWords 7 0)) 100 (leftOn 7 0 resetUnit resetUnit) m
 
 -- a code alone, and three NOPs
 abbrev pub codeAlone : ℕ → List ℕ
@@ -296,24 +338,6 @@ programStart = 0x04000005 ∷ 0x14000009 ∷ 0 ∷ 0 ∷ []
 -- ITOP, TOP, TOPS and DBF of VIF0
 unfoldable pub startedIn : Ran → List ℕ
 startedIn r = r .after .state .vif0 .itop ∷ r .after .state .vif0 .top ∷ r .after .state .vif0 .tops ∷ if (r .after .state .vif0 .dbf) 1 0 ∷ []
-
--- a state on a channel, at an end tag at 32, with so many entries used and these units; nothing waits in either path
-abbrev pub leftOn : ℕ → ℕ → Vif → Vif → State
-leftOn channel used v u =
-    record {
-      channel = channel;
-      tadr = 32;
-      tte = false;
-      ended = true;
-      stack = Empty;
-      tags = NoTagWords;
-      payload = NoPayload;
-      used = used;
-      vif0 = v;
-      vif1 = u;
-      path2 = resetPath;
-      path3 = resetPath;
-    }
 
 -- VIF0 and VIF1 after a program start from reset, VIF0 with ITOP 5 before it
 abbrev pub started0 : Vif
@@ -355,15 +379,22 @@ requestPoints =
     ∷ point (rowIn (runOfWords 4 rowUnmasked)) (13 ∷ 23 ∷ 33 ∷ 43 ∷ [])
     ∷ point (quadwordIn (runOfWords 4 rowUnmasked) 0) (11 ∷ 21 ∷ 31 ∷ 41 ∷ [])
     ∷ point (quadwordIn (runOfWords 4 rowUnmasked) 1) (13 ∷ 23 ∷ 33 ∷ 43 ∷ [])
-    -- request 3: "With CL 0 there is no payload and all writes belong to the code's own step.": the interrupt mark is met there, 10 steps after the tag's
+    -- request 3: "With CL 0 there is no payload and all writes belong to the code's own step.": the interrupt mark is met there, in step 10, the tag's being the first
     ∷ point (answerIn (runOfWords 3 unfed) ++ dueIn (runOfWords 3 unfed) ++ (runOfWords 3 unfed .steps ∷ [])) (91 ∷ 0 ∷ 10 ∷ [])
     ∷ point (quadwordIn (runOfWords 3 unfed) 1 ++ quadwordIn (runOfWords 3 unfed) 3) (7 ∷ 8 ∷ 9 ∷ 10 ∷ 7 ∷ 8 ∷ 9 ∷ 10 ∷ [])
-    -- a fill under MODE 2 with code 1 gets ROW as the vector before it left it, and moves none
+    -- a fill under MODE 2 with code 1 gets ROW as the vector before it left it
     ∷ point (quadwordIn (runOfWords 3 fillOfRow) 0 ++ quadwordIn (runOfWords 3 fillOfRow) 1) (11 ∷ 21 ∷ 31 ∷ 41 ∷ 11 ∷ 21 ∷ 31 ∷ 41 ∷ [])
     ∷ point (rowIn (runOfWords 3 fillOfRow)) (11 ∷ 21 ∷ 31 ∷ 41 ∷ [])
     -- "Addresses run on by one each write.", across the memory's end
     ∷ point (quadwordsFrom (runOfWords 2 fillAcross) 1023) (1023 ∷ 0 ∷ [])
     ∷ point (quadwordIn (runOfWords 2 fillAcross) 1023 ++ quadwordIn (runOfWords 2 fillAcross) 0) (5 ∷ 5 ∷ 5 ∷ 5 ∷ 5 ∷ 5 ∷ 5 ∷ 5 ∷ [])
+    -- "A filling field of mask code 0 gets that field of the last payload vector ... without MODE ...; ROW doesn't move.": under MODE 2
+    ∷ point (quadwordIn (runOfWords 3 fillOfData) 0 ++ quadwordIn (runOfWords 3 fillOfData) 1) (11 ∷ 21 ∷ 31 ∷ 41 ∷ 1 ∷ 1 ∷ 1 ∷ 1 ∷ [])
+    ∷ point (rowIn (runOfWords 3 fillOfData)) (11 ∷ 21 ∷ 31 ∷ 41 ∷ [])
+    -- "or 0 if there has been none": with CL 0 the five written before is gone
+    ∷ point (quadwordIn (runOfWords 2 unfedOver) 0 ++ quadwordIn (runOfWords 2 unfedOver) 1) (0 ∷ 0 ∷ 0 ∷ 0 ∷ 5 ∷ 5 ∷ 5 ∷ 5 ∷ [])
+    -- "Payload vectors: CL x (NUM div WL) + the smaller of NUM mod WL and CL.": 2 x 1 + 1 words of S-32 for four writes
+    ∷ point (dueIn (runOfWords 1 fillingDue)) (3 ∷ [])
     -- request 10, VIF0: "256 quadwords of data, 512 instructions ... Addresses wrap at those sizes."
     ∷ point (quadwordIn (runOfVif0 2 dataAcross) 255 ++ quadwordIn (runOfVif0 2 dataAcross) 0) (5 ∷ 5 ∷ 5 ∷ 5 ∷ 6 ∷ 6 ∷ 6 ∷ 6 ∷ [])
     ∷ point (instructionIn (runOfVif0 2 codeAcross) 511 ++ instructionIn (runOfVif0 2 codeAcross) 0) (1 ∷ 0 ∷ 0 ∷ 0 ∷ 2 ∷ 0 ∷ 0 ∷ 0 ∷ 3 ∷ 0 ∷ 0 ∷ 0 ∷ 4 ∷ 0 ∷ 0 ∷ 0 ∷ [])
@@ -372,7 +403,14 @@ requestPoints =
     ∷ point (answersTo (0x04 ∷ 0x07 ∷ 0x10 ∷ 0x17 ∷ [])) (0 ∷ 0 ∷ 0 ∷ 0 ∷ [])
     -- "26 for UNPACK with IMM bit 15 on VIF0, after 22": 22 while WL is 0
     ∷ point (answerIn (runOfVif0 1 (codeAlone 0x6c018000)) ++ answerIn (runOfVif0 1 topsAdded)) (22 ∷ 26 ∷ [])
+    -- an address above the size, and a fill across the end
+    ∷ point (quadwordIn (runOfVif0 2 fillAcross0) 255 ++ quadwordIn (runOfVif0 2 fillAcross0) 0) (5 ∷ 5 ∷ 5 ∷ 5 ∷ 5 ∷ 5 ∷ 5 ∷ 5 ∷ [])
+    -- "On channel 0 tag words go to VIF0."
+    ∷ point (answerIn tagTransferred ++ startedIn tagTransferred ++ loggedIn tagTransferred) (0 ∷ 5 ∷ 0 ∷ 0 ∷ 0 ∷ 256 ∷ 9 ∷ [])
+    -- "2 and 3 test VIF0's sizes on channel 0, else VIF1's": on a channel that is none VIF1's, and then 5
+    ∷ point (answerIn (runOn7 blank0) ++ answerIn (runOn7 blank)) (2 ∷ 5 ∷ [])
     -- "MSCAL and MSCNT there change ITOP alone of the registers"
+    ∷ point (loggedIn (runOfVif0 1 (codeAlone 0x17000000))) (258 ∷ 0 ∷ [])
     ∷ point (startedIn (runOfVif0 1 programStart) ++ loggedIn (runOfVif0 1 programStart)) (5 ∷ 0 ∷ 0 ∷ 0 ∷ 256 ∷ 9 ∷ [])
     -- channels 0, 1 and 2 in turn over one log; `capture-states` says that each begins where the one before ended
     ∷ point (answerIn second ++ loggedIn second) (0 ∷ 256 ∷ 9 ∷ 256 ∷ 2 ∷ [])

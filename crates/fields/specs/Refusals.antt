@@ -7,11 +7,11 @@ use Prim.Native.Nat.{ℕ}
 abbrev pub mainLength : ℕ
 mainLength = 1
 
--- "2 data memory not 4,096 words"
+-- "2 data memory not 4,096 words"; request 10: "2 and 3 test VIF0's sizes on channel 0, else VIF1's"
 abbrev pub dataLength : ℕ
 dataLength = 2
 
--- "3 code memory not 16,384 bytes"
+-- "3 code memory not 16,384 bytes"; the same of request 10
 abbrev pub codeLength : ℕ
 codeLength = 3
 
@@ -55,7 +55,7 @@ cmdUnlisted = 20
 abbrev pub formatMissing : ℕ
 formatMissing = 21
 
--- "22 UNPACK with WL 0 or WL > CL"
+-- "22 UNPACK with WL 0 or WL > CL", of which request 3 says: "22 remains for WL 0 only, in its old place."
 abbrev pub cycleWrong : ℕ
 cycleWrong = 22
 

@@ -1,4 +1,4 @@
--- The state block: a saved state as 95 words, the chain's own and then the blocks of VIF1, its paths and VIF0.
+-- The state block: a saved state as 95 words, the chain's own and then the blocks of VIF1, of paths 2 and 3, and of VIF0.
 use Prim.Native.Nat.{ℕ, _/_, _%_, _^_}
 use mathlib.Core.Bool.{Bool, true, false, _&&_}
 use mathlib.Core.List.{List, [], _∷_, _++_}

@@ -40,9 +40,26 @@ use Rattle.vif.proofs.FeedLaws.{takes-ready}
 -- ---- registers
 
 -- "MSCAL and MSCNT there change ITOP alone of the registers"
-pub itop-alone : (v : Vif) → (started Vif0 v .itop ≡ v .itops) × (started Vif0 v .top ≡ v .top) × (started Vif0 v .tops ≡ v .tops)
-    × (started Vif0 v .dbf ≡ v .dbf)
-itop-alone v = (refl, refl, refl, refl)
+pub itop-alone : (v : Vif) → started Vif0 v
+    ≡ record {
+      cl = v .cl;
+      wl = v .wl;
+      ofst = v .ofst;
+      base = v .base;
+      tops = v .tops;
+      top = v .top;
+      itops = v .itops;
+      itop = v .itops;
+      dbf = v .dbf;
+      mode = v .mode;
+      mskpath3 = v .mskpath3;
+      mark = v .mark;
+      mask = v .mask;
+      row = v .row;
+      col = v .col;
+      waiting = v .waiting;
+    }
+itop-alone v = refl
 
 -- "0 in each VIF0 register that nothing there writes"; `step-ranges` keeps it so
 pub record Unwritten (v : Vif) : Type 0 where

@@ -91,7 +91,7 @@ missingCode cmd =
     || (eqb cmd 0x50
     || eqb cmd 0x51))))))
 
--- which of the codes below 60h a unit has: VIF1 all of them
+-- whether a code below 60h is none of those that a unit lacks
 abbrev pub codeListed : VifUnit → ℕ → Bool
 codeListed Vif0 cmd = not (missingCode cmd)
 codeListed Vif1 cmd = true
