@@ -313,12 +313,17 @@ fn waits_inside_a_cycle() -> Point {
         .step(3, 0, &[(23, [Some(3); 4])])
 }
 
-/// S-32, NUM 4: vectors 1 and 2, a fill that goes round the end, vector 3.
-fn round_the_end() -> Point {
-    Point::new("CL 2, WL 3", &[stcycl(2, 3), code_word(0x60, 4, 1_022)])
-        .step(1, 0, &[(1_022, [Some(1); 4])])
-        .step(2, 0, &[(1_023, [Some(2); 4]), (0, [Some(2); 4])])
+/// S-32, NUM 4, from the quadword before the last: vectors 1 and 2, a fill that goes round the end, vector 3.
+fn fill_round(name: &'static str, last: usize) -> Point {
+    let first = code_word(0x60, 4, last as u32 - 1);
+    Point::new(name, &[stcycl(2, 3), first])
+        .step(1, 0, &[(last - 1, [Some(1); 4])])
+        .step(2, 0, &[(last, [Some(2); 4]), (0, [Some(2); 4])])
         .step(3, 0, &[(1, [Some(3); 4])])
+}
+
+fn round_the_end() -> Point {
+    fill_round("CL 2, WL 3", 1_023)
 }
 
 /// V4-8 in MODE 1, NUM 4: one vector and three fills, which are without MODE.
@@ -442,12 +447,8 @@ fn vectors_round_the_end() -> Point {
         .step(8, 0, &[(0, [5, 6, 7, 8].map(Some))])
 }
 
-/// S-32, NUM 4, at quadword 254: vectors 1 and 2, a fill, vector 3.
 fn fills_round_the_end() -> Point {
-    Point::new("fill at 0", &[stcycl(2, 3), code_word(0x60, 4, 254)])
-        .step(1, 0, &[(254, [Some(1); 4])])
-        .step(2, 0, &[(255, [Some(2); 4]), (0, [Some(2); 4])])
-        .step(3, 0, &[(1, [Some(3); 4])])
+    fill_round("fill at 0", 255)
 }
 
 /// S-32, NUM 0: each of the 256 quadwords in the code's own step.
