@@ -176,10 +176,18 @@ fn mpg(random: &mut Random) -> Vec<u32> {
     let mut words = Vec::new();
     while words.len() < SMALL_WORDS {
         let address = random.below(MPG_ADDRESSES as u64) as u32;
-        words.push(code_word(MPG, 0, address));
-        put_random(random, &mut words, 2 * 256);
+        put_mpg(random, &mut words, 256, address);
     }
     words
+}
+
+/// MPG with its payload from word 0 or 2 of a quadword on, as the boards want it.
+fn put_mpg(random: &mut Random, words: &mut Vec<u32>, count: u32, imm: u32) {
+    if words.len() % 2 == 0 {
+        words.push(NOP);
+    }
+    words.push(code_word(MPG, count % 256, imm));
+    put_random(random, words, 2 * count as usize);
 }
 
 /// DIRECT with A+D packets.
@@ -249,8 +257,8 @@ fn mixed_payload(random: &mut Random) -> Vec<u32> {
             4 => put_register_words(random, &mut words),
             5 => {
                 let count = random.within(1..=32) as u32;
-                words.push(code_word(MPG, count, random.word() & 0xFFFF));
-                put_random(random, &mut words, 2 * count as usize);
+                let imm = random.word() & 0xFFFF;
+                put_mpg(random, &mut words, count, imm);
             }
             6 => {
                 let command = random.pick(&[DIRECT, DIRECTHL]);
@@ -308,7 +316,11 @@ fn mixed_packet(random: &mut Random) -> u128 {
 #[cfg(test)]
 mod tests {
     use super::*;
+    use crate::chain::{self, Memories, State};
     use crate::chain_time::{input, result};
+    use crate::log;
+    use crate::model::Model;
+    use crate::vif::Payload;
     use crate::words::{number, word};
 
     #[test]
@@ -321,6 +333,41 @@ mod tests {
             assert_eq!(word(&three, 2), 0, "{}", chain.name);
             assert_eq!(number(&three, 0), 3 * number(&one, 0), "{}", chain.name);
             assert_eq!(chain.payload.len() % 4, 0);
+        }
+    }
+
+    /// The words' numbers at which the payload of each MPG of a chain begins.
+    fn first_numbers(chain: &ChainInput) -> Vec<u32> {
+        let mut state = State::reset();
+        chain::start(&mut state, chain.channel, 0, false).unwrap();
+        let main: Vec<u8> = chain.main.iter().flat_map(|w| w.to_le_bytes()).collect();
+        let sizes = Model::of_channel(chain.channel).sizes();
+        let mut memories = Memories {
+            main: &main,
+            data: &mut vec![0; sizes.data_words()],
+            code: &mut vec![0; sizes.code_bytes()],
+            log: &mut vec![0; log::MOST_NUMBERS],
+        };
+        let mut numbers = Vec::new();
+        chain::run(&mut state, &mut memories, u64::MAX, |before, _, _| {
+            let first = before.unit().waiting.is_some_and(|waiting| {
+                matches!(waiting.payload, Payload::Mpg(mpg) if waiting.due == mpg.all_words())
+            });
+            if let (true, Some(pending)) = (first, before.payload) {
+                numbers.push(pending.address / 4 % 4);
+            }
+        });
+        numbers
+    }
+
+    #[test]
+    fn code_uploads_are_aligned() {
+        for chain in inputs() {
+            let numbers = first_numbers(&chain);
+            let has_mpg = chain.name.starts_with("MPG") || chain.name == "mixed";
+            assert_eq!(!numbers.is_empty(), has_mpg, "{}", chain.name);
+            let aligned = numbers.iter().all(|number| number % 2 == 0);
+            assert!(aligned, "{}: {numbers:?}", chain.name);
         }
     }
 }
