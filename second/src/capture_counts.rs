@@ -14,7 +14,7 @@ use crate::state_block::{
     WAITING, ZERO_ON_VIF0,
 };
 use crate::vif::{command_of, Code, Payload, Unit};
-use crate::vif_counts::{field_names, wrong_fields};
+use crate::vif_counts::{field_names, upload_word, wrong_fields};
 use std::collections::HashMap;
 
 const IDS: [&str; 8] = ["refe", "cnt", "next", "ref", "refs", "call", "ret", "end"];
@@ -171,10 +171,38 @@ impl Counts {
             self.add("log exactly full after a write");
         }
         self.note_fills(old, &step);
+        self.note_upload(old);
         self.note_channel(old);
         if step.interrupt() {
             self.note_interrupt(old, step);
         }
+    }
+
+    /// Notes a word that MPG takes, and an MPG that a tag word is.
+    fn note_upload(&mut self, old: &State) {
+        let unit = old.unit();
+        let mpg = match (&unit.waiting, old.tag_word) {
+            (Some(waiting), _) => matches!(waiting.payload, Payload::Mpg(_)),
+            (None, Some(address)) => {
+                let code = Code::decode(unit.model, self.main_word(address));
+                matches!(code, Ok(Code::Mpg(_)))
+            }
+            (None, None) => false,
+        };
+        if !mpg {
+            return;
+        }
+        let Some(place) = word_place(old) else {
+            return;
+        };
+        self.add(&match &unit.waiting {
+            None => format!("MPG in a {place}"),
+            Some(waiting) if waiting.is_upload() => format!("MPG's first word taken, {place}"),
+            Some(waiting) => {
+                let name = upload_word(waiting.due % 2, word_number(old));
+                format!("MPG's later {name}, channel {}", old.channel)
+            }
+        });
     }
 
     /// Notes the first step of a case on a channel.
@@ -342,6 +370,7 @@ impl Counts {
             return;
         }
         self.note_steps(allowance, steps);
+        self.note_upload_due(before, allowance);
         let state = now.state.as_ref().expect("only an existing state is run");
         match answer {
             chain::DONE => self.note_done(state, allowance, steps),
@@ -358,6 +387,17 @@ impl Counts {
                 self.add_if(&format!("refused {refusal} after other steps"), steps > 0);
                 self.note_refused_step(state, refusal);
             }
+        }
+    }
+
+    /// Notes a run that begins between an MPG and its first word.
+    fn note_upload_due(&mut self, before: &StateBlock, allowance: u64) {
+        let state = read_state(before).filter(upload_due);
+        if let Some(place) = state.as_ref().and_then(word_place) {
+            self.add_if(
+                &format!("runs with MPG's first word due, {place}"),
+                allowance > 0,
+            );
         }
     }
 
@@ -407,6 +447,9 @@ impl Counts {
         self.add("allowance used");
         self.add_if("allowance used with allowance 0", allowance == 0);
         self.add_if("allowance used on a chain that has ended", state.ended);
+        if let Some(place) = word_place(state).filter(|_| upload_due(state)) {
+            self.add(&format!("allowance used before MPG's first word, {place}"));
+        }
         match state.next() {
             Next::Tag => self.add("allowance used before a tag"),
             Next::TagWord(address) => {
@@ -429,6 +472,9 @@ impl Counts {
     /// Notes a refused step; the state is that before it.
     fn note_refused_step(&mut self, state: &State, refusal: u32) {
         self.note_refused_word(state, refusal);
+        if let Some(place) = word_place(state).filter(|_| refusal == refusals::ALIGNMENT) {
+            self.add(&format!("refused 25, {place}"));
+        }
         match state.next() {
             Next::Tag if refusal == refusals::TADR => {
                 let end = state.tadr as usize == self.main_length;
@@ -726,6 +772,32 @@ fn waits_for_quadwords(unit: &Unit) -> bool {
         .is_some_and(|waiting| matches!(waiting.payload, Payload::Direct | Payload::Directhl))
 }
 
+/// Whether an MPG of which no payload word has been taken waits on the channel's unit.
+fn upload_due(state: &State) -> bool {
+    let waiting = state.unit().waiting;
+    state.channel != 2 && waiting.is_some_and(|waiting| waiting.is_upload())
+}
+
+/// The number of the word that a unit is given next.
+fn word_number(state: &State) -> u32 {
+    match state.next() {
+        Next::TagWord(address) => address / 4 % 4,
+        Next::Payload(pending) => pending.address / 4 % 4,
+        Next::Tag => 0,
+    }
+}
+
+/// What the next word is where one goes to a unit.
+fn word_place(state: &State) -> Option<String> {
+    let kind = match state.next() {
+        Next::TagWord(_) => "tag",
+        Next::Payload(_) if state.channel != 2 => "payload",
+        _ => return None,
+    };
+    let (number, channel) = (word_number(state), state.channel);
+    Some(format!("{kind} word {number}, channel {channel}"))
+}
+
 fn waits_for_vectors(unit: &Unit) -> bool {
     unit.waiting
         .is_some_and(|waiting| matches!(waiting.payload, Payload::Unpack(_)))
@@ -857,6 +929,7 @@ fn names() -> Vec<String> {
     names.extend(refusal_names());
     names.extend(range_names());
     names.extend(waiting_names());
+    names.extend(upload_names());
     names.extend(channel_names());
     let mut add = |name: String| names.push(name);
     for refusal in ENTRY.into_iter().filter(|&r| r != refusals::RANGE) {
@@ -952,6 +1025,32 @@ fn waiting_names() -> Vec<String> {
             if model == Model::Vif0 {
                 names.push(format!("runs beside {name} waiting on VIF0"));
             }
+        }
+    }
+    names
+}
+
+/// The names about the first word of an MPG and its later ones.
+fn upload_names() -> Vec<String> {
+    let mut names = Vec::new();
+    let mut add = |name: String| names.push(name);
+    let words = [0, 1, 2, 3].map(|number| ("payload", number));
+    for channel in 0..2 {
+        for (kind, number) in words.into_iter().chain([("tag", 2), ("tag", 3)]) {
+            let place = format!("{kind} word {number}, channel {channel}");
+            add(format!("runs with MPG's first word due, {place}"));
+            add(format!("allowance used before MPG's first word, {place}"));
+            add(match number % 2 {
+                0 => format!("MPG's first word taken, {place}"),
+                _ => format!("refused 25, {place}"),
+            });
+            if kind == "tag" {
+                add(format!("MPG in a {place}"));
+            }
+        }
+        for (half, number) in (0..2).flat_map(|half| (0..4).map(move |n| (half, n))) {
+            let name = upload_word(half, number);
+            add(format!("MPG's later {name}, channel {channel}"));
         }
     }
     names

@@ -234,6 +234,7 @@ fn add_edge_cases(random: &mut Random, cases: &mut Vec<Case>) {
     add_tag_word_cases(random, cases);
     add_interrupt_cases(random, cases);
     add_refusal_cases(random, cases);
+    add_upload_cases(random, cases);
     add_zero_memory_cases(cases);
     for _ in 0..4 {
         cases.push(deep_case(random));
@@ -885,7 +886,7 @@ fn add_tag_word_cases(random: &mut Random, cases: &mut Vec<Case>) {
 }
 
 /// Words 2 and 3 of tags.
-fn tag_word_pairs() -> [[u32; 2]; 17] {
+fn tag_word_pairs() -> [[u32; 2]; 19] {
     let mark = |imm: u32| code_word(0x07, 0, imm);
     [
         [mark(1), mark(2)],
@@ -905,6 +906,8 @@ fn tag_word_pairs() -> [[u32; 2]; 17] {
         [code_word(0x05, 0, 3), 0],
         [code_word(0x62, 1, 0), 0],
         [0, code_word(0x4A, 2, 511)],
+        [code_word(0x4A, 2, 511), 0],
+        [1 << 31 | code_word(0x4A, 1, 511), 0],
     ]
 }
 
@@ -1040,6 +1043,89 @@ fn add_code_refusal_cases(log_full: &State, cases: &mut Vec<Case>) {
                 cases.push(plain_case(&state, &main, 4, &TO_THE_REFUSAL));
             }
         }
+    }
+}
+
+/// MPG in each word of a payload and of a tag, and from saved states in each word, cut before and
+/// after its first payload word.
+fn add_upload_cases(random: &mut Random, cases: &mut Vec<Case>) {
+    for channel in [0, 1] {
+        for number in 0..4 {
+            for cut in [1, 2, NO_LIMIT] {
+                let interrupt = (random.percent(30) as u32) << 31;
+                let code = interrupt | code_word(0x4A, random.within(1..=2) as u32, 511);
+                let mut words = [code_word(0x07, 0, 7), 0, 0, 0, 5, 6, 7, 8];
+                words[number as usize] = code;
+                let main = [&tag(1, 2, 0)[..], &words, &tag(7, 0, 0)].concat();
+                let calls = [run(cut.saturating_add(number)), run(1), run(9)];
+                let state = State {
+                    channel,
+                    ..State::reset()
+                };
+                cases.push(plain_case(&state, &main, 4, &calls));
+            }
+        }
+        for (number, qwc) in [(2, 0), (2, 1), (3, 0), (3, 1)] {
+            for cut in 0..5 {
+                add_tag_upload(cases, (channel, number), qwc, cut);
+            }
+        }
+        for due in 1..=4 {
+            add_saved_uploads(random, cases, channel, due);
+        }
+    }
+}
+
+/// MPG in a word of a tag, before a payload and before another tag; the run is cut after so many
+/// steps.
+fn add_tag_upload(cases: &mut Vec<Case>, (channel, number): (u32, usize), qwc: u32, cut: u64) {
+    let mut first = tag(1, qwc, 0);
+    first[number] = code_word(0x4A, 1, 511);
+    let second = [7 << 28, 0, 8, 9];
+    let payload: &[u32] = if qwc == 0 { &[] } else { &[5, 6, 0, 0] };
+    let main = [&first, payload, &second].concat();
+    let state = State {
+        channel,
+        tte: true,
+        ..State::reset()
+    };
+    let calls = [run(cut), run(1), run(NO_LIMIT)];
+    cases.push(plain_case(&state, &main, 4, &calls));
+}
+
+/// An MPG of two instructions that waits with so many words due, each word of a payload and of a
+/// tag being the next.
+fn add_saved_uploads(random: &mut Random, cases: &mut Vec<Case>, channel: u32, due: u32) {
+    let main = [tag(7, 1, 0), [1, 2, 3, 4], [5, 6, 7, 8], tag(7, 0, 0)].concat();
+    let mut unit = RESET_UNIT;
+    for (at, word) in [
+        (unit_word::WAITING, state_block::MPG),
+        (unit_word::DUE, due),
+        (unit_word::ADDRESS, random.word() % MPG_ADDRESSES),
+        (unit_word::COUNT, 2),
+    ] {
+        unit[at] = word;
+    }
+    let pending = |skipped: u32| Pending {
+        address: 16 + 4 * skipped,
+        words: 8 - skipped,
+    };
+    let payloads = (0..4).map(|skipped| (None, Some(pending(skipped))));
+    let tag_words = [8, 12].map(|address| (Some(address), Some(pending(0))));
+    for (tag_word, payload) in payloads.chain(tag_words) {
+        let state = State {
+            channel,
+            tadr: 48,
+            tte: tag_word.is_some(),
+            tag_word,
+            payload,
+            ..State::reset()
+        };
+        let calls = [run(0), run(1), run(2), run(NO_LIMIT)];
+        let mut case = plain_case(&state, &main, 4, &calls);
+        let unit_at = if channel == 0 { VIF0 } else { VIF1 };
+        put_part(&mut case.state, unit_at, &unit);
+        cases.push(case);
     }
 }
 
@@ -1361,7 +1447,8 @@ impl Maker {
         let interrupt = (random.percent(self.taste.vif.interrupt_percent) as u32) << 31;
         let full = self.room(state) < self.taste.spare;
         let unit = state.unit();
-        let direct = unit.model == Model::Vif1 && address % 16 == 12;
+        let number = address / 4 % 4;
+        let direct = unit.model == Model::Vif1 && number == 3;
         if direct && random.percent(self.taste.direct_percent) {
             if let Some(quadwords) = self.direct_length(random, state, after) {
                 let command = random.pick(&[0x50, 0x51]);
@@ -1369,14 +1456,14 @@ impl Maker {
             }
         }
         for _ in 0..20 {
-            let word = random_code(random, unit, 0, &self.taste.vif);
+            let word = random_code(random, unit, number, &self.taste.vif);
+            let refused = self.taste.vif.illegal_percent > 0 && random.percent(30);
             let good = match Code::decode(unit.model, word) {
                 Err(_) => true,
                 Ok(Code::Mscal(_) | Code::Mscalf(_) | Code::Mscnt) => !full,
-                Ok(Code::Direct(_) | Code::Directhl(_)) => {
-                    // Not in word 3, so refused.
-                    self.taste.vif.illegal_percent > 0 && random.percent(30)
-                }
+                // In word 3 they have been tried.
+                Ok(Code::Direct(_) | Code::Directhl(_)) => number != 3 && refused,
+                Ok(Code::Mpg(_)) => number % 2 == 1 || refused,
                 Ok(Code::Stcycl { cl, wl }) => self.cycle_fits(Cycle { cl, wl }),
                 Ok(Code::Unpack { .. }) => {
                     let legal = unit.registers.cycle().is_legal();

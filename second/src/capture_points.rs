@@ -2,30 +2,40 @@
 
 use crate::capture_cases::{Call, Case};
 use crate::capture_generate::{plain_case, tag};
-use crate::chain::{State, CNT, END};
+use crate::chain::{Pending, State, CNT, END};
 use crate::model::Model;
 use crate::state_block::{put_part, VIF0, VIF1};
 use crate::vif_points::Point;
 
 /// A run to the first word that writes, one run for each word from there on, and two to the end.
+/// Where the first word is not word 0, the payload is pending at first.
 pub fn case(point: &Point) -> Case {
     let of_vif = point.case();
-    let words = of_vif.words;
-    let quadwords = words.len() as u32 / 4;
-    let main = [&tag(CNT, quadwords, 0)[..], &words, &tag(END, 0, 0)].concat();
+    let (words, skipped) = (of_vif.words, of_vif.number);
+    let quadwords = (skipped + words.len() as u32) / 4;
+    let before = vec![0; skipped as usize];
+    let main = [&tag(CNT, quadwords, 0)[..], &before, &words];
+    let main = [&main.concat()[..], &tag(END, 0, 0)].concat();
     let run = |allowance| Call::Run { allowance };
     let quiet = point.quiet_words();
-    let mut calls = vec![run(quiet as u64 + 1)];
+    let mut calls = vec![run(quiet as u64 + (skipped == 0) as u64)];
     calls.extend((quiet..point.words()).map(|_| run(1)));
     calls.extend([run(u64::MAX), run(u64::MAX)]);
     let (channel, unit_at) = match of_vif.model {
         Model::Vif0 => (0, VIF0),
         Model::Vif1 => (1, VIF1),
     };
-    let state = State {
+    let mut state = State {
         channel,
         ..State::reset()
     };
+    if skipped > 0 {
+        state.tadr = 16 + 16 * quadwords;
+        state.payload = Some(Pending {
+            address: 16 + 4 * skipped,
+            words: words.len() as u32,
+        });
+    }
     let mut case = plain_case(&state, &main, 0, &calls);
     put_part(&mut case.state, unit_at, &of_vif.unit);
     case
@@ -57,7 +67,7 @@ mod tests {
             }
             let words = point.case();
             let mut plain = vif_cases::Standing::new(&words);
-            for at in 0..words.words.len() {
+            for at in 0..point.words() {
                 plain.take(words.given(at));
             }
             assert_eq!(answer, point.refusal().unwrap_or(DONE));

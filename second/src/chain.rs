@@ -388,7 +388,7 @@ fn take_tag(state: &mut State, main: &[u8]) -> Result<Tag, u32> {
 
 /// Word 2 or 3 of a tag to the channel's unit.
 fn take_tag_word(state: &mut State, memories: &mut Memories, address: u32) -> Result<Taken, u32> {
-    let given = Given::Word(word_at(memories.main, address));
+    let given = given_at(memories.main, address);
     let taken = give(state, memories, given)?;
     state.tag_word = if address % 16 == 8 {
         Some(address + 4)
@@ -404,14 +404,21 @@ fn take_payload(
     memories: &mut Memories,
     pending: Pending,
 ) -> Result<Taken, u32> {
-    let given = if pending.address % 16 == 0 {
-        Given::Quadword(quadword_at(memories.main, pending.address))
-    } else {
-        Given::Word(word_at(memories.main, pending.address))
-    };
+    let given = given_at(memories.main, pending.address);
     let taken = give(state, memories, given)?;
     state.payload = rest(pending, if taken.quadword { 4 } else { 1 });
     Ok(taken)
+}
+
+/// What a unit is given with the word at the address.
+fn given_at(main: &[u8], address: u32) -> Given {
+    match address / 4 % 4 {
+        0 => Given::Quadword(quadword_at(main, address)),
+        number => Given::Word {
+            number,
+            word: word_at(main, address),
+        },
+    }
 }
 
 fn give(state: &mut State, memories: &mut Memories, given: Given) -> Result<Taken, u32> {

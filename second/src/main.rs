@@ -57,11 +57,11 @@ usage:
   second time-gif < INPUT > RESULT
   second vif [--counts] < CASES > RESULTS
   second generate-vif SEED WORDS > CASES
-  second points-vif mask|filling|vif0 > CASES
+  second points-vif mask|filling|vif0|upload > CASES
   second compare-vif PROGRAM SEED[,SEED..] WORDS
   second capture [--counts] < CASES > RESULTS
   second generate-capture SEED RUNS > CASES
-  second points-capture mask|filling|vif0 > CASES
+  second points-capture mask|filling|vif0|upload > CASES
   second compare-capture PROGRAM SEED[,SEED..] RUNS
   second bench-chain PROGRAM
   second time-chain < INPUT > RESULT

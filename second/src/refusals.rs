@@ -20,6 +20,7 @@ pub const FORMAT: u32 = 21;
 pub const CYCLE: u32 = 22;
 pub const MODE: u32 = 23;
 pub const PLACE: u32 = 24;
+pub const ALIGNMENT: u32 = 25;
 pub const TOPS: u32 = 26;
 
 // At a quadword of the GIF; 31 at MSCAL, MSCALF and MSCNT too.
@@ -29,7 +30,9 @@ pub const ROOM: u32 = 31;
 /// Those of a tag's step, in order.
 pub const TAG_STEP: [u32; 5] = [TADR, ADDR, SPR, CALL, OUTSIDE];
 /// Those of a word's or a quadword's step on VIF1 and the GIF.
-pub const WORD_STEP: [u32; 7] = [COMMAND, FORMAT, CYCLE, MODE, PLACE, DESCRIPTOR, ROOM];
+pub const WORD_STEP: [u32; 8] = [
+    COMMAND, FORMAT, CYCLE, MODE, PLACE, ALIGNMENT, DESCRIPTOR, ROOM,
+];
 
 // The builder's.
 pub const MARK: u32 = 40;

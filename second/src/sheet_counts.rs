@@ -350,6 +350,8 @@ impl Counts {
             self.add(&format!("runs with {name} waiting"));
             let done = outcome.ran.answer == Ok(chain::DONE);
             self.add_if("runs with a code waiting: done", done);
+            let upload = waiting.is_upload() && outcome.ran.steps > 1;
+            self.add_if("runs that take MPG's first word", upload);
         }
         let held = state.path2.place != Place::Idle;
         self.add_if("runs with path 2 inside a tag", held);
@@ -737,6 +739,7 @@ const NAMES: &[&str] = &[
     "runs from a block with words that mean nothing",
     "runs with path 2 inside a tag",
     "runs with a code waiting: done",
+    "runs that take MPG's first word",
     "runs cut by the allowance, all else well",
     "whole runs in all",
     "whole runs from the reset state",

@@ -16,10 +16,10 @@ use crate::sheet_random::{
     shorten_memories, CODE, DATA, GS, START,
 };
 use crate::state_block::{
-    chain_word, put_part, set_used, unit_word, write_path, write_state, StateBlock, PATH2, PATHS,
-    UNPACK, VIF0, VIF1, ZERO_ON_VIF0,
+    chain_word, put_part, set_used, unit_word, write_path, write_state, write_unit, StateBlock,
+    PATH2, PATHS, UNPACK, VIF0, VIF1, ZERO_ON_VIF0,
 };
-use crate::vif::{Payload, Unit, Waiting};
+use crate::vif::{Mpg, Payload, Unit, Waiting};
 use crate::vif_generate::{code_word, random_waiting_unit, stmask_block, NOT_ONE};
 use crate::words::put_word;
 
@@ -53,6 +53,7 @@ pub fn edge_cases(random: &mut Random) -> Vec<Case> {
     edges.add_channel_0();
     edges.add_waiting_codes();
     edges.add_bodies_as_codes();
+    edges.add_uploads();
     edges.add_places();
     edges.add_allowances();
     edges.shuffled()
@@ -565,6 +566,36 @@ impl Edges<'_> {
         }
     }
 
+    /// MPG in each word of a body that is read as codes, and one that waits with all or fewer of
+    /// its words due, which goes on with word 0.
+    fn add_uploads(&mut self) {
+        for at in 0..4 {
+            let mut words = [0; 8];
+            words[at] = code_word(0x4A, 1, 0x7FF);
+            let body: Vec<u8> = words.iter().flat_map(|w| w.to_le_bytes()).collect();
+            let sheet = record_bytes(DATA, 2, 5, &body);
+            let mut case = case_around(self.random, sheet);
+            case.state = write_state(&strow_waits());
+            self.cases.push(case);
+        }
+        for due in 1..=4 {
+            let mut case = self.whole_case();
+            let unit = Unit {
+                waiting: Some(Waiting {
+                    payload: Payload::Mpg(Mpg {
+                        address: 0x7FF,
+                        count: 2,
+                    }),
+                    interrupt: due % 2 == 0,
+                    due,
+                }),
+                ..Unit::reset(Model::Vif1)
+            };
+            put_part(&mut case.state, VIF1, &write_unit(&unit));
+            self.cases.push(case);
+        }
+    }
+
     /// Addresses in main memory, right and wrong.
     fn add_places(&mut self) {
         for _ in 0..2 {
@@ -660,6 +691,6 @@ mod tests {
             });
             assert!(met, "{number}");
         }
-        assert!(cases.len() < 650, "{}", cases.len());
+        assert!(cases.len() < 670, "{}", cases.len());
     }
 }

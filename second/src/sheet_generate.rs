@@ -36,8 +36,8 @@ pub fn generate(seed: u64, count: u64) -> Vec<u8> {
         }
         // So many in every hundred, in mixed order.
         match 37 * (index % 100) % 100 {
-            0..=58 => usual_case(&mut random).write(&mut file),
-            59..=91 => next_edge.next().expect("there are edges").write(&mut file),
+            0..=57 => usual_case(&mut random).write(&mut file),
+            58..=91 => next_edge.next().expect("there are edges").write(&mut file),
             _ => odd_case(&mut random).write(&mut file),
         }
     }

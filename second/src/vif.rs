@@ -101,14 +101,27 @@ impl Unit {
 #[derive(Clone, Copy, PartialEq, Eq, Debug)]
 pub enum Given {
     Quadword(u128),
-    Word(u32),
+    /// A word and its number in its quadword, 1 to 3.
+    Word {
+        number: u32,
+        word: u32,
+    },
 }
 
 impl Given {
     pub fn word(&self) -> u32 {
         match *self {
             Given::Quadword(quadword) => quadword as u32,
-            Given::Word(word) => word,
+            Given::Word { word, .. } => word,
+        }
+    }
+
+    /// The word's number in its quadword.
+    #[inline]
+    pub fn number(&self) -> u32 {
+        match *self {
+            Given::Quadword(_) => 0,
+            Given::Word { number, .. } => number,
         }
     }
 }
@@ -248,7 +261,8 @@ pub fn take(
     let direct = matches!(waiting.payload, Payload::Direct | Payload::Directhl);
     match given {
         Given::Quadword(quadword) if direct => gif::take(path, used, log, quadword)?,
-        Given::Word(_) if direct => return Err(refusals::PLACE),
+        Given::Word { .. } if direct => return Err(refusals::PLACE),
+        _ if waiting.is_upload() && given.number() % 2 == 1 => return Err(refusals::ALIGNMENT),
         _ => waiting.take_word(unit.model, registers, given.word(), data, code),
     }
     waiting.due -= 1;
@@ -264,6 +278,12 @@ pub fn take(
 }
 
 impl Waiting {
+    /// Whether this is an MPG of which no payload word has been taken.
+    #[inline(always)]
+    pub fn is_upload(&self) -> bool {
+        matches!(self.payload, Payload::Mpg(mpg) if self.due == mpg.all_words())
+    }
+
     /// Takes a word of payload; DIRECT and DIRECTHL take none.
     #[inline(always)]
     fn take_word(
@@ -518,6 +538,8 @@ mod tests {
         code: Vec<u8>,
         log: Vec<u64>,
         used: u64,
+        /// The number of the next word in its quadword.
+        number: u32,
     }
 
     impl Bench {
@@ -532,23 +554,31 @@ mod tests {
                 code: vec![0; model.sizes().code_bytes()],
                 log: vec![0; 8],
                 used: 0,
+                number: 0,
             }
         }
 
+        /// Gives a word; after a refusal the next has the same number.
         fn give(&mut self, word: u32) -> Result<Taken, u32> {
             let mut path = gif::Path {
                 q: 0,
                 place: gif::Place::Idle,
             };
-            take(
+            let given = match self.number {
+                0 => Given::Quadword(word as u128),
+                number => Given::Word { number, word },
+            };
+            let taken = take(
                 &mut self.unit,
                 &mut path,
-                Given::Word(word),
+                given,
                 &mut self.data,
                 &mut self.code,
                 &mut self.log,
                 &mut self.used,
-            )
+            )?;
+            self.number = (self.number + 1) % 4;
+            Ok(taken)
         }
 
         fn run(&mut self, words: &[u32]) {
@@ -650,7 +680,7 @@ mod tests {
             (bench.quadword(255), bench.quadword(0)),
             (&[5; 4][..], &[6; 4][..])
         );
-        bench.run(&[0x4A02_01FF, 1, 2, 3, 4]);
+        bench.run(&[0, 0x4A02_01FF, 1, 2, 3, 4]);
         assert_eq!(bench.code[4_088..], [1, 0, 0, 0, 2, 0, 0, 0]);
         assert_eq!(bench.code[..8], [3, 0, 0, 0, 4, 0, 0, 0]);
         bench.data.push(0);
@@ -769,8 +799,52 @@ mod tests {
     #[test]
     fn mpg_round_the_end() {
         let mut bench = Bench::new();
-        bench.run(&[0x4A02_07FF, 1, 2, 3, 4]);
+        bench.run(&[0, 0x4A02_07FF, 1, 2, 3, 4]);
         assert_eq!(bench.code[16_376..], [1, 0, 0, 0, 2, 0, 0, 0]);
         assert_eq!(bench.code[..8], [3, 0, 0, 0, 4, 0, 0, 0]);
+    }
+
+    /// The first word of MPG's payload comes as each word of a quadword.
+    #[test]
+    fn first_word_of_an_upload() {
+        for model in [Model::Vif0, Model::Vif1] {
+            for number in 0..4 {
+                let mut bench = Bench::of(model);
+                bench.number = number;
+                bench.run(&[0xCA02_0003]);
+                let before = bench.unit;
+                if number % 2 == 0 {
+                    assert_eq!(bench.give(7), Err(25));
+                    assert_eq!(bench.unit, before);
+                    assert!(bench.code.iter().all(|&byte| byte == 0));
+                    bench.number += 1;
+                    bench.number %= 4;
+                }
+                bench.run(&[1, 2, 3]);
+                assert!(bench.give(4).unwrap().interrupt);
+                assert_eq!(bench.code[24..32], [1, 0, 0, 0, 2, 0, 0, 0]);
+            }
+        }
+    }
+
+    /// An MPG whose first word was taken goes on from any word.
+    #[test]
+    fn later_words_of_an_upload() {
+        for due in 1..4 {
+            for number in 0..4 {
+                let mut bench = Bench::new();
+                bench.number = number;
+                bench.unit.waiting = Some(Waiting {
+                    payload: Payload::Mpg(Mpg {
+                        address: 0,
+                        count: 2,
+                    }),
+                    interrupt: false,
+                    due,
+                });
+                bench.run(&vec![9; due as usize]);
+                assert_eq!(bench.unit.waiting, None);
+            }
+        }
     }
 }

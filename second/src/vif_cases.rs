@@ -75,11 +75,14 @@ impl Case {
 
     /// What the unit is given with word `at`.
     pub fn given(&self, at: usize) -> Given {
-        if (self.number as usize + at) % 4 == 0 {
-            let quadword = (0..4).fold(0, |all, i| all | (self.words[at + i] as u128) << (32 * i));
-            Given::Quadword(quadword)
-        } else {
-            Given::Word(self.words[at])
+        match (self.number + at as u32) % 4 {
+            0 => Given::Quadword(
+                (0..4).fold(0, |all, i| all | (self.words[at + i] as u128) << (32 * i)),
+            ),
+            number => Given::Word {
+                number,
+                word: self.words[at],
+            },
         }
     }
 }

@@ -247,8 +247,23 @@ impl UnitCounts {
             (None, None) => self.note_code(&unit.registers, call),
             (None, Some(refusal)) => self.note_code_refused(&unit.registers, call, refusal),
             (Some(waiting), None) => self.note_payload(&unit.registers, waiting, path, call),
+            (Some(waiting), Some(refusals::ALIGNMENT)) => {
+                self.add(&format!("refused 25, word {}", call.number));
+                self.add_if("refused 25 with bit 31 set", waiting.interrupt);
+                self.note_upload(call);
+            }
             (Some(_), Some(refusal)) => self.note_direct_refused(path, call, refusal),
         }
+    }
+
+    /// Notes where the first word of an MPG comes after a block was read.
+    fn note_upload(&mut self, call: &Call) {
+        let at = match (call.first, call.restored) {
+            (true, _) => "at a case's start",
+            (false, true) => "at a later group's start",
+            (false, false) => return,
+        };
+        self.add(&format!("MPG's first word {at}, word {}", call.number));
     }
 
     /// Notes a length that is wrong, and what is wrong next.
@@ -477,7 +492,7 @@ impl UnitCounts {
             self.interrupts[FIRST_WAITING + number] += (call.answer & INTERRUPT != 0) as u64;
         }
         match &waiting.payload {
-            Payload::Mpg(mpg) => self.note_instructions(mpg, waiting.due, call.restored),
+            Payload::Mpg(mpg) => self.note_instructions(mpg, waiting, call),
             Payload::Direct | Payload::Directhl => self.note_direct(path, last, call),
             Payload::Unpack(unpack) => {
                 let high = unpack.address >= self.model.sizes().quadwords && call.restored;
@@ -496,8 +511,16 @@ impl UnitCounts {
         }
     }
 
-    /// Notes a word of MPG's payload that comes with `due` still due.
-    fn note_instructions(&mut self, mpg: &Mpg, due: u32, restored: bool) {
+    /// Notes a word of MPG's payload.
+    fn note_instructions(&mut self, mpg: &Mpg, waiting: &Waiting, call: &Call) {
+        let (due, restored) = (waiting.due, call.restored);
+        if waiting.is_upload() {
+            self.add(&format!("MPG's first word taken, word {}", call.number));
+            self.note_upload(call);
+        } else {
+            let half = due % 2;
+            self.add(&format!("MPG's later {}", upload_word(half, call.number)));
+        }
         let taken = mpg.all_words() - due;
         let instructions = self.model.sizes().instructions;
         let wraps = mpg.address + taken / 2 >= instructions;
@@ -554,6 +577,12 @@ impl UnitCounts {
         rows.extend(named_rows(&self.by_name, names(self.model)));
         rows
     }
+}
+
+/// A half of an instruction, and the number of its word.
+pub fn upload_word(half: u32, number: u32) -> String {
+    let half = ["first", "second"][half as usize];
+    format!("words, {half} of an instruction, word {number}")
 }
 
 /// Whether STMASK waits with other than one word due in a block that has words that mean nothing
@@ -696,6 +725,26 @@ fn names(model: Model) -> Vec<String> {
     }
     for vn in 0..3 {
         add(format!("refused 21, vn {vn}"));
+    }
+    names.extend(upload_names());
+    names
+}
+
+/// The names about the first word of an MPG and its later ones.
+fn upload_names() -> Vec<String> {
+    let mut names = vec!["refused 25 with bit 31 set".to_string()];
+    let mut add = |name: String| names.push(name);
+    for number in 0..4 {
+        add(match number % 2 {
+            0 => format!("MPG's first word taken, word {number}"),
+            _ => format!("refused 25, word {number}"),
+        });
+        for at in ["a case's start", "a later group's start"] {
+            add(format!("MPG's first word at {at}, word {number}"));
+        }
+        for half in 0..2 {
+            add(format!("MPG's later {}", upload_word(half, number)));
+        }
     }
     names
 }

@@ -104,10 +104,9 @@ impl Maker {
         if self.wants_quadword() {
             return self.quadword(word as u128);
         }
-        let given = if self.number() == 0 {
-            Given::Quadword(word as u128)
-        } else {
-            Given::Word(word)
+        let given = match self.number() {
+            0 => Given::Quadword(word as u128),
+            number => Given::Word { number, word },
         };
         self.case.words.push(word);
         self.calls += 1;
@@ -163,6 +162,13 @@ impl Maker {
     fn finish(mut self) -> Case {
         self.align();
         self.case.groups = vec![self.calls];
+        self.case
+    }
+
+    /// The case with the first so many calls in one group and the others in another.
+    fn finish_cut(mut self, first: u32) -> Case {
+        self.align();
+        self.case.groups = vec![first, self.calls - first];
         self.case
     }
 
@@ -245,7 +251,7 @@ fn random_groups(random: &mut Random, calls: u32) -> Vec<u32> {
 fn fixed_cases(model: Model) -> Vec<Case> {
     let mut cases = unpack_points(model);
     // MPG at 2,047, two instructions.
-    cases.push(fed(model, 0, &[code_word(0x4A, 2, 2_047), 1, 2, 3, 4]));
+    cases.push(fed(model, 0, &[0, code_word(0x4A, 2, 2_047), 1, 2, 3, 4]));
     // DIRECT as a sheet's kind 3 record has it.
     let mut maker = Maker::with(&Unit::reset(model), 2, 0);
     maker.words(&[0, 0, 0, code_word(0x50, 0, 2)]);
@@ -356,6 +362,7 @@ fn add_edge_cases(random: &mut Random, model: Model, cases: &mut Vec<Case>) {
     add_tops_cases(random, model, cases);
     add_cycle_cases(random, model, cases);
     add_long_cases(random, model, cases);
+    add_upload_cases(random, model, cases);
     if model == Model::Vif1 {
         add_direct_cases(random, cases);
     }
@@ -834,7 +841,7 @@ fn near_end(random: &mut Random, size: u32, addresses: u32, few: u64) -> u32 {
 
 /// MPG and every format of UNPACK with NUM 0.
 fn add_long_cases(random: &mut Random, model: Model, cases: &mut Vec<Case>) {
-    let mut maker = Maker::with(&random_unit(random, model), 0, 0);
+    let mut maker = Maker::with(&random_unit(random, model), 0, 1);
     let address = random.word() & 0xFFFF;
     maker.word(code_word(0x4A, 0, address));
     maker.run_out(random, 512);
@@ -851,6 +858,42 @@ fn add_long_cases(random: &mut Random, model: Model, cases: &mut Vec<Case>) {
             maker.word(code_word(0x07, 0, 0x2345));
             cases.push(maker.finish_in_groups(random));
         }
+    }
+}
+
+/// MPG in each word, cut before and after its first payload word; where that is refused, the next
+/// word is the first. Then MPG from blocks, in each word with each number of words due.
+fn add_upload_cases(random: &mut Random, model: Model, cases: &mut Vec<Case>) {
+    for number in 0..4 {
+        for num in [1, 2, 5, 0] {
+            for after in 0..3 {
+                let interrupt = (random.percent(50) as u32) << 31;
+                let address = random.word() & 0xFFFF;
+                let mut maker = Maker::with(&random_unit(random, model), 0, number);
+                maker.word(interrupt | code_word(0x4A, num, address));
+                let code = maker.calls;
+                maker.run_out(random, 513);
+                maker.word(code_word(0x07, 0, 0x2345));
+                cases.push(maker.finish_cut(code + after));
+            }
+        }
+        for due in 1..=4 {
+            let unit = upload_waits(random, model, due);
+            add_waiting_case(random, cases, &unit, number);
+        }
+    }
+}
+
+/// A unit in which an MPG of two instructions waits with so many words due.
+fn upload_waits(random: &mut Random, model: Model, due: u32) -> Unit {
+    let mpg = random_mpg(random, model, 1);
+    Unit {
+        waiting: Some(Waiting {
+            payload: Payload::Mpg(Mpg { count: 2, ..mpg }),
+            interrupt: random.percent(50),
+            due,
+        }),
+        ..random_unit(random, model)
     }
 }
 
@@ -1040,7 +1083,8 @@ fn legal_code(random: &mut Random, unit: &Unit, number: u32, taste: &Taste) -> u
     if random.percent(taste.unpack_percent) {
         return random_unpack_code(random, unit, taste);
     }
-    match random.below(24) {
+    let kinds = if goes_up(random, number) { 26 } else { 22 };
+    match random.below(kinds) {
         0 => code_word(0x00, num, imm),
         1..=3 => random_cycle(random) | num << 16,
         4..=5 => code_word(0x02, num, imm),
@@ -1057,17 +1101,25 @@ fn legal_code(random: &mut Random, unit: &Unit, number: u32, taste: &Taste) -> u
         18..=19 => code_word(0x20, num, imm),
         20 => code_word(0x30, num, imm),
         21 => code_word(0x31, num, imm),
-        _ => {
-            let mpg = random_mpg(random, unit.model, 6);
-            let many = random.percent(taste.long_percent);
-            let count = if many {
-                random.pick(&[0, num])
-            } else {
-                mpg.count
-            };
-            code_word(0x4A, count, mpg.address | imm & 0xF800)
-        }
+        _ => mpg_code(random, unit.model, taste),
     }
+}
+
+fn mpg_code(random: &mut Random, model: Model, taste: &Taste) -> u32 {
+    let mpg = random_mpg(random, model, 6);
+    let num = if random.percent(taste.long_percent) {
+        let any = random.word() & 0xFF;
+        random.pick(&[0, any])
+    } else {
+        mpg.count
+    };
+    code_word(0x4A, num, mpg.address | random.word() & 0xF800)
+}
+
+/// Whether the word with this number may be an MPG: mostly where the first word of its payload is
+/// taken.
+fn goes_up(random: &mut Random, number: u32) -> bool {
+    number % 2 == 1 || random.percent(8)
 }
 
 /// A code that is refused with 20, 21 or 23; on VIF0 with 26 too, where not with 22.

@@ -21,11 +21,13 @@ struct Step {
     code: Option<(usize, u32)>,
 }
 
-/// Words given to a unit, from word 0 of a quadword on. A refused word is the last one.
+/// Words given to a unit. A refused word is the last one.
 pub struct Point {
     name: &'static str,
     model: Model,
     unit: UnitBlock,
+    /// The number of the first word in its quadword.
+    number: u32,
     steps: Vec<Step>,
     /// ROW afterwards.
     row: [u32; 4],
@@ -37,6 +39,7 @@ impl Point {
             name,
             model: Model::Vif1,
             unit,
+            number: 0,
             steps: Vec::new(),
             row: [0; 4],
         }
@@ -49,6 +52,11 @@ impl Point {
 
     fn on_vif0(mut self) -> Point {
         self.model = Model::Vif0;
+        self
+    }
+
+    fn starting_at(mut self, number: u32) -> Point {
+        self.number = number;
         self
     }
 
@@ -70,8 +78,13 @@ impl Point {
     }
 
     /// A word that is stored as this word of code memory.
-    fn stored(mut self, word: u32, at: usize) -> Point {
-        self = self.step(word, 0, &[]);
+    fn stored(self, word: u32, at: usize) -> Point {
+        self.stored_with(word, at, 0)
+    }
+
+    /// The same with an answer.
+    fn stored_with(mut self, word: u32, at: usize, answer: u32) -> Point {
+        self = self.step(word, answer, &[]);
         if let Some(step) = self.steps.last_mut() {
             step.code = Some((at, word));
         }
@@ -104,9 +117,10 @@ impl Point {
 
     /// The case of the point, each word in a group of its own; NOPs fill up the last quadword.
     pub fn case(&self) -> Case {
-        let mut case = plain_case(self.model, self.unit, 0, 0);
+        let mut case = plain_case(self.model, self.unit, 0, self.number);
         case.words = self.steps.iter().map(|step| step.word).collect();
-        case.words.resize(case.words.len().next_multiple_of(4), 0);
+        let end = (self.number as usize + self.words()).next_multiple_of(4);
+        case.words.resize(end - self.number as usize, 0);
         case.groups = vec![1; self.steps.len()];
         case
     }
@@ -119,10 +133,12 @@ impl Point {
         let mut data = standing.data.clone();
         let mut code = code_words(&standing.code);
         for (at, step) in self.steps.iter().enumerate() {
+            let before = standing.blocks();
             let answer = standing.take(case.given(at));
             step.write(&mut data, &mut code);
+            let kept = answer < REFUSED || standing.blocks() == before;
             let same = standing.data == data && code_words(&standing.code) == code;
-            if answer != step.answer || !same {
+            if answer != step.answer || !same || !kept {
                 return Err(format!("point {}: word {at}, answer {answer}", self.name));
             }
             standing.restore();
@@ -130,7 +146,8 @@ impl Point {
         let unit = standing.both.map(|(unit, _)| unit);
         let row_right = unit.is_some_and(|unit| unit.registers.row == self.row);
         let ended = unit.is_some_and(|unit| unit.waiting.is_none());
-        if row_right && (ended || self.refusal() == Some(refusals::RANGE)) {
+        let waits = matches!(self.refusal(), Some(refusals::RANGE | refusals::ALIGNMENT));
+        if row_right && ended != waits {
             return Ok(());
         }
         Err(format!("point {}: the unit afterwards", self.name))
@@ -157,6 +174,7 @@ pub fn named(name: &str) -> Option<Vec<Point>> {
         "mask" => Some(mask_points()),
         "filling" => Some(filling_points()),
         "vif0" => Some(vif0_points()),
+        "upload" => Some(upload_points()),
         _ => None,
     }
 }
@@ -165,6 +183,7 @@ pub fn all() -> Vec<Point> {
     let mut points = mask_points();
     points.extend(filling_points());
     points.extend(vif0_points());
+    points.extend(upload_points());
     points
 }
 
@@ -467,7 +486,7 @@ fn address_above_the_end() -> Point {
 }
 
 fn mpg_round_the_end() -> Point {
-    Point::new("MPG at 511", &[code_word(0x4A, 2, 511)])
+    Point::new("MPG at 511", &[0, code_word(0x4A, 2, 511)])
         .stored(0x11, 1_022)
         .stored(0x22, 1_023)
         .stored(0x33, 0)
@@ -476,7 +495,7 @@ fn mpg_round_the_end() -> Point {
 
 /// Instruction 65,535 is 511, and the next is 0.
 fn mpg_address_above_the_end() -> Point {
-    Point::new("MPG at 65,535", &[code_word(0x4A, 2, 0xFFFF)])
+    Point::new("MPG at 65,535", &[0, code_word(0x4A, 2, 0xFFFF)])
         .stored(0x11, 1_022)
         .stored(0x22, 1_023)
         .stored(0x33, 0)
@@ -510,6 +529,50 @@ fn mpg_waiting_above_the_end() -> Point {
         .stored(0x22, 1)
 }
 
+/// Code uploads on each word, on both units.
+fn upload_points() -> Vec<Point> {
+    let mut points = Vec::new();
+    for make in [|point: Point| point, Point::on_vif0] {
+        for number in 0..4 {
+            points.push(make(upload_from(number)));
+            points.extend([1, 2, 3].map(|due| make(upload_goes_on(number, due))));
+            points.push(make(upload_saved(number)));
+        }
+    }
+    points
+}
+
+/// MPG with its bit 31 set in the word with this number; its payload begins at the next.
+fn upload_from(number: u32) -> Point {
+    let code = [1 << 31 | code_word(0x4A, 1, 5)];
+    let point = Point::new("MPG in each word", &code).starting_at(number);
+    if number % 2 == 0 {
+        return point.refused(0x11, refusals::ALIGNMENT);
+    }
+    point.stored(0x11, 10).stored_with(0x22, 11, INTERRUPT)
+}
+
+/// An MPG of two instructions of which so many words are due goes on from any word.
+fn upload_goes_on(number: u32, due: u32) -> Point {
+    let mut unit = waiting_mpg(6);
+    unit[unit_word::DUE] = due;
+    let point = Point::from("MPG goes on", unit).starting_at(number);
+    (0..due).fold(point, |point, i| {
+        point.stored(0x100 + i, (16 - due + i) as usize)
+    })
+}
+
+/// An MPG of two instructions of which no word has been taken.
+fn upload_saved(number: u32) -> Point {
+    let mut unit = waiting_mpg(6);
+    unit[unit_word::DUE] = 4;
+    let point = Point::from("MPG begins", unit).starting_at(number);
+    if number % 2 == 1 {
+        return point.refused(0x11, refusals::ALIGNMENT);
+    }
+    (0..4).fold(point, |point, i| point.stored(0x100 + i as u32, 12 + i))
+}
+
 #[cfg(test)]
 mod tests {
     use super::*;
@@ -531,6 +594,13 @@ mod tests {
     #[test]
     fn small_unit() {
         for point in vif0_points() {
+            assert_eq!(point.check(), Ok(()));
+        }
+    }
+
+    #[test]
+    fn code_uploads() {
+        for point in upload_points() {
             assert_eq!(point.check(), Ok(()));
         }
     }
