@@ -26,6 +26,7 @@ static const char *const messages[] = {
     [TEJBORUN_BAD_CYCLE] = "UNPACK with WL 0",
     [TEJBORUN_BAD_MODE] = "STMOD with mode 3",
     [TEJBORUN_BAD_DIRECT] = "DIRECT payload is due and the next word is not word 0 of its quadword",
+    [TEJBORUN_BAD_MPG] = "the first payload word of an MPG is due and the next word is word 1 or 3 of its quadword",
     [TEJBORUN_BAD_TOPS] = "UNPACK with IMM bit 15 (TOPS) on VIF0",
     [TEJBORUN_BAD_DESCRIPTOR] = "GIF descriptor B is met at its data",
     [TEJBORUN_LOG_FULL] = "the log lacks room",

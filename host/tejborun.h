@@ -71,6 +71,7 @@ enum tejborun_answer {
     TEJBORUN_BAD_CYCLE = 22,  /* UNPACK with WL 0 */
     TEJBORUN_BAD_MODE = 23,   /* STMOD 3 */
     TEJBORUN_BAD_DIRECT = 24, /* DIRECT payload due and the next word is not word 0 */
+    TEJBORUN_BAD_MPG = 25,    /* the first payload word of an MPG is due and the next word is word 1 or 3 of its quadword */
     TEJBORUN_BAD_TOPS = 26,   /* UNPACK with IMM bit 15 on VIF0, which has no TOPS */
 
     /* GIF step; 31 also in a VIF step and for a sheet's meaning */

@@ -510,6 +510,8 @@ static void test_stops(bool end)
         {{0x70000001, 0, 0, 0, 0x63010000, 0, 0, 0}, TEJBORUN_BAD_FORMAT, 1},
         {{0x70000001, 0, 0, 0, 0x05000003, 0, 0, 0}, TEJBORUN_BAD_MODE, 1},
         {{0x70000001, 0, 0, 0, 0x50000001, 0, 0, 0}, TEJBORUN_BAD_DIRECT, 2},
+        {{0x70000001, 0, 0, 0, 0x4A010000, 0, 0, 0}, TEJBORUN_BAD_MPG, 2},
+        {{0x70000001, 0, 0, 0, 0, 0, 0x4A010000, 0}, TEJBORUN_BAD_MPG, 4},
     };
     struct lengths small = good;
     small.main = 32;
@@ -1028,6 +1030,7 @@ static void test_messages(void)
         TEJBORUN_BAD_FORMAT, TEJBORUN_BAD_CYCLE,   TEJBORUN_BAD_MODE,   TEJBORUN_BAD_DIRECT, TEJBORUN_BAD_DESCRIPTOR, TEJBORUN_LOG_FULL,
         TEJBORUN_BAD_MARK,   TEJBORUN_BAD_KIND,    TEJBORUN_BAD_COUNT,  TEJBORUN_BAD_ADDRESS, TEJBORUN_CUT_RECORD,    TEJBORUN_BAD_PAD,
         TEJBORUN_LONG_SHEET, TEJBORUN_LONG_CHAIN,  TEJBORUN_SHORT,      TEJBORUN_ALLOWANCE,  TEJBORUN_INTERRUPT,      TEJBORUN_BAD_TOPS,
+        TEJBORUN_BAD_MPG,
     };
     enum { ANSWERS = sizeof answers / sizeof answers[0] };
     const char *none = tejborun_message(UINT32_MAX);

@@ -18,12 +18,12 @@ use Rattle.memories.specs.Lengths.{lengthsRefusal}
 use Rattle.vif.specs.Codes.{quadwordsOf as directQuadwordsOf, missingCode, plainCode, unpackNumbers, codeOf, decodeOf}
 use Rattle.vif.specs.Execute.{nextTops, startProgram, setMode, beginMpg, addressOf, unpackRefusal, beginUnpack}
 use Rattle.vif.specs.Payload.{completes, orNothing, wordPlace, mpgStored}
-use Rattle.vif.specs.Range.{registersInRange, waitingInRange, unitInRange}
-use Rattle.vif.specs.Step.{codeStep, giveQuadword, unpackStep, vifStep}
+use Rattle.vif.specs.Range.{registersInRange, waitingInRange, unitInRange, upTo}
+use Rattle.vif.specs.Step.{codeStep, giveQuadword, mpgRefused, mpgStep, unpackStep, vifStep}
 use Rattle.fields.specs.Memory.{wordAt, longAt}
 use Rattle.vif.specs.Words.{incomingAt}
 use Rattle.chain.specs.Pending.{tagsAfter, payloadAfter}
-use Rattle.chain.specs.Range.{unitOf, channelInRange, startInRange, stackInRange, tagsInRange, payloadInRange, stateInRange, mainRefused, tagsInside, payloadInside, entryRefusal}
+use Rattle.chain.specs.Range.{unitOf, channelInRange, startInRange, stackInRange, tagsInRange, payloadInRange, stateInRange, mainRefused, tagsInside, payloadInside, entryRefusal, wordsInRange}
 use Rattle.chain.specs.Tags.{nextStack, usesAddr, payloadAt, nextTadr, endsChain, tagWordsOf, payloadOf, tagRefusal, tagState, tagRead}
 use Rattle.chain.specs.Start.{resetState, startOf}
 use Rattle.chain.specs.Step.{vifGiven, gifGiven, payloadStep, stepOf}
@@ -34,7 +34,7 @@ use Rattle.sheet.specs.Sizes.{sheetSteps}
 use Rattle.sheet.specs.Layout.{laidOut, chainOf}
 use Rattle.sheet.specs.Build.{buildOf}
 use Rattle.conformance.specs.Demand.{recordsOf}
-use Rattle.conformance.specs.Points.{AllHold, runIn, runOfWords, builtFrom, sizeOf, chainBytes, wordsAt, chainWords, runOfSheet, stepsFor, loggedIn, quadwordIn, instructionIn, allZero, partsWritten, quadwordsFrom, instructionsFrom, dueIn, rowIn, answerIn, runOfVif0, answersTo, programStart, startedIn, tagTransferred, runOn7, left0, left1, runFrom, second, third, playedFrom0, points, requestPoints}
+use Rattle.conformance.specs.Points.{AllHold, runIn, runOfWords, builtFrom, sizeOf, chainBytes, wordsAt, chainWords, runOfSheet, stepsFor, loggedIn, quadwordIn, instructionIn, allZero, partsWritten, quadwordsFrom, instructionsFrom, dueIn, rowIn, answerIn, runOfVif0, answersTo, programStart, startedIn, tagTransferred, runOn7, left0, left1, runFrom, second, third, playedFrom0, tagUpload, uploadAcrossTags, resumed, points, requestPoints}
 use Rattle.conformance.specs.Play.{playRefusal, playOf}
 
 -- ---- the definitions that the table computes through
@@ -48,7 +48,7 @@ unfolding rowOfCycle codeAt maskOf vectorBits payloadWords wholeVectors fills ve
 unpackOpen = tt
 
 vifOpen : Unit {0}
-unfolding directQuadwordsOf missingCode plainCode namedIn unpackNumbers codeOf decodeOf startProgram setMode beginMpg addressOf cycleRefused unpackRefusal beginUnpack completes orNothing wordPlace mpgStored registersInRange waitingInRange unitInRange codeStep giveQuadword unpackStep vifStep
+unfolding directQuadwordsOf missingCode plainCode namedIn unpackNumbers codeOf decodeOf startProgram setMode beginMpg addressOf cycleRefused unpackRefusal beginUnpack completes orNothing wordPlace mpgStored registersInRange waitingInRange unitInRange codeStep giveQuadword mpgRefused mpgStep unpackStep vifStep
 vifOpen = tt
 
 chainOpen : Unit {0}
@@ -60,7 +60,7 @@ unfolding zerosAt padsZero marked kindOf rowRefusal recordRefusal readingAt reco
 sheetOpen = tt
 
 benchOpen : Unit {0}
-unfolding recordsOf runIn runOfWords builtFrom sizeOf chainBytes wordsAt chainWords runOfSheet stepsFor loggedIn quadwordIn instructionIn allZero partsWritten quadwordsFrom instructionsFrom dueIn rowIn answerIn runOfVif0 answersTo startedIn tagTransferred runOn7 runFrom second third playRefusal playOf playedFrom0
+unfolding recordsOf runIn runOfWords builtFrom sizeOf chainBytes wordsAt chainWords runOfSheet stepsFor loggedIn quadwordIn instructionIn allZero partsWritten quadwordsFrom instructionsFrom dueIn rowIn answerIn runOfVif0 answersTo startedIn tagTransferred runOn7 runFrom second third playRefusal playOf playedFrom0 tagUpload uploadAcrossTags resumed
 benchOpen = tt
 
 opened : Unit {0}
@@ -125,10 +125,15 @@ requestsOpened : Unit {0}
 unfolding opened requestPoints
 requestsOpened = tt
 
+-- request 5
+uploads : AllHold (drop 29 requestPoints)
+unfolding requestsOpened tagsAfter wordsInRange upTo
+uploads = (refl, (refl, (refl, (refl, (refl, (refl, (refl, (refl, (refl, tt)))))))))
+
 -- request 10
 vif0 : AllHold (drop 16 requestPoints)
 unfolding requestsOpened tagsAfter
-vif0 = (refl, (refl, (refl, (refl, (refl, (refl, (refl, (refl, (refl, (refl, (refl, (refl, (refl, tt)))))))))))))
+vif0 = (refl, (refl, (refl, (refl, (refl, (refl, (refl, (refl, (refl, (refl, (refl, (refl, (refl, uploads)))))))))))))
 
 -- request 3, what fills write and how much payload they leave
 fills-hold : AllHold (drop 12 requestPoints)

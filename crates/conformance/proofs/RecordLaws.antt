@@ -25,7 +25,7 @@ use Rattle.vif.specs.declared.VifAnswer.{VifAnswer}
 use Rattle.vif.specs.Setters.{withWaiting}
 use Rattle.vif.specs.Feeds.{Fed, fed, Feeds, aWord, aQuadword, wordsIn, QuadwordsIn, no-quadword, one-quadword, Zeros, no-zero, one-zero}
 use Rattle.vif.proofs.BurstLaws.{incoming-word}
-use Rattle.vif.proofs.SheetLaws.{feeds-data, feeds-code, feeds-start, feeds-direct, feeds-entries, directWaits}
+use Rattle.vif.proofs.SheetLaws.{firstOdd, feeds-data, feeds-code, feeds-start, feeds-direct, feeds-entries, directWaits}
 use Rattle.chain.specs.declared.TagWords.the-variants.{Nothing as NoTagWords}
 use Rattle.chain.specs.declared.Payload.the-variants.{Nothing as NoPayload}
 use Rattle.chain.specs.declared.State.{State}
@@ -75,6 +75,12 @@ unfolding longAt
 quadword-words main a =
     let e : a + 8 + 4 ≡ a + 12 = omega arith in
     rw e
+
+-- the first of words from a multiple of 16 on is word 0
+first-even : (main : List ℕ) (k a : ℕ) → a % 16 ≡ 0 → firstOdd (incomings 1 main a k) ≡ false
+unfolding incomings
+first-even main zero a h = refl
+first-even main (suc k) a h = rw (whole-incoming main a h)
 
 pub incoming-quadwords : (main : List ℕ) (k a : ℕ) → a % 16 ≡ 0 → QuadwordsIn (incomings 4 main a k) (quadwordsFrom main a k)
 unfolding incomings quadwordsFrom
@@ -317,11 +323,18 @@ module _ (main : List ℕ) (a : ℕ) (s : State) (m : Lent) (i : IdleAt a s) whe
       refl
       refl
 
+  -- the built chain has MPG as word 3 of its quadword (leadWords), so its first payload word is word 0 of the next: request 5 asks no more
+  payload-even : (k : ℕ) → a % 16 ≡ 0 → firstOdd (drop 4 (incomings 1 main (a + 16) (4 + k))) ≡ false
+  unfolding incomings
+  payload-even k h =
+      let e : 4 + k ≡ suc (suc (suc (suc k))) = omega arith in
+      rw e (first-even main k (a + 16 + 4 + 4 + 4 + 4) (omega arith))
+
   -- code: n instructions, and NOPs after an odd number of them
-  pub code-record : (n b : ℕ) (body rest : List ℕ) → 1 ≤ n → n ≤ 255 → b < instructions Vif1 → Octets body → length body ≡ 8 * n
+  pub code-record : (n b : ℕ) (body rest : List ℕ) → 1 ≤ n → n ≤ 255 → b < instructions Vif1 → Octets body → length body ≡ 8 * n → a % 16 ≡ 0
       → drop a main ≡ laidOut (recordOf Code n b body) ++ rest
       → Arrived main (5 + 4 * halved n) (a + 16 * (2 + halved n)) s m (m .mem) (putInstructions b body n 0 (m .code)) []
-  code-record n b body rest some few inside bytes l e =
+  code-record n b body rest some few inside bytes l aligned e =
       let h = halved n in
       let q : 2 + h - 1 ≡ h + 1 = omega arith in
       let pad = oddPadding (n % 2) in
@@ -339,7 +352,7 @@ module _ (main : List ℕ) (a : ℕ) (s : State) (m : Lent) (i : IdleAt a s) whe
       let lower = inner (omega arith) in
       let room : a + 16 + 16 * (h + 1) ≤ length main = omega arith in
       let k : 1 + 4 * (h + 1) ≡ 5 + 4 * h = omega arith in
-      let f = feeds-code Vif1 (s .vif1) (s .path2) (s .used) m n b (wordsOf (2 * n) body) pad (incomings 1 main (a + 16) (4 * (h + 1))) (i .waiting) some few inside (rw c (d .words (2 * n + length pad) ∙ rw (words-join main (2 * n) (length pad) (a + 32), ws, ps))) (words-length (2 * n) body) (padding-zeros (n % 2)) in
+      let f = feeds-code Vif1 (s .vif1) (s .path2) (s .used) m n b (wordsOf (2 * n) body) pad (incomings 1 main (a + 16) (4 * (h + 1))) (i .waiting) some few inside (rw c (d .words (2 * n + length pad) ∙ rw (words-join main (2 * n) (length pad) (a + 32), ws, ps))) (words-length (2 * n) body) (padding-zeros (n % 2)) (rw c (payload-even (2 * n + length pad) aligned)) in
       arrived (omega arith) (omega arith) (d .tag) room _ (rw k at (words-reach main a s m i (h + 1) (omega arith) (omega arith) (d .tag) room f)) (i .waiting)
       (i .row)
       (i .path-idle)

@@ -51,7 +51,7 @@ module _ (main : List ℕ) (a : ℕ) (s : State) (m : Lent) (i : IdleAt a s) (al
       data-record main a s m i n b body rest (h .0) (h .1) (ltb-true b (quadwords Vif1) d) o l e
   kind-arrives Code n b body c d l o room e =
       let h = some-count n c in
-      code-record main a s m i n b body rest (h .0) (h .1) (ltb-true b (instructions Vif1) d) o l e
+      code-record main a s m i n b body rest (h .0) (h .1) (ltb-true b (instructions Vif1) d) o l aligned e
   kind-arrives Gs n b body c d l o room e =
       let h = some-count n c in
       let z = eqb-true b 0 d in

@@ -7,6 +7,7 @@ use mathlib.Core.Path.{_≡_}
 use lib.ListN.{take, drop, replicate}
 use lib.Dec.{eqb}
 use Rattle.fields.specs.Fields.{if}
+use Rattle.memories.specs.declared.VifUnit.{VifUnit}
 use Rattle.memories.specs.declared.VifUnit.the-variants.{Vif0, Vif1}
 use Rattle.memories.specs.Units.{quadwords, instructions, dataWords, codeBytes}
 use Rattle.memories.specs.Lengths.{Lent, lent}
@@ -14,11 +15,12 @@ use Rattle.vif.specs.declared.Waiting.{Waiting}
 use Rattle.vif.specs.declared.Waiting.the-variants.{Nothing, MaskDue, RowDue, ColDue, MpgDue, DirectDue, DirecthlDue, UnpackDue}
 use Rattle.fields.specs.Memory.{wordAt}
 use Rattle.vif.specs.declared.Vif.{Vif}
-use Rattle.vif.specs.Setters.{withItops, withStart}
+use Rattle.vif.specs.Setters.{withItops, withStart, withWaiting}
 use Rattle.chain.specs.declared.Stack.the-variants.{Empty}
 use Rattle.chain.specs.declared.TagWords.the-variants.{Nothing as NoTagWords}
-use Rattle.chain.specs.declared.Payload.the-variants.{Nothing as NoPayload}
+use Rattle.chain.specs.declared.Payload.the-variants.{Nothing as NoPayload, Words as PayloadWords}
 use Rattle.chain.specs.declared.State.{State}
+use Rattle.chain.specs.Setters.{withPending}
 use Rattle.chain.specs.Start.{resetPath, resetUnit, resetState, startOf}
 use Rattle.chain.specs.Run.{Ran, numberOf, runOf}
 use Rattle.sheet.specs.Layout.{wordsBytes, tagWords}
@@ -369,6 +371,41 @@ third = runFrom left1 2 (256 ∷ 9 ∷ 256 ∷ 2 ∷ 0 ∷ 0 ∷ 0 ∷ 0 ∷ [])
 unfoldable pub playedFrom0 : List ℕ → Played
 playedFrom0 sheet = playOf sheet (replicate 64 0) 0 left0 blank 100
 
+-- k NOPs; MPG at 4, NUM 1, in the word after them; its words; NOPs up to two quadwords
+abbrev pub uploadAfter : ℕ → List ℕ
+uploadAfter k = replicate k 0 ++ 0x4a010004 ∷ 1 ∷ 2 ∷ replicate (5 - k) 0
+
+-- the answers to an MPG in each word of a quadword, by the runs of a unit
+abbrev pub uploadAnswers : (ℕ → List ℕ → Ran) → List ℕ
+uploadAnswers run =
+    answerIn (run 2 (uploadAfter 0)) ++ answerIn (run 2 (uploadAfter 1)) ++ answerIn (run 2 (uploadAfter 2)) ++ answerIn (run 2 (uploadAfter 3))
+
+-- tag transfer on: a tag with QWC 1 whose words 2 and 3 are x and y, the payload 1, 2 and two NOPs, and an end tag whose words 2 and 3 are 3 and 4
+unfoldable pub tagUpload : ℕ → ℕ → Ran
+tagUpload x y = runOf (wordsBytes (0x10000001 ∷ 0 ∷ x ∷ y ∷ 1 ∷ 2 ∷ 0 ∷ 0 ∷ 0x70000000 ∷ 0 ∷ 3 ∷ 4 ∷ [])) 100 (startOf resetState 1 0 true .state) blank
+
+-- MPG at 4, NUM 2, in word 1 of a payload quadword, its words 1 and 2 after it and 3 and 4 in the words 2 and 3 of the end tag, with tag transfer on
+unfoldable pub uploadAcrossTags : Ran
+uploadAcrossTags =
+    runOf (wordsBytes (0x10000001 ∷ 0 ∷ 0 ∷ 0 ∷ 0 ∷ 0x4a020004 ∷ 1 ∷ 2 ∷ 0x70000000 ∷ 0 ∷ 3 ∷ 4 ∷ [])) 100 (startOf resetState 1 0 true .state) blank
+
+-- a saved state of a unit: an MPG of one instruction with so many words due, and word w of a quadword of NOPs pending next
+abbrev pub uploadSaved : VifUnit → ℕ → ℕ → State
+uploadSaved Vif0 due w = withPending (leftOn 0 0 (withWaiting resetUnit (MpgDue 4 1 due false)) resetUnit) NoTagWords (PayloadWords (16 + 4 * w) (4 - w))
+uploadSaved Vif1 due w = withPending (leftOn 1 0 resetUnit (withWaiting resetUnit (MpgDue 4 1 due false))) NoTagWords (PayloadWords (16 + 4 * w) (4 - w))
+
+abbrev pub blankOf : VifUnit → Lent
+blankOf Vif0 = blank0
+blankOf Vif1 = blank
+
+unfoldable pub resumed : VifUnit → ℕ → ℕ → Ran
+resumed which due w = runOf (wordsBytes (tagWords 7 0 ++ replicate 4 0 ++ tagWords 7 0)) 100 (uploadSaved which due w) (blankOf which)
+
+-- the answers where words from word 0, 1, 2 and 3 on are pending
+abbrev pub resumedAnswers : VifUnit → ℕ → List ℕ
+resumedAnswers which due =
+    answerIn (resumed which due 0) ++ answerIn (resumed which due 1) ++ answerIn (resumed which due 2) ++ answerIn (resumed which due 3)
+
 unfoldable pub requestPoints : List Point
 requestPoints =
     -- request 2: "in MODE 2 a field's ROW is replaced only where that field's mask code is 0." Only X has code 0: 10 + 1, then 11 + 2.
@@ -417,4 +454,18 @@ requestPoints =
     ∷ point (answerIn third ++ loggedIn third ++ startedIn third) (0 ∷ 256 ∷ 9 ∷ 256 ∷ 2 ∷ 0x42 ∷ 7 ∷ 5 ∷ 0 ∷ 0 ∷ 0 ∷ [])
     -- "its entry tests are made with VIF1's sizes, whatever channel the state held before the start"
     ∷ point (playNumber (playedFrom0 startSheet .answer) ∷ playedFrom0 startSheet .steps ∷ playedFrom0 startSheet .state .used ∷ []) (0 ∷ 6 ∷ 2 ∷ [])
+    -- request 5: "The first payload word of an MPG must be word 0 or 2 of its quadword.": after an MPG in word 0, 1, 2 and 3, of either unit
+    ∷ point (uploadAnswers runOfWords) (25 ∷ 0 ∷ 25 ∷ 0 ∷ [])
+    ∷ point (uploadAnswers runOfVif0) (25 ∷ 0 ∷ 25 ∷ 0 ∷ [])
+    -- the code's own step is taken, its first word is not: after the tag, two NOPs and MPG both words are due and nothing is stored
+    ∷ point (runOfWords 2 (uploadAfter 2) .steps ∷ dueIn (runOfWords 2 (uploadAfter 2)) ++ instructionsFrom (runOfWords 2 (uploadAfter 2)) 0) (4 ∷ 2 ∷ [])
+    ∷ point (instructionIn (runOfWords 2 (uploadAfter 1)) 4) (1 ∷ 0 ∷ 0 ∷ 0 ∷ 2 ∷ 0 ∷ 0 ∷ 0 ∷ [])
+    -- words 2 and 3 of a tag are words 2 and 3 of a quadword
+    ∷ point (answerIn (tagUpload 0x4a010004 0) ++ dueIn (tagUpload 0x4a010004 0)) (25 ∷ 2 ∷ [])
+    ∷ point (instructionIn (tagUpload 0 0x4a010004) 4) (1 ∷ 0 ∷ 0 ∷ 0 ∷ 2 ∷ 0 ∷ 0 ∷ 0 ∷ [])
+    -- "An MPG whose first payload word was taken may go on from any word, as after a tag.": in a tag's words, and from a saved state with one word due
+    ∷ point (answerIn uploadAcrossTags ++ instructionIn uploadAcrossTags 5) (0 ∷ 3 ∷ 0 ∷ 0 ∷ 0 ∷ 4 ∷ 0 ∷ 0 ∷ 0 ∷ [])
+    ∷ point (resumedAnswers Vif1 1 ++ resumedAnswers Vif0 1) (0 ∷ 0 ∷ 0 ∷ 0 ∷ 0 ∷ 0 ∷ 0 ∷ 0 ∷ [])
+    -- a saved state with both words due is in range, and the step is refused
+    ∷ point (resumedAnswers Vif1 2 ++ resumedAnswers Vif0 2) (0 ∷ 25 ∷ 0 ∷ 25 ∷ 0 ∷ 25 ∷ 0 ∷ 25 ∷ [])
     ∷ []

@@ -67,6 +67,10 @@ modeWrong = 23
 abbrev pub directUnaligned : ℕ
 directUnaligned = 24
 
+-- request 5: "25, VIF step, when the first MPG payload word is due and the next word is word 1 or 3; after 24"
+abbrev pub mpgUnaligned : ℕ
+mpgUnaligned = 25
+
 -- request 10: "26 for UNPACK with IMM bit 15 on VIF0, after 22"
 abbrev pub topsMissing : ℕ
 topsMissing = 26

@@ -29,6 +29,8 @@ pub const MODE_WRONG: u32 = 23;
 
 pub const DIRECT_UNALIGNED: u32 = 24;
 
+pub const MPG_UNALIGNED: u32 = 25;
+
 pub const TOPS_MISSING: u32 = 26;
 
 pub const DESCRIPTOR_B: u32 = 30;

@@ -3,7 +3,7 @@ use mathlib.Core.Path.{_≡_, refl, sym, ap, _∙_}
 use mathlib.Core.Bool.{Bool, true, false}
 use mathlib.Core.List.{List}
 use Prim.Native.Nat.{ℕ, zero, suc, _+_, _*_, _-_, _/_, _%_, _<_, _≤_}
-use native.Mathlib.Nat.{sub-zero}
+use native.Mathlib.Nat.{add-zero, sub-zero}
 use native.Mathlib.Numerals.{one-add}
 use native.Mathlib.Omega.{arith}
 use borrow.Author.Tests.{ne-eqb, le-leb, lt-ltb}
@@ -40,7 +40,7 @@ use Rattle.vif.specs.declared.Vif.{Vif}
 use Rattle.vif.specs.Setters.{withRow, withWaiting}
 use Rattle.vif.specs.Payload.{completes, orNothing, mpgStored, writeRegisters}
 use Rattle.vif.specs.Words.{incomingAt}
-use Rattle.vif.specs.Step.{leaves, wordIn, giveQuadword, directStep, unpackStep, stepBy, vifStep}
+use Rattle.vif.specs.Step.{leaves, wordIn, giveQuadword, directStep, mpgRefused, mpgStep, unpackStep, stepBy, vifStep}
 use Rattle.vif.specs.Feeds.{Fed, fed, aWord, aQuadword}
 use Rattle.vif.specs.Inner.{UnpackReady, MpgReady, Leads, directs, Quadwords, fedIn, Going, Bursts, takenWith}
 use Rattle.vif.proofs.RangeLaws.{memory-accepted}
@@ -136,6 +136,13 @@ mpg-later r h l =
     let d = r .due-most in
     record { some = r .some; most = r .most; wide = l ∙ r .wide; inside = r .inside; few = r .few; left = omega arith; due-most = omega arith }
 
+-- once the first word is taken, no word is refused
+never-later : (main : List ℕ) (a count due k : ℕ) → mpgRefused count due (incomingAt main a) ≡ false → due ≤ count + count → k < due
+    → mpgRefused count (due - k) (incomingAt main (a + 4 * k)) ≡ false
+unfolding mpgRefused
+never-later main a count due zero r b h = rw (sub-zero due, add-zero a) r
+never-later main a count due (suc k) r b h = rw (ne-eqb (due - suc k) (count + count) (λ e. omega arith))
+
 module _ (v : Vif) (address count : ℕ) (i : Bool) where
   -- the unit with an MPG that waits
   abbrev pub storing : ℕ → Vif
@@ -146,20 +153,21 @@ module _ (v : Vif) (address count : ℕ) (i : Bool) where
   mpg-begins which main a due p used m h = rw (sub-zero due, ← ap (λ (w : Waiting). fed (withWaiting v w) p used m) h) leads-none
 
   module _ (which : VifUnit) {size : ℕ} (z : size ≡ instructions which) where
-    mpg-step : (due word : ℕ) → 1 < due → (p : Path) (used : ℕ) (mem code log : List ℕ) (next : Incoming) → wordIn next ≡ word
+    mpg-step : (due word : ℕ) → 1 < due → (p : Path) (used : ℕ) (mem code log : List ℕ) (next : Incoming) → mpgRefused count due next ≡ false → wordIn next ≡ word
         → vifStep which (storing due) p next used (lent mem code log)
         ≡ leaves aWord (storing (due - 1)) p used (lent mem (mpgStored size address count due word code) log)
-    unfolding vifStep
-    mpg-step due word h p used mem code log next e = rw (← z, e, not-last due i h, waits-still due (MpgDue address count (due - 1) i) h)
+    unfolding vifStep mpgStep if
+    mpg-step due word h p used mem code log next r e = rw (r, ← z, e, not-last due i h, waits-still due (MpgDue address count (due - 1) i) h)
 
-    pub mpg-more : {main : List ℕ} {a k due word : ℕ} {p : Path} {used : ℕ} {mem code code′ log : List ℕ} {x : Fed} → k + 1 < due
+    pub mpg-more : {main : List ℕ} {a k due word : ℕ} {p : Path} {used : ℕ} {mem code code′ log : List ℕ} {x : Fed}
+        → mpgRefused count due (incomingAt main a) ≡ false → due ≤ count + count → k + 1 < due
         → word ≡ wordAt main (a + 4 * k) → code′ ≡ mpgStored size address count (due - k) word code
         → Leads which main a k k x (fed (storing (due - k)) p used (lent mem code log))
         → Leads which main a (k + 1) (k + 1) x (fed (storing (due - (k + 1))) p used (lent mem code′ log))
-    mpg-more {main} {a} {k} {due} {word} {p} {used} {mem} {code} {code′} {log} h e s l =
+    mpg-more {main} {a} {k} {due} {word} {p} {used} {mem} {code} {code′} {log} r b h e s l =
         let d : due - (k + 1) ≡ due - k - 1 = omega arith in
         rw (d, s)
-        (word-more l (mpg-step (due - k) word (omega arith) p used mem code log (incomingAt main (a + 4 * k)) (incoming-word main (a + 4 * k) ∙ sym e)))
+        (word-more l (mpg-step (due - k) word (omega arith) p used mem code log (incomingAt main (a + 4 * k)) (never-later main a count due k r b (omega arith)) (incoming-word main (a + 4 * k) ∙ sym e)))
 
 -- ---- DIRECT and DIRECTHL
 

@@ -9,7 +9,7 @@ use lib.ListN.{length}
 use lib.Seq.{length-sets}
 use lib.Dec.{eqb, ltb}
 use Rattle.fields.specs.Fields.{if}
-use Rattle.fields.specs.Refusals.{modeWrong, directUnaligned, logFull}
+use Rattle.fields.specs.Refusals.{modeWrong, directUnaligned, mpgUnaligned, logFull}
 use Rattle.fields.proofs.ChoiceLaws.{if-ind, if-ind-by, or-left, or-right}
 use Rattle.gif.specs.declared.Path.{Path}
 use Rattle.gif.specs.declared.GifAnswer.{GifAnswer}
@@ -39,7 +39,7 @@ use Rattle.vif.specs.declared.Vif.{Vif}
 use Rattle.vif.specs.Codes.{interruptOf, decodeOf}
 use Rattle.vif.specs.Execute.{Executed, executed, resultWith, startProgram, setMode, beginMpg, begunUnpack, unpackRefusal, beginUnpack, executeOf, decodedStep}
 use Rattle.vif.specs.Payload.{mpgStored, bytesOf, wordPlace, writeRegisters}
-use Rattle.vif.specs.Step.{Left, leaves, refused, wordIn, afterCode, afterGif, giveQuadword, directStep, unpackStep, codeStep, stepBy, vifStep}
+use Rattle.vif.specs.Step.{Left, leaves, refused, wordIn, afterCode, afterGif, giveQuadword, directStep, mpgRefused, mpgStep, unpackStep, codeStep, stepBy, vifStep}
 
 -- what a step does to the log: entries more, by which `used` grows
 pub record LogGrows (used : ℕ) (log : List ℕ) (used′ : ℕ) (log′ : List ℕ) : Type 0 where
@@ -183,18 +183,19 @@ module _ (which : VifUnit) (v : Vif) (p : Path) (used : ℕ) (m : Lent) (h : ent
   kept-direct (Word3 a) due i w = kept-refused directUnaligned
 
   kept-by : (w : Waiting) (n : Incoming) → Kept v p used m (stepBy which w v p n used m)
-  unfolding unpackStep mpgStored
+  unfolding unpackStep mpgStep mpgStored
   kept-by Nothing n = kept-code _
   kept-by (MaskDue i) n = kept-word i _
   kept-by (RowDue due i) n = kept-word _ _
   kept-by (ColDue due i) n = kept-word _ _
   kept-by (MpgDue a k due i) n =
-      record {
+      if-ind (Kept v p used m) (mpgRefused k due n) (kept-refused mpgUnaligned)
+      (record {
         same = λ n e. absurd (no-word e);
         mem-length = refl;
         code-length = length-sets (m .code) (wordPlace (instructions which) a (k + k - due)) (bytesOf (wordIn n));
         log-grows = record { same-length = refl; room = h };
-      }
+      })
   kept-by (DirectDue due i) n = kept-direct n due i _
   kept-by (DirecthlDue due i) n = kept-direct n due i _
   kept-by (UnpackDue f u) n =

@@ -10,6 +10,7 @@ use lib.ListN.{set, getD, length}
 use lib.Seq.{sets, getD-set-other}
 use lib.Dec.{leb, ltb}
 use Rattle.fields.specs.Fields.{quadword}
+use Rattle.fields.proofs.ChoiceLaws.{if-ind}
 use Rattle.gif.specs.declared.Path.{Path}
 use Rattle.gif.specs.declared.GifAnswer.{GifAnswer}
 use Rattle.gif.specs.declared.GifAnswer.the-variants.{Taken, Refused as GifRefused}
@@ -23,7 +24,7 @@ use Rattle.vif.specs.declared.Waiting.{Waiting}
 use Rattle.vif.specs.declared.Waiting.the-variants.{Nothing, MaskDue, RowDue, ColDue, MpgDue, DirectDue, DirecthlDue, UnpackDue}
 use Rattle.vif.specs.declared.Vif.{Vif}
 use Rattle.vif.specs.Payload.{bytesOf, wordPlace, mpgStored}
-use Rattle.vif.specs.Step.{wordIn, afterGif, giveQuadword, directStep, unpackStep, codeStep, stepBy, vifStep}
+use Rattle.vif.specs.Step.{Left, wordIn, afterGif, giveQuadword, directStep, mpgRefused, mpgStep, unpackStep, codeStep, stepBy, vifStep}
 
 -- a word is four stores
 pub four-stores : (code : List ℕ) (at word : ℕ)
@@ -88,12 +89,14 @@ module _ (which : VifUnit) (v : Vif) (p : Path) (used : ℕ) (m : Lent) where
   direct-code (Word3 a) due i w = refl
 
   outside-by : (w : Waiting) (n : Incoming) (j d : ℕ) → storesAt which w j ≡ false → getD (stepBy which w v p n used m .memories .code) j d ≡ getD (m .code) j d
-  unfolding codeStep unpackStep
+  unfolding codeStep mpgStep unpackStep
   outside-by Nothing n j d h = refl
   outside-by (MaskDue i) n j d h = refl
   outside-by (RowDue due i) n j d h = refl
   outside-by (ColDue due i) n j d h = refl
-  outside-by (MpgDue a k due i) n j d h = stored-outside (instructions which) a k due (wordIn n) (m .code) j d (not-between _ j h)
+  outside-by (MpgDue a k due i) n j d h =
+      if-ind (λ (o : Left). getD (o .memories .code) j d ≡ getD (m .code) j d) (mpgRefused k due n) refl
+      (stored-outside (instructions which) a k due (wordIn n) (m .code) j d (not-between _ j h))
   outside-by (DirectDue due i) n j d h = rw (direct-code n due i (DirectDue (due - 1) i))
   outside-by (DirecthlDue due i) n j d h = rw (direct-code n due i (DirecthlDue (due - 1) i))
   outside-by (UnpackDue f u) n j d h = refl

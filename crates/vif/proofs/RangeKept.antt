@@ -47,7 +47,7 @@ use Rattle.vif.specs.Execute.{Executed, nextTops, started, startProgram,
 use Rattle.vif.specs.Payload.{orNothing}
 use Rattle.vif.specs.Range.{upTo, topsMost, bitInRange, registersInRange, directInRange, waitingInRange, unitInRange}
 use Rattle.vif.specs.Inner.{CodeReady, StepReady}
-use Rattle.vif.specs.Step.{Left, afterGif, giveQuadword, directStep, unpackStep, codeStep, stepBy, vifStep}
+use Rattle.vif.specs.Step.{Left, afterGif, giveQuadword, directStep, mpgRefused, mpgStep, unpackStep, codeStep, stepBy, vifStep}
 use Rattle.vif.proofs.RangeLaws.{up-to-fits, fits-up-to, waiting-ranged, row-due, col-due, mpg-due}
 use Rattle.vif.proofs.CodeLaws.{listed-one, started-waiting, refusal-cycle}
 use Rattle.vif.proofs.KeepLaws.{step-kept, log-stays}
@@ -354,7 +354,7 @@ module _ (which : VifUnit) (v : Vif) (h : unitInRange which v ≡ true) (p : Pat
       rw (and-left (codeListed which cmd) _ r) (fits-up-to 65536 (due - 1) (omega arith) (omega arith))
 
   ranged-by : (w : Waiting) → v .waiting ≡ w → (n : Incoming) → StaysRanged which (stepBy which w v p n used m)
-  unfolding codeStep unpackStep waitingInRange
+  unfolding codeStep mpgStep unpackStep waitingInRange
   ranged-by Nothing q n = record { unit-held = ranged-decoded which v fits q (decodeOf which _) (decode-fits which _ .fits) _ used (m .mem) (m .log) .held; path-held = g }
   ranged-by (MaskDue i) q n = after _ fits refl refl refl _ refl refl
   ranged-by (RowDue due i) q n =
@@ -373,12 +373,13 @@ module _ (which : VifUnit) (v : Vif) (h : unitInRange which v ≡ true) (p : Pat
       refl
   ranged-by (MpgDue a k due i) q n =
       let d = mpg-due which v h q in
-      after _ fits refl refl
+      if-ind (StaysRanged which) (mpgRefused k due n) (refused-ranged _ refl refl)
+      (after _ fits refl refl
       (or-nothing-ranged which due _ (v .cl) (v .wl)
       (λ z. rw (le-leb a mpgAddressMost (d .0), fits-up-to 256 k (d .4) (d .1)) (fits-up-to (k + k) (due - 1) (omega arith) (omega arith))))
       _
       refl
-      refl
+      refl)
   ranged-by (DirectDue due i) q n = direct-ranged n due i _ (or-nothing-ranged which due _ (v .cl) (v .wl) (fewer 0x50 due (waiting-ranged which v h q)))
   ranged-by (DirecthlDue due i) q n = direct-ranged n due i _ (or-nothing-ranged which due _ (v .cl) (v .wl) (fewer 0x51 due (waiting-ranged which v h q)))
   ranged-by (UnpackDue f u) q n =

@@ -1,17 +1,18 @@
 -- What the records of a test sheet do to the unit, over their sizes.
 use mathlib.Core.Path.{_≡_, refl, sym, ap, _∙_}
 use mathlib.Core.Logic.{inl}
-use mathlib.Core.Bool.{true, false}
+use mathlib.Core.Bool.{Bool, true, false}
 use mathlib.Core.List.{List, [], _∷_, _++_}
 use Prim.Native.Nat.{ℕ, zero, suc, _+_, _*_, _-_, _/_, _%_, _^_, _<_, _≤_}
 use native.Mathlib.Nat.{add-zero, zero-add}
 use native.Mathlib.Numerals.{add-one}
 use native.Mathlib.Omega.{arith}
 use borrow.Author.Tests.{ne-eqb, le-ltb}
-use lib.ListN.{length, getD}
+use lib.ListN.{length, getD, drop}
 use lib.Seq.{sets}
 use lib.Dec.{eqb}
 use Rattle.fields.specs.Fields.{if, bits, quadword}
+use Rattle.fields.proofs.ChoiceLaws.{and-later}
 use Rattle.gif.specs.declared.Path.{Path}
 use Rattle.gif.specs.declared.Place.the-variants.{Idle}
 use Rattle.gif.specs.Log.{entrySize, entry, logged, lacksRoom}
@@ -48,7 +49,7 @@ use Rattle.vif.specs.Setters.{withCycle, withMode, withRow, withWaiting}
 use Rattle.vif.specs.Codes.{interruptOf, quadwordsOf, mpgAddresses, missingCode, codeListed, plainCode, unpackNumbers, codeOf, decodeOf}
 use Rattle.vif.specs.Execute.{started, startProgram, setMode, beginMpg, addressOf}
 use Rattle.vif.specs.Payload.{orNothing, bytesOf, wordPlace, mpgStored, writeRegisters}
-use Rattle.vif.specs.Step.{leaves, wordIn, giveQuadword, vifStep}
+use Rattle.vif.specs.Step.{leaves, wordIn, oddWord, giveQuadword, mpgRefused, mpgStep, vifStep}
 use Rattle.vif.specs.Feeds.{Fed, fed, Feeds, none, more, aWord, aQuadword, wordsIn, QuadwordsIn, no-quadword, one-quadword, Zeros, one-zero, storeInstruction, copyInstructions}
 use Rattle.vif.proofs.CodeLaws.{listed-both, tops-clear, refusal-none}
 use Rattle.vif.proofs.StepLaws.{code-taken}
@@ -63,10 +64,10 @@ feeds-join (more e p) q = more e (feeds-join p q)
 
 -- a list of incoming words by its first one
 pub feeds-cons : {which : VifUnit} {x y : Fed} {a : ℕ} {ws : List ℕ} (ns : List Incoming) → wordsIn ns ≡ a ∷ ws
-    → ((n : Incoming) (ms : List Incoming) → wordIn n ≡ a → wordsIn ms ≡ ws → Feeds which aWord x (n ∷ ms) y)
+    → ((n : Incoming) (ms : List Incoming) → wordIn n ≡ a → wordsIn ms ≡ ws → ns ≡ n ∷ ms → Feeds which aWord x (n ∷ ms) y)
     → Feeds which aWord x ns y
 feeds-cons [] e k = absurd (let z : _≡_ {A = ℕ} 0 1 = cc in omega arith)
-feeds-cons (n ∷ ms) e k = k n ms (cc) (cc)
+feeds-cons (n ∷ ms) e k = k n ms (cc) (cc) refl
 
 -- what is left may be written in another way
 pub feeds-as : {which : VifUnit} {a : VifAnswer} {x y z : Fed} {ns : List Incoming} → Feeds which a x ns y → y ≡ z → Feeds which a x ns z
@@ -169,16 +170,16 @@ pub feeds-data : (which : VifUnit) (v : Vif) (p : Path) (used : ℕ) (m : Lent) 
     (fed (withMode (withCycle v 1 1) 0) p used (lent (copyVectors (quadwords which) a (fourWords ws) n 0 (m .mem)) (m .code) (m .log)))
 feeds-data which v p used m n a ws ns h hr some few inside q w l =
     feeds-cons ns q
-    (λ n0 ns0 e0 q0.
+    (λ n0 ns0 e0 q0 _.
     feeds-nop h e0
     (feeds-cons ns0 q0
-    (λ n1 ns1 e1 q1.
+    (λ n1 ns1 e1 q1 _.
     more (stcycl-taken which v p used m h n1 e1)
     (feeds-cons ns1 q1
-    (λ n2 ns2 e2 q2.
+    (λ n2 ns2 e2 q2 _.
     more (stmod-taken which (withCycle v 1 1) p used m h n2 e2)
     (feeds-cons ns2 q2
-    (λ n3 ns3 e3 q3.
+    (λ n3 ns3 e3 q3 _.
     rw (← q3) (data-fed which (withMode (withCycle v 1 1) 0) p used m n a h refl refl refl hr some few inside n3 ns3 e3 (rw q3 w) (rw q3 l)))))))))
 
 -- afterwards what waited before waits, and ROW is as it was
@@ -190,14 +191,17 @@ data-unit v = (refl, refl)
 -- three words 0 before a code
 after-nops : {which : VifUnit} {v : Vif} {p : Path} {used : ℕ} {m : Lent} {y : Fed} {w : ℕ} {ws : List ℕ} → v .waiting ≡ Nothing → (ns : List Incoming)
     → wordsIn ns ≡ 0 ∷ 0 ∷ 0 ∷ w ∷ ws
-    → ((k : Incoming) (ms : List Incoming) → wordIn k ≡ w → wordsIn ms ≡ ws → Feeds which aWord (fed v p used m) (k ∷ ms) y)
+    → ((k : Incoming) (ms : List Incoming) → wordIn k ≡ w → wordsIn ms ≡ ws → drop 4 ns ≡ ms → Feeds which aWord (fed v p used m) (k ∷ ms) y)
     → Feeds which aWord (fed v p used m) ns y
 after-nops h ns q f =
     feeds-cons ns q
-    (λ n0 ns0 e0 q0.
+    (λ n0 ns0 e0 q0 d0.
     feeds-nop h e0
     (feeds-cons ns0 q0
-    (λ n1 ns1 e1 q1. feeds-nop h e1 (feeds-cons ns1 q1 (λ n2 ns2 e2 q2. feeds-nop h e2 (feeds-cons ns2 q2 f))))))
+    (λ n1 ns1 e1 q1 d1.
+    feeds-nop h e1
+    (feeds-cons ns1 q1
+    (λ n2 ns2 e2 q2 d2. feeds-nop h e2 (feeds-cons ns2 q2 (λ k ms e q3 d3. f k ms e q3 (rw (d0, d1, d2, d3)))))))))
 
 module _ (a : ℕ) (inside : a < 65536) where
   start-decoded : (which : VifUnit) → decodeOf which (335544320 + a) ≡ Known (Mscal a)
@@ -223,7 +227,7 @@ pub feeds-start : (which : VifUnit) (v : Vif) (p : Path) (used : ℕ) (m : Lent)
 unfolding startProgram lacksRoom if
 feeds-start which v p used m a ns h inside room q =
     after-nops h ns q
-    (λ k ms e q3.
+    (λ k ms e q3 _.
     more (code-taken which v p used m k h e (start-decoded a inside which) (start-quiet a inside) ∙ rw (le-ltb (length (m .log)) (entrySize * (used + 1)) room))
     (no-words ms q3))
 
@@ -240,6 +244,16 @@ feeds-zeros which v p used m (n ∷ ns) h z = feeds-nop h (first z) (feeds-zeros
 
     rest : {w : ℕ} {ws : List ℕ} → Zeros (w ∷ ws) → Zeros ws
     rest (one-zero z) = z
+
+-- whether words come of which the first is word 1 or 3 of its quadword
+abbrev pub firstOdd : List Incoming → Bool
+firstOdd [] = false
+firstOdd (n ∷ ns) = oddWord n
+
+-- the first word of a part is the first of all, where it has one
+first-part : (xs ys : List Incoming) → firstOdd (xs ++ ys) ≡ false → firstOdd xs ≡ false
+first-part [] ys h = refl
+first-part (n ∷ xs) ys h = h
 
 -- incoming words in two parts
 words-split : (P : List Incoming → Type 0) (ws pad : List ℕ) (ns : List Incoming) → wordsIn ns ≡ ws ++ pad
@@ -305,50 +319,69 @@ second-waits a n (suc r) =
     let e : suc r + suc r + 1 - 1 ≡ suc r + suc r = omega arith in
     rw (ne-eqb (suc r + suc r + 1) 1 (λ z. omega arith), e)
 
+-- instruction j's first word, and its second
+first-taken : (n j r : ℕ) (x : Incoming) → j + suc r ≡ n → (j ≡ 0 → oddWord x ≡ false) → mpgRefused n (suc r + suc r) x ≡ false
+unfolding mpgRefused
+first-taken n zero r x e h = sym (and-later (eqb (suc r + suc r) (n + n)) (oddWord x) (sym (h refl)))
+first-taken n (suc j) r x e h = rw (ne-eqb (suc r + suc r) (n + n) (λ z. omega arith))
+
+second-taken : (n j r : ℕ) (x : Incoming) → j + suc r ≡ n → mpgRefused n (r + r + 1) x ≡ false
+unfolding mpgRefused
+second-taken n j r x e = rw (ne-eqb (r + r + 1) (n + n) (λ z. omega arith))
+
 module _ (which : VifUnit) (v : Vif) (p : Path) (used : ℕ) (mem log : List ℕ) (a n : ℕ) where
   -- a payload word's step
-  mpg-word : (due at : ℕ) (k : Incoming) (code : List ℕ) {w : Waiting} → orNothing due (MpgDue a n (due - 1) false) ≡ w
+  mpg-word : (due at : ℕ) (k : Incoming) (code : List ℕ) {w : Waiting} → mpgRefused n due k ≡ false → orNothing due (MpgDue a n (due - 1) false) ≡ w
       → wordPlace (instructions which) a (n + n - due) ≡ at
       → vifStep which (withWaiting v (MpgDue a n due false)) p k used (lent mem code log)
       ≡ leaves (Word false) (withWaiting v w) p used (lent mem (sets code at (bytesOf (wordIn k))) log)
-  unfolding vifStep mpgStored
-  mpg-word due at k code e q = rw (quiet due, e, q)
+  unfolding vifStep mpgStep mpgStored if
+  mpg-word due at k code r e q = rw (r, quiet due, e, q)
 
   -- instructions one after another
   mpg-feeds : (ws : List ℕ) (r j : ℕ) (ns : List Incoming) (code : List ℕ) → j + r ≡ n → length ns ≡ 2 * r
-      → ((i : ℕ) → getD ws (2 * j + i) 0 ≡ getD (wordsIn ns) i 0)
+      → ((i : ℕ) → getD ws (2 * j + i) 0 ≡ getD (wordsIn ns) i 0) → (j ≡ 0 → firstOdd ns ≡ false)
       → Feeds which aWord (fed (withWaiting v (mpgWaits a n r)) p used (lent mem code log)) ns
       (fed (withWaiting v Nothing) p used (lent mem (copyInstructions (instructions which) a ws r j code) log))
   unfolding copyInstructions
-  mpg-feeds ws zero j [] code e l g = none
-  mpg-feeds ws zero j (x ∷ ns) code e l g = absurd (omega arith)
-  mpg-feeds ws (suc r) j [] code e l g = absurd (omega arith)
-  mpg-feeds ws (suc r) j (x ∷ []) code e l g = absurd (omega arith)
-  mpg-feeds ws (suc r) j (x ∷ y ∷ ns) code e l g =
+  mpg-feeds ws zero j [] code e l g o = none
+  mpg-feeds ws zero j (x ∷ ns) code e l g o = absurd (omega arith)
+  mpg-feeds ws (suc r) j [] code e l g o = absurd (omega arith)
+  mpg-feeds ws (suc r) j (x ∷ []) code e l g o = absurd (omega arith)
+  mpg-feeds ws (suc r) j (x ∷ y ∷ ns) code e l g o =
       let c : n + n - (suc r + suc r) ≡ j + j = omega arith in
       let d : n + n - (r + r + 1) ≡ j + j + 1 = omega arith in
       let s : getD ws (2 * j) 0 ≡ wordIn x = rw add-zero at (g 0) in
       let t : getD ws (2 * j + 1) 0 ≡ wordIn y = g 1 in
       let q = (a + j) % instructions which in
       rw (s, t, ← two-words code q (wordIn x) (wordIn y))
-      (more (mpg-word (suc r + suc r) (8 * q) x code (first-waits a n r) (rw c (first-place (instructions which) a j)))
-      (more (mpg-word (r + r + 1) (8 * q + 4) y (sets code (8 * q) (bytesOf (wordIn x))) (second-waits a n r) (rw d (second-place (instructions which) a j)))
+      (more (mpg-word (suc r + suc r) (8 * q) x code (first-taken n j r x e o) (first-waits a n r) (rw c (first-place (instructions which) a j)))
+      (more (mpg-word (r + r + 1) (8 * q + 4) y (sets code (8 * q) (bytesOf (wordIn x))) (second-taken n j r y e) (second-waits a n r) (rw d (second-place (instructions which) a j)))
       (mpg-feeds ws r (suc j) ns (sets (sets code (8 * q) (bytesOf (wordIn x))) (8 * q + 4) (bytesOf (wordIn y))) (omega arith) (omega arith)
-      (λ i. let z : 2 * suc j + i ≡ 2 * j + suc (suc i) = omega arith in rw z (g (suc (suc i)))))))
+      (λ i. let z : 2 * suc j + i ≡ 2 * j + suc (suc i) = omega arith in rw z (g (suc (suc i)))) (λ z. absurd (omega arith)))))
 
--- three NOPs, MPG with its payload and words 0 after it copy the instructions: instruction j to a + j modulo the memory's size
+-- three NOPs, MPG with its payload and words 0 after it copy the instructions: instruction j to a + j modulo the memory's size. Request 5: the first payload word
+-- is word 0 or 2 of its quadword
 pub feeds-code : (which : VifUnit) (v : Vif) (p : Path) (used : ℕ) (m : Lent) (n a : ℕ) (ws pad : List ℕ) (ns : List Incoming) → v .waiting ≡ Nothing → 1 ≤ n → n ≤ 255
     → a < mpgAddresses → wordsIn ns ≡ 0 ∷ 0 ∷ 0 ∷ (1241513984 + n * 65536 + a) ∷ ws ++ pad → length ws ≡ 2 * n → Zeros pad
+    → firstOdd (drop 4 ns) ≡ false
     → Feeds which aWord (fed v p used m) ns (fed v p used (lent (m .mem) (copyInstructions (instructions which) a ws n 0 (m .code)) (m .log)))
 unfolding beginMpg
-feeds-code which v p used m n a ws pad ns h some few inside q l z =
+feeds-code which v p used m n a ws pad ns h some few inside q l z o =
     after-nops h ns q
-    (λ k ms e q3.
-    words-split (λ (l : List Incoming). Feeds which aWord (fed v p used m) (k ∷ l) (fed v p used (lent (m .mem) (copyInstructions (instructions which) a ws n 0 (m .code)) (m .log)))) ws pad ms q3
-    (λ xs ys s t.
+    (λ k ms e q3 d.
+    words-split
+    (λ (l : List Incoming). firstOdd l ≡ false
+    → Feeds which aWord (fed v p used m) (k ∷ l) (fed v p used (lent (m .mem) (copyInstructions (instructions which) a ws n 0 (m .code)) (m .log))))
+    ws
+    pad
+    ms
+    q3
+    (λ xs ys s t f.
     more (code-taken which v p used m k h e (code-decoded n a some few inside which) (code-quiet n a some few inside) ∙ rw (count-num n some few, begins n some))
-    (feeds-join (mpg-feeds which v p used (m .mem) (m .log) a n ws n 0 xs (m .code) (omega arith) (sym (words-length xs) ∙ rw s l) (λ i. rw (zero-add, s)))
-    (rw (idle-same v h) (feeds-zeros which v p used _ ys h (rw t z))))))
+    (feeds-join (mpg-feeds which v p used (m .mem) (m .log) a n ws n 0 xs (m .code) (omega arith) (sym (words-length xs) ∙ rw s l) (λ i. rw (zero-add, s)) (λ _. first-part xs ys f))
+    (rw (idle-same v h) (feeds-zeros which v p used _ ys h (rw t z)))))
+    (rw d at o))
   where
     begins : (n : ℕ) → 1 ≤ n → MpgDue a n (n + n) false ≡ mpgWaits a n n
     begins zero l = absurd (omega arith)
@@ -408,7 +441,7 @@ pub feeds-direct : (which : VifUnit) → codeListed which 0x50 ≡ true → (v :
     → Feeds which aWord (fed v p used m) ns (fed (withWaiting v (directWaits (suc n))) p used m)
 feeds-direct which x v p used m n ns h few w =
     after-nops h ns w
-    (λ k ls f z. more (code-taken which v p used m k h f (direct-decoded n few which x) (direct-quiet n few) ∙ rw (add-one n)) (no-words ls z))
+    (λ k ls f z _. more (code-taken which v p used m k h f (direct-decoded n few which x) (direct-quiet n few) ∙ rw (add-one n)) (no-words ls z))
 
 -- a GIF tag and n A+D quadwords after them write n log entries, and path 2 is idle again
 pub feeds-entries : (which : VifUnit) (v : Vif) (q used : ℕ) (m : Lent) (n : ℕ) (quads : List ℕ) (ms : List Incoming) → v .waiting ≡ Nothing → length quads ≡ n → 1 ≤ n

@@ -28,7 +28,7 @@ use Rattle.vif.specs.Codes.{cmdOf, missingCode, codeListed, codeOf, deco
 use Rattle.vif.specs.Execute.{started, unpackRefusal, beginUnpack}
 use Rattle.vif.specs.Range.{directInRange, waitingInRange, unitInRange}
 use Rattle.vif.specs.Words.{incomingAt}
-use Rattle.vif.specs.Step.{Left, refused, wordIn, codeStep, unpackStep, stepBy, vifStep, takeOf}
+use Rattle.vif.specs.Step.{Left, refused, wordIn, codeStep, mpgRefused, mpgStep, unpackStep, stepBy, vifStep, takeOf}
 use Rattle.vif.specs.Feeds.{Fed}
 use Rattle.vif.specs.Feed.{FedOn, fedTo, afterWord, feedsOf, takesSteps, wordsInside, feedOf}
 use Rattle.vif.specs.Inner.{FedReady}
@@ -140,12 +140,12 @@ no-direct cmd due c r =
 
 module _ (v : Vif) (r : unitInRange Vif0 v ≡ true) (p : Path) (used : ℕ) (m : Lent) (n : Incoming) where
   path-by : (w : Waiting) → v .waiting ≡ w → stepBy Vif0 w v p n used m .path2 ≡ p
-  unfolding missingCode waitingInRange codeStep unpackStep
+  unfolding missingCode waitingInRange codeStep mpgStep unpackStep
   path-by Nothing q = refl
   path-by (MaskDue i) q = refl
   path-by (RowDue due i) q = refl
   path-by (ColDue due i) q = refl
-  path-by (MpgDue a k due i) q = refl
+  path-by (MpgDue a k due i) q = if-ind (λ (o : Left). o .path2 ≡ p) (mpgRefused k due n) refl refl
   path-by (DirectDue due i) q = absurd (no-direct 0x50 due refl (waiting-ranged Vif0 v r q))
   path-by (DirecthlDue due i) q = absurd (no-direct 0x51 due refl (waiting-ranged Vif0 v r q))
   path-by (UnpackDue f u) q = refl

@@ -1,9 +1,9 @@
 -- One word taken by a VIF unit, or one quadword inside DIRECT: a step of document 01.
 use Prim.Native.Nat.{ℕ, _+_, _*_, _-_, _^_}
-use mathlib.Core.Bool.{Bool, not, _&&_}
+use mathlib.Core.Bool.{Bool, true, false, not, _&&_}
 use lib.Dec.{eqb}
 use Rattle.fields.specs.Fields.{if, quadword}
-use Rattle.fields.specs.Refusals.{outOfRange, directUnaligned}
+use Rattle.fields.specs.Refusals.{outOfRange, directUnaligned, mpgUnaligned}
 use Rattle.gif.specs.declared.Path.{Path}
 use Rattle.gif.specs.declared.GifAnswer.{GifAnswer}
 use Rattle.gif.specs.declared.GifAnswer.the-variants.{Taken, Refused as GifRefused}
@@ -66,6 +66,13 @@ wordIn (Word1 a) = a
 wordIn (Word2 a) = a
 wordIn (Word3 a) = a
 
+-- whether it is word 1 or 3 of its quadword
+abbrev pub oddWord : Incoming → Bool
+oddWord (Word0 a b c d) = false
+oddWord (Word1 a) = true
+oddWord (Word2 a) = false
+oddWord (Word3 a) = true
+
 -- a refused step changes nothing
 abbrev pub refused : ℕ → Vif → Path → ℕ → Lent → Left
 refused n v p used m = leaves (Refused n) v p used m
@@ -104,14 +111,25 @@ afterUnpack x v p f u word used m =
 unfoldable pub unpackStep : VifUnit → Vif → Path → Format → Unpacking → ℕ → ℕ → Lent → Left
 unpackStep which v p f u word used m = afterUnpack (unpackWritten which v f u word (m .mem)) v p f u word used m
 
+-- request 5: "The first payload word of an MPG must be word 0 or 2 of its quadword. An MPG whose first payload word was taken may go on from any word": of k
+-- instructions the first word is due while all k + k words are
+unfoldable pub mpgRefused : ℕ → ℕ → Incoming → Bool
+mpgRefused k due n = eqb due (k + k) && oddWord n
+
+-- a payload word of MPG
+unfoldable pub mpgStep : VifUnit → Vif → Path → ℕ → ℕ → ℕ → Bool → Incoming → ℕ → Lent → Left
+mpgStep which v p a k due i n used m =
+    if (mpgRefused k due n) (refused mpgUnaligned v p used m)
+    (leaves (Word (completes due i)) (mpgWord v a k due i) p used
+    (lent (m .mem) (mpgStored (instructions which) a k due (wordIn n) (m .code)) (m .log)))
+
 -- by the code that waits
 abbrev pub stepBy : VifUnit → Waiting → Vif → Path → Incoming → ℕ → Lent → Left
 stepBy which Nothing v p n used m = codeStep which v p (wordIn n) used m
 stepBy which (MaskDue i) v p n used m = leaves (Word i) (maskWord v (wordIn n)) p used m
 stepBy which (RowDue due i) v p n used m = leaves (Word (completes due i)) (rowWord v due i (wordIn n)) p used m
 stepBy which (ColDue due i) v p n used m = leaves (Word (completes due i)) (colWord v due i (wordIn n)) p used m
-stepBy which (MpgDue a k due i) v p n used m =
-    leaves (Word (completes due i)) (mpgWord v a k due i) p used (lent (m .mem) (mpgStored (instructions which) a k due (wordIn n) (m .code)) (m .log))
+stepBy which (MpgDue a k due i) v p n used m = mpgStep which v p a k due i n used m
 stepBy which (DirectDue due i) v p n used m = directStep n v p due i (DirectDue (due - 1) i) used m
 stepBy which (DirecthlDue due i) v p n used m = directStep n v p due i (DirecthlDue (due - 1) i) used m
 stepBy which (UnpackDue f u) v p n used m = unpackStep which v p f u (wordIn n) used m

@@ -2,12 +2,14 @@
 use super::Vif;
 use super::Waiting;
 use super::WordsResult;
+use super::mpg::mpg_refused;
 use super::mpg::store_mpg;
 use super::registers::with_row;
 use super::registers::with_waiting;
 use super::registers::write_registers;
 use super::step::direct_rest;
 use super::step::directhl_rest;
+use super::words::incoming_at;
 use fields::word_at;
 use gif::Path;
 use gif::QuadwordsResult;
@@ -15,7 +17,7 @@ use memories::VifUnit;
 use unpack::Format;
 use unpack::Unpacking;
 ghost use mathlib.Core.Path.{_≡_};
-ghost use mathlib.Core.Bool.{true};
+ghost use mathlib.Core.Bool.{true, false};
 ghost use mathlib.Core.List.{List};
 ghost use Prim.Native.Nat.{ℕ, _+_, _*_, _-_, _%_, _^_, _<_, _≤_};
 ghost use lib.ListN.{length};
@@ -24,6 +26,8 @@ ghost use Rattle.memories.specs.Units.{quadwords, instructions, dataWords, code
 ghost use Rattle.memories.specs.Lengths.{lent};
 ghost use Rattle.vif.specs.declared.Waiting.the-variants.{MpgDue, UnpackDue};
 ghost use Rattle.vif.specs.Setters.{withWaiting};
+ghost use Rattle.vif.specs.Words.{incomingAt};
+ghost use Rattle.vif.specs.Step.{mpgRefused};
 ghost use Rattle.vif.specs.Range.{unitInRange};
 ghost use Rattle.vif.specs.Feeds.{fed};
 ghost use Rattle.vif.specs.Inner.{UnpackReady, MpgReady, Leads, Quadwords, Going, Bursts, takenWith};
@@ -116,7 +120,7 @@ fn mpg_words(
     code: &mut [u8],
 ) -> Vif
     requires { ⌜ (unit .waiting ≡ MpgDue address count due interrupt) × MpgReady (instructions which) address count due (now code)
-        × (n < due) × (a + 4 * n ≤ 1048576) ⌝ }
+        × (mpgRefused count due (incomingAt (now main) a) ≡ false) × (n < due) × (a + 4 * n ≤ 1048576) ⌝ }
     ensures { λ r. ⌜ ((p : PathT) (used : ℕ) (mem log : List ℕ)
         → Leads which (now (main .entry)) a n n (fed unit p used (lent mem (now (code .entry)) log))
         (fed r p used (lent mem (now (code .exit)) log))) ⌝ }
@@ -202,7 +206,7 @@ fn unpack_burst(
     with_words(s, after, n)
 }
 
-// Payload words of MPG.
+// Payload words of MPG; none where the first of them is refused.
 fn mpg_burst(
     which: VifUnit,
     s: WordsResult,
@@ -227,8 +231,11 @@ fn mpg_burst(
     else {
         return s;
     };
-    let n = at_once(due, count - s.words, limit - s.steps);
     let at = a + 4 * s.words;
+    if mpg_refused(num, due, incoming_at(main, at)) {
+        return s;
+    }
+    let n = at_once(due, count - s.words, limit - s.steps);
     let after = mpg_words(which, unit, address, num, due, interrupt, main, at, n, code);
     with_words(s, after, n)
 }

@@ -1,11 +1,35 @@
 // MPG: words stored to code memory.
+use super::Incoming;
 ghost use mathlib.Core.Path.{_≡_};
 ghost use Prim.Native.Nat.{_+_, _*_, _%_, _≤_};
 ghost use lib.ListN.{length};
 ghost use lib.Seq.{sets};
 ghost use Rattle.vif.specs.Payload.{bytesOf, wordPlace, mpgStored};
 ghost use Rattle.vif.specs.Codes.{mpgAddresses, mpgAddressMost};
+ghost use Rattle.vif.specs.Step.{oddWord, mpgRefused};
 ghost use Rattle.vif.specs.Inner.{MpgReady};
+
+fn odd_word(next: Incoming) -> bool
+    ensures { λ r. ⌜ r ≡ oddWord next ⌝ }
+{
+    match next {
+        Incoming::Word0(_, _, _, _) => false,
+        Incoming::Word1(_) => true,
+        Incoming::Word2(_) => false,
+        Incoming::Word3(_) => true,
+    }
+}
+
+// Whether the first word is due and the next word is word 1 or 3 of its quadword.
+pub(crate) fn mpg_refused(count: u32, due: u32, next: Incoming) -> bool
+    requires { ⌜ count ≤ 256 ⌝ }
+    ensures { λ r. ⌜ r ≡ mpgRefused count due next ⌝ }
+{
+    if due == count + count {
+        return odd_word(next);
+    }
+    false
+}
 
 fn store_word(code: &mut [u8], at: usize, word: u32)
     requires { ⌜ at + 4 ≤ length (now code) ⌝ }

@@ -6,6 +6,7 @@ use super::VifResult;
 use super::Waiting;
 use super::direct::direct;
 use super::execute::take_code;
+use super::mpg::mpg_refused;
 use super::mpg::store_mpg;
 use super::payload::answered;
 use super::payload::col_word;
@@ -36,8 +37,8 @@ ghost use Rattle.vif.specs.Range.{unitInRange};
 ghost use Rattle.unpack.specs.Step.{holds};
 ghost use Rattle.vif.specs.declared.VifAnswer.the-variants.{Word};
 ghost use Rattle.vif.specs.declared.Waiting.the-variants.{DirectDue, DirecthlDue};
-ghost use Rattle.vif.specs.Payload.{completes, rowWord, colWord, mpgStored, mpgWord, unpackUnit};
-ghost use Rattle.vif.specs.Step.{answers, left, wordIn, codeStep, unpackStep, vifStep, takeOf};
+ghost use Rattle.vif.specs.Payload.{completes, rowWord, colWord, mpgWord, unpackUnit};
+ghost use Rattle.vif.specs.Step.{answers, left, wordIn, codeStep, mpgStep, unpackStep, vifStep, takeOf};
 ghost use Rattle.vif.specs.Inner.{CodeReady, UnpackReady, MpgReady, StepReady};
 
 fn word_in(next: Incoming) -> u32
@@ -155,18 +156,26 @@ fn mpg_step(
     count: u32,
     due: u32,
     interrupt: bool,
-    word: u32,
+    next: Incoming,
     unit: Vif,
     path2: Path,
     code: &mut [u8],
     used: u64,
 ) -> VifResult
     requires { ⌜ MpgReady (instructions which) address count due (now code) ⌝ }
-    ensures { λ r. ⌜ (r ≡ answers (Word (completes due interrupt)) (mpgWord unit address count due interrupt) path2 used)
-        × (now (code .exit) ≡ mpgStored (instructions which) address count due word (now (code .entry))) ⌝ }
+    ensures { λ r. ⌜ ((mem log : List ℕ) → left r (lent mem (now (code .exit)) log)
+        ≡ mpgStep which unit path2 address count due interrupt next used (lent mem (now (code .entry)) log)) ⌝ }
 {
+    if mpg_refused(count, due, next) {
+        return answered(
+            VifAnswer::Refused(refusals::MPG_UNALIGNED),
+            unit,
+            path2,
+            used,
+        );
+    }
     let size = instructions(which);
-    store_mpg(size, address, count, due, word, code);
+    store_mpg(size, address, count, due, word_in(next), code);
     let after = mpg_unit(unit, address, count, due, interrupt);
     answered(
         VifAnswer::Word(completed(due, interrupt)),
@@ -225,7 +234,7 @@ pub(crate) fn step(
             count,
             due,
             interrupt: i,
-        } => mpg_step(which, address, count, due, i, word, unit, path2, code, used),
+        } => mpg_step(which, address, count, due, i, next, unit, path2, code, used),
         Waiting::DirectDue { due, interrupt: i } => {
             direct(next, unit, path2, due, i, direct_rest(due, 1, i), log, used)
         }

@@ -46,10 +46,11 @@ loop-again c =
     let stored = c .before .before in
     let turn = stored .before .before .before .before in
     let q = turn .loop .inv in
+    let h = turn .before .before .before .before .pre in
     record {
       lengths = stored .store-mpg .kept .1 .1 .1 .1 .1 .0 ∙ q .lengths;
       few = omega arith;
-      leads = λ which e p used mem log. mpg-more (turn .before .before .before .before .args .unit) _ _ _ which e (omega arith) (stored .before .before .word-at .ensures) (stored .store-mpg .ensures) (q .leads which e p used mem log);
+      leads = λ which e p used mem log. mpg-more (turn .before .before .before .before .args .unit) _ _ _ which e (h .2) (h .1 .due-most) (omega arith) (stored .before .before .word-at .ensures) (stored .store-mpg .ensures) (q .leads which e p used mem log);
     }
 
 returns : tie.Need-returns Inv-loop μ-loop

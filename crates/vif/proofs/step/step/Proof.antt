@@ -70,8 +70,7 @@ mpg : tie.Need-returns-5
 unfolding vifStep
 mpg c =
     let told = c .before .before .before .before .before in
-    let e = c .before .before .mpg-step .ensures in
-    by-waiting _ (told .waiting4 .given .1) _ _ _ _ _ (rw (e .0, e .1, told .before .before .word-in .ensures))
+    by-waiting _ (told .waiting4 .given .1) _ _ _ _ _ (c .before .before .mpg-step .ensures _ _)
 
 direct : tie.Need-returns-6
 unfolding vifStep
