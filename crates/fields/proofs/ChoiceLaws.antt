@@ -24,6 +24,10 @@ unfolding if
 if-zero true n h e = absurd (omega arith)
 if-zero false n h e = (refl, e)
 
+pub and-false : (a : Bool) → (a && false) ≡ false
+and-false true = refl
+and-false false = refl
+
 pub and-left : (a b : Bool) → (a && b) ≡ true → a ≡ true
 and-left true b h = refl
 and-left false b h = h

@@ -1,15 +1,22 @@
 -- Counts added.
 use mathlib.Core.Path.{_≡_}
-use Prim.Native.Nat.{_+_}
+use mathlib.Core.Bool.{Bool, true, false}
+use Prim.Native.Nat.{ℕ, _+_, _≤_}
 use native.Mathlib.Omega.{arith}
+use native.Mathlib.Nat.{zero-add, add-zero, add-assoc}
 use Rattle.fields.specs.declared.Counts.{Counts}
-use Rattle.fields.specs.Counts.{none, plus}
+use Rattle.fields.specs.Counts.{oneIf, none, plus}
+
+pub one-most : {n : ℕ} (b : Bool) → n ≡ oneIf b → n ≤ 1
+unfolding oneIf
+one-most true e = omega arith
+one-most false e = omega arith
 
 pub plus-none : (a : Counts) → plus a none ≡ a
-plus-none a = rw (let z : a .steps + 0 ≡ a .steps = omega arith in z)
+plus-none a = rw (add-zero (a .steps), add-zero (a .packets))
 
 pub none-plus : (a : Counts) → plus none a ≡ a
-none-plus a = rw (let z : 0 + a .steps ≡ a .steps = omega arith in z)
+none-plus a = rw (zero-add (a .steps), zero-add (a .packets))
 
 pub plus-plus : (a b c : Counts) → plus (plus a b) c ≡ plus a (plus b c)
-plus-plus a b c = rw (let z : a .steps + b .steps + c .steps ≡ a .steps + (b .steps + c .steps) = omega arith in z)
+plus-plus a b c = rw (add-assoc (a .steps) (b .steps) (c .steps), add-assoc (a .packets) (b .packets) (c .packets))

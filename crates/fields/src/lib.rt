@@ -7,11 +7,20 @@ pub use memory::long_at;
 pub use memory::word_at;
 ghost use mathlib.Core.Path.{_≡_};
 ghost use lib.ListN.{set};
+ghost use Rattle.fields.specs.Counts.{oneIf};
 ghost use Rattle.fields.specs.Parts.{withWords};
 
 // What is counted over completed steps.
 pub struct Counts {
     pub steps: u64,
+    pub packets: u64,
+}
+
+// 1 for what is so, 0 for what is not.
+pub fn one_if(b: bool) -> u64
+    ensures { λ r. ⌜ r ≡ oneIf b ⌝ }
+{
+    if b { 1 } else { 0 }
 }
 
 fn put_word(block: &mut [u32], at: usize, word: u32)

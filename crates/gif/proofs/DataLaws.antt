@@ -13,7 +13,7 @@ use Rattle.gif.specs.declared.Path.{Path}
 use Rattle.gif.specs.declared.Entry.{Entry}
 use Rattle.gif.specs.declared.GifResult.{GifResult}
 use Rattle.fields.specs.Fields.{if, bits, quadword}
-use Rattle.gif.specs.Tag.{pathOf, placeAfter, takenOf, descriptorAt}
+use Rattle.gif.specs.Tag.{pathOf, placeAfter, takenOf, descriptorAt, dataCloses}
 use Rattle.gif.specs.Packed.{packedWrites, packedQ}
 use Rattle.gif.specs.Reglist.{reglistWrite, reglistWrites, reglistRefused}
 use Rattle.gif.specs.Step.{Left, left, refused, refusedResult, commit, packedWith, packedStep, reglistStep, dataStep, stepAt}
@@ -25,9 +25,10 @@ module _ (p : Path) (t : HeldTag) (quad used : ℕ) (log : List ℕ) {k d : ℕ}
   packed-refused h e = simp (← ek, ← ed, eq-eqb _ _ h, e)
 
   pub packed-taken : (d ≡ 11 → ⊥) → {w : Place} {q : ℕ} {es : List Entry} {o : Left} → w ≡ placeAfter t → q ≡ packedQ d (p .q) quad
-      → es ≡ packedWrites d (p .q) quad → o ≡ commit p (pathOf q w) es used log → o ≡ packedStep p t quad used log
+      → {closed : Bool} → closed ≡ dataCloses t → es ≡ packedWrites d (p .q) quad → o ≡ commit p (pathOf q w) closed es used log
+      → o ≡ packedStep p t quad used log
   unfolding packedWith if
-  packed-taken h ew eq ee eo = simp (← ek, ← ed, ne-eqb _ _ h, ← ew, ← eq, ← ee) eo
+  packed-taken h ew eq ec ee eo = simp (← ek, ← ed, ne-eqb _ _ h, ← ew, ← eq, ← ec, ← ee) eo
 
 -- the descriptor of a high half, that of no write where the half is dropped
 module _ (p : Path) (t : HeldTag) (low high used : ℕ) (log : List ℕ) {k d s : ℕ} (ek : k ≡ takenOf t) (ed : d ≡ descriptorAt t (2 * k))
@@ -56,10 +57,10 @@ module _ (p : Path) (t : HeldTag) (low high used : ℕ) (log : List ℕ) {k d s 
   reglist-refused h e = simp (← refused-as, h, e)
 
   pub reglist-taken : (eqb d 11 || eqb s 11) ≡ false → low < 2 ^ 64 → high < 2 ^ 64 → {w : Place} {xs : List Entry} {o : Left} → w ≡ placeAfter t
-      → xs ≡ reglistWrite d low ++ reglistWrite s high → o ≡ commit p (pathOf (p .q) w) xs used log
+      → {closed : Bool} → closed ≡ dataCloses t → xs ≡ reglistWrite d low ++ reglistWrite s high → o ≡ commit p (pathOf (p .q) w) closed xs used log
       → o ≡ reglistStep p t (quadword low high) used log
   unfolding reglistStep if
-  reglist-taken h l m ew ex eo = rw (← refused-as, h) (rw (← writes-as l m, ← ex, ← ew) eo)
+  reglist-taken h l m ew ec ex eo = rw (← refused-as, h) (rw (← writes-as l m, ← ex, ← ew, ← ec) eo)
 
 -- what holds at the format or the place that an arm knows holds at the value itself
 pub by-format : {f g : TagFormat} → f ≡ g → (p : Path) (t : HeldTag) (quad used : ℕ) (log : List ℕ) {o : Left} → o ≡ dataStep g p t quad used log

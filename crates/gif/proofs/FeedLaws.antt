@@ -1,6 +1,6 @@
 -- Quadwords given one after another: the turns, and what the tests give.
 use mathlib.Core.Path.{_≡_, refl, sym, ap, _∙_}
-use mathlib.Core.Bool.{true, false, not}
+use mathlib.Core.Bool.{Bool, true, false, not}
 use mathlib.Core.List.{List}
 use Prim.Native.Nat.{ℕ, zero, suc, _+_, _*_, _-_, _<_, _≤_}
 use native.Mathlib.Nat.{zero-add, add-zero, add-assoc, sub-zero, mul-zero}
@@ -9,6 +9,7 @@ use native.Mathlib.Omega.{arith}
 use borrow.Author.Tests.{leb-true, ne-eqb, not-false}
 use lib.ListN.{length}
 use lib.Dec.{leb}
+use Rattle.fields.specs.Counts.{oneIf}
 use Rattle.fields.specs.Fields.{if, quadword}
 use Rattle.fields.specs.Refusals.{logLength, outOfRange, payloadOutside}
 use Rattle.fields.specs.Memory.{longAt, quadwordAt, inside}
@@ -31,7 +32,7 @@ by-answer : {x y : GifAnswer} → x ≡ y → (f : Path → ℕ → List ℕ →
 by-answer q f o p used log h = rw q h
 
 module _ (main : List ℕ) (a : ℕ) (p : Path) (used : ℕ) (log : List ℕ) where
-  pub feeds-none : (n : ℕ) → n ≡ 0 → feedsOf main a n p used log ≡ fed p used log 0 Taken
+  pub feeds-none : (n : ℕ) → n ≡ 0 → feedsOf main a n p used log ≡ fed p used log 0 0 0
   unfolding feedsOf
   feeds-none n z = rw z
 
@@ -41,10 +42,10 @@ module _ (main : List ℕ) (a : ℕ) (p : Path) (used : ℕ) (log : List ℕ) wh
     unfolding feedsOf
     one-turn = rw (z, ← e)
 
-    pub feeds-taken : o .answer ≡ Taken → feedsOf main a n p used log ≡ oneMore (feedsOf main (a + 16) n′ (o .path) (o .used) (o .log))
+    pub feeds-taken : {c : Bool} → o .answer ≡ Taken c → feedsOf main a n p used log ≡ oneMore c (feedsOf main (a + 16) n′ (o .path) (o .used) (o .log))
     feeds-taken q = one-turn ∙ by-answer q (feedsOf main (a + 16) n′) o p used log refl
 
-    pub feeds-refused : {m : ℕ} → o .answer ≡ Refused m → feedsOf main a n p used log ≡ fed p used log 0 (Refused m)
+    pub feeds-refused : {m : ℕ} → o .answer ≡ Refused m → feedsOf main a n p used log ≡ fed p used log 0 0 m
     feeds-refused q = one-turn ∙ by-answer q (feedsOf main (a + 16) n′) o p used log refl
 
 -- a step of the quadword that lies at an address
@@ -54,16 +55,16 @@ at-quadword main a el eh p used log e = rw (← el, ← eh) e
 
 -- ---- quadwords that lead on
 
-pub leads-none : {main : List ℕ} {a used : ℕ} {p : Path} {log : List ℕ} → Leads main a 0 p used log p used log
+pub leads-none : {main : List ℕ} {a used : ℕ} {p : Path} {log : List ℕ} → Leads main a 0 0 p used log p used log
 leads-none {main} {a} {used} {p} {log} =
     record {
-      goes = λ c. rw (zero-add c, add-zero a, zero-add (feedsOf main a c p used log .taken));
+      goes = λ c. rw (zero-add c, add-zero a, zero-add (feedsOf main a c p used log .taken), zero-add (feedsOf main a c p used log .packets));
       stays = λ f. f;
     }
 
 -- a quadword that is taken
-pub leads-one : {main : List ℕ} {a used : ℕ} {p : Path} {log : List ℕ} {o : Left} → o ≡ gifStep p (quadwordAt main a) used log → o .answer ≡ Taken
-    → Leads main a 1 p used log (o .path) (o .used) (o .log)
+pub leads-one : {main : List ℕ} {a used : ℕ} {p : Path} {log : List ℕ} {o : Left} {k : Bool} → o ≡ gifStep p (quadwordAt main a) used log
+    → o .answer ≡ Taken k → Leads main a 1 (oneIf k) p used log (o .path) (o .used) (o .log)
 leads-one {main} {a} {used} {p} {log} {o} e q =
     record {
       goes =
@@ -74,15 +75,15 @@ leads-one {main} {a} {used} {p} {log} {o} e q =
     }
 
 -- quadwords, and then more of them
-pub leads-then : {main : List ℕ} {a i j u v w : ℕ} {p q r : Path} {l m n : List ℕ} → Leads main a i p u l q v m → Leads main (a + 16 * i) j q v m r w n
-    → Leads main a (i + j) p u l r w n
-leads-then {main} {a} {i} {j} {u} {v} {w} {p} {q} {r} {l} {m} {n} x y =
+pub leads-then : {main : List ℕ} {a i j k h u v w : ℕ} {p q r : Path} {l m n : List ℕ} → Leads main a i k p u l q v m → Leads main (a + 16 * i) j h q v m r w n
+    → Leads main a (i + j) (k + h) p u l r w n
+leads-then {main} {a} {i} {j} {k} {h} {u} {v} {w} {p} {q} {r} {l} {m} {n} x y =
     record {
       goes =
           λ c.
           let b : a + 16 * i + 16 * j ≡ a + 16 * (i + j) = omega arith in
-          let t = feedsOf main (a + 16 * (i + j)) c r w n .taken in
-          rw (add-assoc i j c) (x .goes (j + c) ∙ ap (plus i) (y .goes c) ∙ rw (b, add-assoc i j t));
+          let x′ = feedsOf main (a + 16 * (i + j)) c r w n in
+          rw (add-assoc i j c) (x .goes (j + c) ∙ ap (plus i k) (y .goes c) ∙ rw (b, add-assoc i j (x′ .taken), add-assoc k h (x′ .packets)));
       stays = λ f. y .stays (x .stays f);
     }
 
@@ -90,32 +91,34 @@ leads-then {main} {a} {i} {j} {u} {v} {w} {p} {q} {r} {l} {m} {n} x y =
 
 module _ (main : List ℕ) (a count : ℕ) (p : Path) (used : ℕ) (log : List ℕ) where
   -- before the first quadword all of them are left
-  pub feeds-begin : plus 0 (feedsOf main (a + 16 * 0) (count - 0) p used log) ≡ feedsOf main a count p used log
-  feeds-begin = rw (mul-zero, add-zero, sub-zero, zero-add)
+  pub feeds-begin : plus 0 0 (feedsOf main (a + 16 * 0) (count - 0) p used log) ≡ feedsOf main a count p used log
+  feeds-begin =
+      let x = feedsOf main a count p used log in
+      rw (mul-zero, add-zero, sub-zero, zero-add (x .taken), zero-add (x .packets))
 
-  module _ (k : ℕ) {w : Fed} (i : plus k (feedsOf main (a + 16 * k) (count - k) p used log) ≡ w) where
-    pub ends-all : count ≤ k → fed p used log k Taken ≡ w
+  module _ (k c : ℕ) {w : Fed} (i : plus k c (feedsOf main (a + 16 * k) (count - k) p used log) ≡ w) where
+    pub ends-all : count ≤ k → fed p used log k c 0 ≡ w
     ends-all l =
         let z : count - k ≡ 0 = omega arith in
-        sym (ap (plus k) (feeds-none main (a + 16 * k) p used log (count - k) z) ∙ rw add-zero) ∙ i
+        sym (ap (plus k c) (feeds-none main (a + 16 * k) p used log (count - k) z) ∙ rw (add-zero k, add-zero c)) ∙ i
 
     -- quadwords that lead on
-    pub goes-on : (n : ℕ) → k + n ≤ count → {p′ : Path} {used′ : ℕ} {log′ : List ℕ} → Leads main (a + 16 * k) n p used log p′ used′ log′
-        → plus (k + n) (feedsOf main (a + 16 * (k + n)) (count - (k + n)) p′ used′ log′) ≡ w
-    goes-on n l {p′} {used′} {log′} h =
-        let c : n + (count - (k + n)) ≡ count - k = omega arith in
+    pub goes-on : (n h : ℕ) → k + n ≤ count → {p′ : Path} {used′ : ℕ} {log′ : List ℕ} → Leads main (a + 16 * k) n h p used log p′ used′ log′
+        → plus (k + n) (c + h) (feedsOf main (a + 16 * (k + n)) (count - (k + n)) p′ used′ log′) ≡ w
+    goes-on n h l {p′} {used′} {log′} g =
+        let m : n + (count - (k + n)) ≡ count - k = omega arith in
         let b : a + 16 * k + 16 * n ≡ a + 16 * (k + n) = omega arith in
-        let t = feedsOf main (a + 16 * (k + n)) (count - (k + n)) p′ used′ log′ .taken in
-        sym (ap (plus k) (rw c at (h .goes (count - (k + n)))) ∙ rw (b, add-assoc k n t)) ∙ i
+        let x = feedsOf main (a + 16 * (k + n)) (count - (k + n)) p′ used′ log′ in
+        sym (ap (plus k c) (rw m at (g .goes (count - (k + n)))) ∙ rw (b, add-assoc k n (x .taken), add-assoc c h (x .packets))) ∙ i
 
     pub ends-refused : k < count → {low high : ℕ} → low ≡ longAt main (a + 16 * k) → high ≡ longAt main (a + 16 * k + 8)
         → {r : GifResult} {log′ : List ℕ} → left r log′ ≡ gifStep p (quadword low high) used log
-        → {m : ℕ} → r .answer ≡ Refused m → entrySize * used ≤ length log → fed p used log′ k (Refused m) ≡ w
+        → {m : ℕ} → r .answer ≡ Refused m → entrySize * used ≤ length log → fed p used log′ k c m ≡ w
     ends-refused l {low} {high} el eh {r} {log′} e {m} q h =
-        let c : count - k ≡ suc (count - (k + 1)) = omega arith in
+        let d : count - k ≡ suc (count - (k + 1)) = omega arith in
         let s : log′ ≡ log = ap (λ (o : Left). o .log) (rw (← e) at (step-wrote p used log h (quadword low high) .same m) q) in
         rw s
-        (sym (ap (plus k) (feeds-refused main (a + 16 * k) p used log (count - k) (count - (k + 1)) c (at-quadword main (a + 16 * k) el eh p used log e) q) ∙ rw add-zero) ∙ i)
+        (sym (ap (plus k c) (feeds-refused main (a + 16 * k) p used log (count - k) (count - (k + 1)) d (at-quadword main (a + 16 * k) el eh p used log e) q) ∙ rw (add-zero k, add-zero c)) ∙ i)
 
 -- a step keeps what the next one asks of the log
 pub next-log-fits : (p : Path) (quad used : ℕ) (log : List ℕ) {r : GifResult} {log′ : List ℕ} → left r log′ ≡ gifStep p quad used log
@@ -148,7 +151,7 @@ module _ (main : List ℕ) (a n : ℕ) (p : Path) (used : ℕ) (log : List ℕ) 
   unfolding feedOf if
   fed-tested z e = rw (sym t ∙ z) e
 
-  pub fed-none : (r ≡ 0 → ⊥) → fed p used log 0 (Refused r) ≡ feedOf main a n p used log
+  pub fed-none : (r ≡ 0 → ⊥) → fed p used log 0 0 r ≡ feedOf main a n p used log
   unfolding feedOf if
   fed-none h = rw (← t, ne-eqb r 0 h)
 
@@ -162,16 +165,16 @@ feed-tested main a n p used log i l g = rw (l, g, i)
 
 -- as many quadwords as were taken, from address a on, each taken by a step of its own, lead to what is left
 pub data Takes (main : List ℕ) : ℕ → Path → ℕ → List ℕ → Fed → Type 0 where
-  none : {a used : ℕ} {p : Path} {log : List ℕ} {g : GifAnswer} → Takes main a p used log (fed p used log 0 g)
-  more : {a used : ℕ} {p : Path} {log : List ℕ} {x : Fed} → gifStep p (quadwordAt main a) used log .answer ≡ Taken
+  none : {a used r : ℕ} {p : Path} {log : List ℕ} → Takes main a p used log (fed p used log 0 0 r)
+  more : {a used : ℕ} {p : Path} {log : List ℕ} {x : Fed} {c : Bool} → gifStep p (quadwordAt main a) used log .answer ≡ Taken c
       → Takes main (a + 16) (gifStep p (quadwordAt main a) used log .path) (gifStep p (quadwordAt main a) used log .used)
       (gifStep p (quadwordAt main a) used log .log) x
-      → Takes main a p used log (oneMore x)
+      → Takes main a p used log (oneMore c x)
 
 -- by the answer to a quadword
 answer-ind : (P : Fed → Type 0) (f : Path → ℕ → List ℕ → Fed) (g : GifAnswer) (o : Left) (p : Path) (used : ℕ) (log : List ℕ)
-    → (g ≡ Taken → P (oneMore (f (o .path) (o .used) (o .log)))) → ((m : ℕ) → g ≡ Refused m → P (fed p used log 0 (Refused m))) → P (afterQuadword f g o p used log)
-answer-ind P f Taken o p used log t r = t refl
+    → ((c : Bool) → g ≡ Taken c → P (oneMore c (f (o .path) (o .used) (o .log)))) → ((m : ℕ) → g ≡ Refused m → P (fed p used log 0 0 m)) → P (afterQuadword f g o p used log)
+answer-ind P f (Taken c) o p used log t r = t c refl
 answer-ind P f (Refused m) o p used log t r = r m refl
 
 pub feeds-quadwords : (main : List ℕ) (a n : ℕ) (p : Path) (used : ℕ) (log : List ℕ) → Takes main a p used log (feedsOf main a n p used log)
@@ -180,7 +183,7 @@ feeds-quadwords main a zero p used log = none
 feeds-quadwords main a (suc n) p used log =
     let o = gifStep p (quadwordAt main a) used log in
     answer-ind (Takes main a p used log) (feedsOf main (a + 16) n) (o .answer) o p used log
-    (λ e. more e (feeds-quadwords main (a + 16) n (o .path) (o .used) (o .log)))
+    (λ c e. more e (feeds-quadwords main (a + 16) n (o .path) (o .used) (o .log)))
     (λ m e. none)
 
 -- what the public function leaves, for any input
@@ -198,12 +201,12 @@ feeds-few main a zero p used log = record { few = omega arith }
 feeds-few main a (suc n) p used log =
     let o = gifStep p (quadwordAt main a) used log in
     let h = feeds-few main (a + 16) n (o .path) (o .used) (o .log) .few in
-    answer-ind (Few (suc n)) (feedsOf main (a + 16) n) (o .answer) o p used log (λ e. record { few = omega arith }) (λ m e. record { few = omega arith })
+    answer-ind (Few (suc n)) (feedsOf main (a + 16) n) (o .answer) o p used log (λ c e. record { few = omega arith }) (λ m e. record { few = omega arith })
 
 pub feed-few : (main : List ℕ) (a n : ℕ) (p : Path) (used : ℕ) (log : List ℕ) {x : Fed} → x ≡ feedOf main a n p used log → x .taken ≤ n
 unfolding feedOf
 feed-few main a n p used log e =
-    let z : Few n (fed p used log 0 (Refused (feedRefusal main a n p used log))) = record { few = omega arith } in
+    let z : Few n (fed p used log 0 0 (feedRefusal main a n p used log)) = record { few = omega arith } in
     rw e (if-ind (Few n) _ (feeds-few main a n p used log) z .few)
 
 -- the path stays in range, and the log's length and its room for the entries stay

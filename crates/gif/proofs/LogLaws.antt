@@ -51,13 +51,13 @@ entries-below n used h = go (ltb n (entrySize * used)) refl
     go true e = let l = ltb-true n (entrySize * used) e in lt-ltb (n / entrySize) used (omega arith)
     go false e = let l = ltb-false n (entrySize * used) e in le-ltb (n / entrySize) used (omega arith)
 
-module _ (p after : Path) (es : List Entry) (used : ℕ) (log : List ℕ) {n : ℕ} (k : n ≡ length es) where
-  pub commit-full : length log < entrySize * (used + n) → refused logFull p used log ≡ commit p after es used log
+module _ (p after : Path) (closed : Bool) (es : List Entry) (used : ℕ) (log : List ℕ) {n : ℕ} (k : n ≡ length es) where
+  pub commit-full : length log < entrySize * (used + n) → refused logFull p used log ≡ commit p after closed es used log
   unfolding commit lacksRoom if
   commit-full h = simp (lt-ltb _ _ (rw k at h))
 
   pub commit-fits : HasRoom log used n → {m : List ℕ} → m ≡ logged log used es
-      → _≡_ {A = Left} (record { answer = Taken; number = 0; path = after; used = used + n; log = m }) (commit p after es used log)
+      → _≡_ {A = Left} (record { answer = Taken closed; number = 0; path = after; used = used + n; log = m }) (commit p after closed es used log)
   unfolding commit lacksRoom if
   commit-fits h e = simp (le-ltb _ _ (rw k at h), e, k)
 

@@ -17,13 +17,13 @@ use Rattle.gif.specs.declared.Path.{Path}
 use Rattle.gif.specs.declared.GifAnswer.the-variants.{Taken, Refused}
 use Rattle.fields.specs.Fields.{if, bits, quadword}
 use Rattle.gif.specs.Log.{entrySize, HasRoom, logged, lacksRoom}
-use Rattle.gif.specs.Tag.{pathOf, formatOf, nregOf, quadwordsOf, tagOf, tagQ, tagWrites, takenOf, descriptorAt, placeAfter, placeAtTag, withDue}
+use Rattle.gif.specs.Tag.{pathOf, formatOf, nregOf, quadwordsOf, tagOf, tagQ, tagWrites, takenOf, descriptorAt, placeAfter, placeAtTag, eopOf, tagCloses, dataCloses}
 use Rattle.gif.specs.Packed.{packedWrites, packedQ}
 use Rattle.gif.specs.Step.{Left, commit, tagStep, packedWith, packedStep, stepAt, gifStep}
-use Rattle.gif.specs.Run.{gifRun, sheetTag, addressData, addressDatas}
+use Rattle.gif.specs.Run.{sheetTag, addressData}
 use Rattle.fields.proofs.FieldLaws.{whole-high}
 use Rattle.gif.proofs.TagLaws.{flg-at, nreg-at, nloop-at, pre-at, eop-at}
-use Rattle.gif.proofs.LogLaws.{logged-then, logged-length}
+use Rattle.fields.proofs.ChoiceLaws.{and-false}
 
 -- a sheet's tag with some of its data due
 abbrev pub sheetHeld : ℕ → ℕ → HeldTag
@@ -34,14 +34,14 @@ abbrev pub sheetPlace : ℕ → ℕ → Place
 sheetPlace n zero = Idle
 sheetPlace n (suc k) = Data (sheetHeld n (suc k))
 
-abbrev pub took : Path → ℕ → List ℕ → Left
-took p used log = record { answer = Taken; number = 0; path = p; used = used; log = log }
+abbrev pub took : Bool → Path → ℕ → List ℕ → Left
+took closed p used log = record { answer = Taken closed; number = 0; path = p; used = used; log = log }
 
 -- a step's writes that fit
-pub commit-room : (p after : Path) (es : List Entry) (used : ℕ) (log : List ℕ) → HasRoom log used (length es)
-    → commit p after es used log ≡ took after (used + length es) (logged log used es)
+pub commit-room : (p after : Path) (closed : Bool) (es : List Entry) (used : ℕ) (log : List ℕ) → HasRoom log used (length es)
+    → commit p after closed es used log ≡ took closed after (used + length es) (logged log used es)
 unfolding commit lacksRoom if
-commit-room p after es used log h = simp (le-ltb _ _ h)
+commit-room p after closed es used log h = simp (le-ltb _ _ h)
 
 -- the low half of a sheet's tag
 abbrev low : ℕ → ℕ
@@ -73,13 +73,18 @@ module _ (n : ℕ) (some : 0 < n) (few : n < 32768) where
       let e : bits (sheetTag n) 46 46 ≡ 0 = pre-at (low n) 14 fits ∙ omega arith in
       simp (loops-at, ne-eqb n 0 (λ e. omega arith), e)
 
+  -- it has data, so that it closes no packet itself
+  tag-open : tagCloses (sheetTag n) ≡ false
+  unfolding tagCloses
+  tag-open = rw (loops-at, ne-eqb n 0 (λ e. omega arith)) (and-false (eopOf (sheetTag n)))
+
   -- the tag's own step writes nothing
   pub sheet-tag : (q used : ℕ) (log : List ℕ) → entrySize * used ≤ length log
-      → gifStep (pathOf q Idle) (sheetTag n) used log ≡ took (pathOf tagQ (sheetPlace n n)) used log
+      → gifStep (pathOf q Idle) (sheetTag n) used log ≡ took false (pathOf tagQ (sheetPlace n n)) used log
   unfolding gifStep tagStep logged
   sheet-tag q used log h =
-      rw (tag-silent, tag-place)
-      (commit-room _ _ [] used log (rw add-zero h) ∙ rw (add-zero, placed n some))
+      rw (tag-silent, tag-open, tag-place)
+      (commit-room _ _ false [] used log (rw add-zero h) ∙ rw (add-zero, placed n some))
     where
       placed : (m : ℕ) → 0 < m → sheetPlace n m ≡ Data (sheetHeld n m)
       placed zero l = absurd (omega arith)
@@ -96,30 +101,17 @@ module _ (n : ℕ) (some : 0 < n) (few : n < 32768) where
   unfolding descriptorAt
   descriptor-e d j = rw (mod-one j)
 
+  -- the last of them closes a packet
+  data-closed : (k : ℕ) → dataCloses (sheetHeld n (suc k)) ≡ eqb k 0
+  unfolding dataCloses
+  data-closed zero = refl
+  data-closed (suc k) = rw (ne-eqb (suc (suc k)) 1 (λ e. omega arith), ne-eqb (suc k) 0 (λ e. omega arith))
+
   -- a data quadword is one entry
   pub sheet-data : (k q quad used : ℕ) (log : List ℕ) → HasRoom log used 1
       → gifStep (pathOf q (sheetPlace n (suc k))) quad used log
-      ≡ took (pathOf q (sheetPlace n k)) (used + 1) (logged log used (addressData quad ∷ []))
+      ≡ took (eqb k 0) (pathOf q (sheetPlace n k)) (used + 1) (logged log used (addressData quad ∷ []))
   unfolding gifStep packedWith packedQ packedWrites if
   sheet-data k q quad used log h =
-      rw (descriptor-e (suc k) (takenOf (sheetHeld n (suc k))), place-next k)
-      (commit-room _ _ (addressData quad ∷ []) used log h)
-
-  pub sheet-datas : (xs : List ℕ) (q used : ℕ) (log : List ℕ) → HasRoom log used (length xs)
-      → gifRun xs (pathOf q (sheetPlace n (length xs))) used log
-      ≡ took (pathOf q Idle) (used + length xs) (logged log used (addressDatas xs))
-  unfolding gifRun logged
-  sheet-datas [] q used log h = rw add-zero
-  sheet-datas (x ∷ xs) q used log h =
-      let e : used + suc (length xs) ≡ used + 1 + length xs = omega arith in
-      rw (sheet-data (length xs) q x used log (omega arith))
-      (sheet-datas xs q (used + 1) (logged log used (addressData x ∷ [])) (rw (logged-length log used (addressData x ∷ [])) (omega arith))
-      ∙ rw (e, ← logged-then log used (addressData x ∷ []) (addressDatas xs)))
-
--- an idle path given a sheet's GIF tag and then n A+D quadwords is idle again with those n entries
-pub sheet-run : (xs : List ℕ) (q used : ℕ) (log : List ℕ) → 0 < length xs → length xs < 32768 → HasRoom log used (length xs)
-    → gifRun (sheetTag (length xs) ∷ xs) (pathOf q Idle) used log
-    ≡ took (pathOf tagQ Idle) (used + length xs) (logged log used (addressDatas xs))
-unfolding gifRun
-sheet-run xs q used log p l h =
-    rw (sheet-tag (length xs) p l q used log (omega arith)) (sheet-datas (length xs) p l xs tagQ used log h)
+      rw (descriptor-e (suc k) (takenOf (sheetHeld n (suc k))), place-next k, data-closed k)
+      (commit-room _ _ (eqb k 0) (addressData quad ∷ []) used log h)

@@ -51,9 +51,9 @@ module _ (p : Path) (used : ℕ) (log : List ℕ) (h : entrySize * used ≤ leng
         room = h;
       }
 
-  wrote-commit : (after : Path) (es : List Entry) → Wrote p used log (commit p after es used log)
+  wrote-commit : (after : Path) (closed : Bool) (es : List Entry) → Wrote p used log (commit p after closed es used log)
   unfolding commit lacksRoom
-  wrote-commit after es =
+  wrote-commit after closed es =
       if-ind-by (Wrote p used log) (ltb (length log) (entrySize * (used + length es)))
       (λ e. wrote-refused 31)
       (λ e.
@@ -67,13 +67,13 @@ module _ (p : Path) (used : ℕ) (log : List ℕ) (h : entrySize * used ≤ leng
 
   wrote-data : (f : TagFormat) (t : HeldTag) (quad : ℕ) → Wrote p used log (dataStep f p t quad used log)
   unfolding packedWith reglistStep imageStep
-  wrote-data Packed t quad = if-ind (Wrote p used log) _ (wrote-refused 30) (wrote-commit _ _)
-  wrote-data Reglist t quad = if-ind (Wrote p used log) _ (wrote-refused 30) (wrote-commit _ _)
-  wrote-data Image t quad = wrote-commit _ _
+  wrote-data Packed t quad = if-ind (Wrote p used log) _ (wrote-refused 30) (wrote-commit _ _ _)
+  wrote-data Reglist t quad = if-ind (Wrote p used log) _ (wrote-refused 30) (wrote-commit _ _ _)
+  wrote-data Image t quad = wrote-commit _ _ _
 
   wrote-at : (w : Place) (quad : ℕ) → Wrote p used log (stepAt w p quad used log)
   unfolding tagStep
-  wrote-at Idle quad = wrote-commit _ _
+  wrote-at Idle quad = wrote-commit _ _ _
   wrote-at (Data t) quad = wrote-data (t .format) t quad
 
   pub step-wrote : (quad : ℕ) → Wrote p used log (gifStep p quad used log)
@@ -122,19 +122,19 @@ record Ranged (o : Left) : Type 0 where
   held : pathInRange (o .path) ≡ true
 
 module _ (p : Path) (r : pathInRange p ≡ true) (used : ℕ) (log : List ℕ) where
-  ranged-commit : (after : Path) (es : List Entry) → pathInRange after ≡ true → Ranged (commit p after es used log)
+  ranged-commit : (after : Path) (closed : Bool) (es : List Entry) → pathInRange after ≡ true → Ranged (commit p after closed es used log)
   unfolding commit
-  ranged-commit after es h = if-ind Ranged _ (record { held = r }) (record { held = h })
+  ranged-commit after closed es h = if-ind Ranged _ (record { held = r }) (record { held = h })
 
   ranged-data : (f : TagFormat) (t : HeldTag) (quad : ℕ) → TagFits t → Ranged (dataStep f p t quad used log)
   unfolding packedWith reglistStep imageStep
-  ranged-data Packed t quad h = if-ind Ranged _ (record { held = r }) (ranged-commit _ _ (range-after t h))
-  ranged-data Reglist t quad h = if-ind Ranged _ (record { held = r }) (ranged-commit _ _ (range-after t h))
-  ranged-data Image t quad h = ranged-commit _ _ (range-after t h)
+  ranged-data Packed t quad h = if-ind Ranged _ (record { held = r }) (ranged-commit _ _ _ (range-after t h))
+  ranged-data Reglist t quad h = if-ind Ranged _ (record { held = r }) (ranged-commit _ _ _ (range-after t h))
+  ranged-data Image t quad h = ranged-commit _ _ _ (range-after t h)
 
   ranged-at : (w : Place) (quad : ℕ) → placeInRange w ≡ true → Ranged (stepAt w p quad used log)
   unfolding tagStep
-  ranged-at Idle quad h = ranged-commit _ _ (range-at-tag quad)
+  ranged-at Idle quad h = ranged-commit _ _ _ (range-at-tag quad)
   ranged-at (Data t) quad h = ranged-data (t .format) t quad (tag-fits t h)
 
   pub step-ranged : (quad : ℕ) → pathInRange (gifStep p quad used log .path) ≡ true

@@ -11,15 +11,15 @@ use Rattle.gif.specs.declared.Place.the-variants.{Idle, Data}
 use Rattle.gif.specs.declared.Path.{Path}
 use Rattle.gif.specs.Log.{HasRoom, entry}
 use Rattle.gif.specs.Range.{PlaceFits}
-use Rattle.gif.specs.Feed.{Fed, feedsOf}
+use Rattle.gif.specs.Feed.{Fed, fed, feedsOf}
 
--- what came with k quadwords before it
-abbrev pub plus : ℕ → Fed → Fed
-plus k x = record { path = x .path; used = x .used; log = x .log; taken = k + x .taken; answer = x .answer; number = x .number }
+-- what came with k quadwords before it, which closed c packets
+abbrev pub plus : ℕ → ℕ → Fed → Fed
+plus k c x = fed (x .path) (x .used) (x .log) (k + x .taken) (c + x .packets) (x .refusal)
 
--- the n quadwords from address a on lead from a path, the entries used and the log to others, whatever comes after them
-pub record Leads (main : List ℕ) (a n : ℕ) (p : Path) (used : ℕ) (log : List ℕ) (p′ : Path) (used′ : ℕ) (log′ : List ℕ) : Type 0 where
-  pub goes : (c : ℕ) → feedsOf main a (n + c) p used log ≡ plus n (feedsOf main (a + 16 * n) c p′ used′ log′)
+-- the n quadwords from address a on close c packets and lead from a path, the entries used and the log to others, whatever comes after them
+pub record Leads (main : List ℕ) (a n c : ℕ) (p : Path) (used : ℕ) (log : List ℕ) (p′ : Path) (used′ : ℕ) (log′ : List ℕ) : Type 0 where
+  pub goes : (k : ℕ) → feedsOf main a (n + k) p used log ≡ plus n c (feedsOf main (a + 16 * n) k p′ used′ log′)
   pub stays : PlaceFits (p .place) → PlaceFits (p′ .place)
 
 -- the data quadwords of IMAGE that are due before a tag's last one

@@ -1,22 +1,9 @@
--- For proofs; no promise cites these: quadwords of a list given to a path, and the GIF tag of a test sheet.
+-- For proofs; no promise cites these: the GIF tag of a test sheet and its data.
 use Prim.Native.Nat.{ℕ, _+_, _^_}
 use mathlib.Core.List.{List, [], _∷_}
 use Rattle.gif.specs.declared.Entry.{Entry}
-use Rattle.gif.specs.declared.Path.{Path}
-use Rattle.gif.specs.declared.GifAnswer.{GifAnswer}
-use Rattle.gif.specs.declared.GifAnswer.the-variants.{Taken, Refused}
 use Rattle.fields.specs.Fields.{bits, quadword}
 use Rattle.gif.specs.Log.{entry}
-use Rattle.gif.specs.Step.{Left, gifStep}
-
--- where a quadword was taken, what follows is given to what it left
-abbrev pub onward : (Path → ℕ → List ℕ → Left) → GifAnswer → Left → Left
-onward f Taken o = f (o .path) (o .used) (o .log)
-onward f (Refused n) o = o
-
-unfoldable pub gifRun : List ℕ → Path → ℕ → List ℕ → Left
-gifRun [] p used log = record { answer = Taken; number = 0; path = p; used = used; log = log }
-gifRun (x ∷ xs) p used log = onward (gifRun xs) (gifStep p x used log .answer) (gifStep p x used log)
 
 -- "a GIF tag (NLOOP n, EOP 1, NREG 1, descriptor E, rest 0)"
 unfoldable pub sheetTag : ℕ → ℕ

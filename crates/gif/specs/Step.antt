@@ -1,5 +1,6 @@
 -- One quadword taken by the GIF: a step of document 01, on one of its paths.
 use Prim.Native.Nat.{ℕ, _+_}
+use mathlib.Core.Bool.{Bool}
 use mathlib.Core.List.{List, [], _∷_}
 use lib.ListN.{length}
 use lib.Dec.{eqb}
@@ -16,7 +17,7 @@ use Rattle.gif.specs.declared.GifResult.{GifResult}
 use Rattle.fields.specs.Fields.{if, bits}
 use Rattle.fields.specs.Refusals.{logLength, outOfRange, descriptorB, logFull}
 use Rattle.gif.specs.Log.{entry, logged, lacksRoom, logRefused}
-use Rattle.gif.specs.Tag.{pathOf, placeAfter, placeAtTag, tagQ, tagWrites, takenOf, descriptorAt}
+use Rattle.gif.specs.Tag.{pathOf, placeAfter, placeAtTag, tagCloses, dataCloses, tagQ, tagWrites, takenOf, descriptorAt}
 use Rattle.gif.specs.Packed.{packedWrites, packedQ}
 use Rattle.gif.specs.Reglist.{reglistRefused, reglistWrites}
 use Rattle.gif.specs.Range.{pathInRange}
@@ -31,7 +32,7 @@ pub record Left : Type 0 where
 
 -- the number of an answer: 0 taken, else document 01's refusal number
 abbrev pub numberOf : GifAnswer → ℕ
-numberOf Taken = 0
+numberOf (Taken closed) = 0
 numberOf (Refused n) = n
 
 -- what a call left, from its result and the log afterwards
@@ -45,21 +46,22 @@ refused n p used log = record { answer = Refused n; number = n; path = p; used =
 abbrev pub refusedResult : ℕ → Path → ℕ → GifResult
 refusedResult n p used = record { answer = Refused n; path = p; used = used }
 
--- A step's writes and the path after it, all or none: "31, where the step's writes don't all fit".
-unfoldable pub commit : Path → Path → List Entry → ℕ → List ℕ → Left
-commit p after es used log =
+-- A step's writes and the path after it, all or none: "31, where the step's writes don't all fit". Request 1: "The answer to each quadword given to the GIF shall
+-- also say whether it closed a packet"
+unfoldable pub commit : Path → Path → Bool → List Entry → ℕ → List ℕ → Left
+commit p after closed es used log =
     if (lacksRoom log used es) (refused logFull p used log)
-    (record { answer = Taken; number = 0; path = after; used = used + length es; log = logged log used es })
+    (record { answer = Taken closed; number = 0; path = after; used = used + length es; log = logged log used es })
 
 -- a tag's own step
 unfoldable pub tagStep : Path → ℕ → ℕ → List ℕ → Left
-tagStep p quad used log = commit p (pathOf tagQ (placeAtTag quad)) (tagWrites quad) used log
+tagStep p quad used log = commit p (pathOf tagQ (placeAtTag quad)) (tagCloses quad) (tagWrites quad) used log
 
 -- a PACKED data quadword under its descriptor: "30 descriptor B met at its data", "then 31"
 unfoldable pub packedWith : ℕ → Path → HeldTag → ℕ → ℕ → List ℕ → Left
 packedWith d p t quad used log =
     if (eqb d 11) (refused descriptorB p used log)
-    (commit p (pathOf (packedQ d (p .q) quad) (placeAfter t)) (packedWrites d (p .q) quad) used log)
+    (commit p (pathOf (packedQ d (p .q) quad) (placeAfter t)) (dataCloses t) (packedWrites d (p .q) quad) used log)
 
 -- "PACKED (0), one quadword per descriptor": data quadword j is item j
 abbrev pub packedStep : Path → HeldTag → ℕ → ℕ → List ℕ → Left
@@ -68,12 +70,12 @@ packedStep p t quad used log = packedWith (descriptorAt t (takenOf t)) p t quad 
 unfoldable pub reglistStep : Path → HeldTag → ℕ → ℕ → List ℕ → Left
 reglistStep p t quad used log =
     if (reglistRefused t) (refused descriptorB p used log)
-    (commit p (pathOf (p .q) (placeAfter t)) (reglistWrites t quad) used log)
+    (commit p (pathOf (p .q) (placeAfter t)) (dataCloses t) (reglistWrites t quad) used log)
 
 -- "IMAGE (2, 3): NLOOP quadwords, each two writes to 54h, low half first."
 unfoldable pub imageStep : Path → HeldTag → ℕ → ℕ → List ℕ → Left
 imageStep p t quad used log =
-    commit p (pathOf (p .q) (placeAfter t)) (entry 84 (bits quad 0 63) ∷ entry 84 (bits quad 64 127) ∷ []) used log
+    commit p (pathOf (p .q) (placeAfter t)) (dataCloses t) (entry 84 (bits quad 0 63) ∷ entry 84 (bits quad 64 127) ∷ []) used log
 
 abbrev pub dataStep : TagFormat → Path → HeldTag → ℕ → ℕ → List ℕ → Left
 dataStep Packed = packedStep

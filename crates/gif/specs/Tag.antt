@@ -85,6 +85,14 @@ placeAfter t = if (eqb (t .due) 1) Idle (Data (withDue t (t .due - 1)))
 unfoldable pub placeAtTag : ℕ → Place
 placeAtTag quad = if (eqb (nloopOf quad) 0) Idle (Data (tagOf quad))
 
+-- request 1: a packet is closed by "a tag with EOP and NLOOP 0"
+unfoldable pub tagCloses : ℕ → Bool
+tagCloses quad = eopOf quad && eqb (nloopOf quad) 0
+
+-- request 1: a packet is closed by "the last data quadword of a tag with EOP"
+unfoldable pub dataCloses : HeldTag → Bool
+dataCloses t = t .eop && eqb (t .due) 1
+
 -- "Each tag sets Q to 3F800000h."
 abbrev pub tagQ : ℕ
 tagQ = 1065353216

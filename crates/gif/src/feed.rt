@@ -7,6 +7,7 @@ use super::image::image_quadwords;
 use super::log::log_refused;
 use super::range::path_in_range;
 use super::step::step;
+use fields::one_if;
 use fields::refusals;
 ghost use mathlib.Core.Path.{_≡_};
 ghost use Prim.Native.Nat.{_+_, _*_, _≤_};
@@ -14,14 +15,15 @@ ghost use Rattle.gif.specs.Log.{LogFits};
 ghost use Rattle.gif.specs.Range.{PlaceFits};
 ghost use Rattle.gif.specs.Feed.{fedBy, feedsOf, feedRefusal, feedOf, quadwordsResult};
 
-fn ended(path: Path, used: u64, taken: u32, answer: GifAnswer) -> QuadwordsResult
-    ensures { λ r. ⌜ r ≡ quadwordsResult path used taken answer ⌝ }
+fn ended(path: Path, used: u64, taken: u32, packets: u64, refusal: u32) -> QuadwordsResult
+    ensures { λ r. ⌜ r ≡ quadwordsResult path used taken packets refusal ⌝ }
 {
     QuadwordsResult {
         path,
         used,
         taken,
-        answer,
+        packets,
+        refusal,
     }
 }
 
@@ -33,6 +35,7 @@ fn feed(path: Path, main: &[u8], a: u32, count: u32, log: &mut [u64], used: u64)
     let mut p = path;
     let mut entries = used;
     let mut taken: u32 = 0;
+    let mut packets: u64 = 0;
     while taken < count {
         let n = image_at_once(p, count - taken, log, entries);
         if 0 < n {
@@ -48,15 +51,16 @@ fn feed(path: Path, main: &[u8], a: u32, count: u32, log: &mut [u64], used: u64)
         let answer = r.answer;
         let next = r.path;
         match answer {
-            GifAnswer::Taken => {
+            GifAnswer::Taken(closed) => {
                 p = next;
                 entries = r.used;
                 taken += 1;
+                packets += one_if(closed);
             }
-            GifAnswer::Refused(n) => return ended(p, entries, taken, GifAnswer::Refused(n)),
+            GifAnswer::Refused(n) => return ended(p, entries, taken, packets, n),
         }
     }
-    ended(p, entries, taken, GifAnswer::Taken)
+    ended(p, entries, taken, packets, 0)
 }
 
 // The refusal of the input, 0 for none.
@@ -90,5 +94,5 @@ pub fn take_quadwords(
     if number == 0 {
         return feed(path, main, a, count, log, used);
     }
-    ended(path, used, 0, GifAnswer::Refused(number))
+    ended(path, used, 0, 0, number)
 }

@@ -1,4 +1,4 @@
-// Data of IMAGE, many quadwords at a time: never a tag's last one, so that no tag ends here.
+// Data of IMAGE, many quadwords at a time: never a tag's last one, so that no tag ends and no packet is closed here.
 use super::ENTRY_SIZE;
 use super::Entry;
 use super::HeldTag;
@@ -74,7 +74,7 @@ pub(crate) fn image_at_once(path: Path, left: u32, log: &[u64], used: u64) -> u3
 // n data quadwords of the tag that a path holds.
 fn image_data(q: u32, tag: HeldTag, main: &[u8], a: u32, n: u32, log: &mut [u64], used: u64) -> Path
     requires { ⌜ (a + 16 * n ≤ 1048576) × LogFits (now log) used × ImageFits (Data tag) used (now log) n ⌝ }
-    ensures { λ r. ⌜ Leads (now (main .entry)) a n (pathOf q (Data tag)) used (now (log .entry)) r (used + 2 * n) (now (log .exit)) ⌝ }
+    ensures { λ r. ⌜ Leads (now (main .entry)) a n 0 (pathOf q (Data tag)) used (now (log .entry)) r (used + 2 * n) (now (log .exit)) ⌝ }
 {
     let mut k: u32 = 0;
     while k < n {
@@ -102,7 +102,7 @@ pub(crate) fn image_quadwords(
     used: u64,
 ) -> Path
     requires { ⌜ (a + 16 * n ≤ 1048576) × LogFits (now log) used × ImageFits (path .place) used (now log) n ⌝ }
-    ensures { λ r. ⌜ Leads (now (main .entry)) a n path used (now (log .entry)) r (used + 2 * n) (now (log .exit)) ⌝ }
+    ensures { λ r. ⌜ Leads (now (main .entry)) a n 0 path used (now (log .entry)) r (used + 2 * n) (now (log .exit)) ⌝ }
 {
     let place = path.place;
     match place {

@@ -59,8 +59,9 @@ pub enum Writes {
     Two(Entry, Entry),
 }
 
+// A quadword that was taken, and whether it closed a packet; or the refusal.
 pub enum GifAnswer {
-    Taken,
+    Taken(bool),
     Refused(u32),
 }
 
@@ -70,10 +71,11 @@ pub struct GifResult {
     pub used: u64,
 }
 
-// What quadwords given one after another left, how many were taken, and the answer to the next one: taken, where none is left.
+// What quadwords given one after another left, how many were taken and how many of these closed a packet, and the refusal of the next one, 0 where none is left.
 pub struct QuadwordsResult {
     pub path: Path,
     pub used: u64,
     pub taken: u32,
-    pub answer: GifAnswer,
+    pub packets: u64,
+    pub refusal: u32,
 }

@@ -47,16 +47,17 @@ pub(crate) fn store(log: &mut [u64], used: u64, writes: Writes)
     }
 }
 
-// The step's writes and its path, all or none.
+// The step's writes and its path, all or none; `closed` says whether it closes a packet.
 pub(crate) fn finish(
     path: Path,
     after: Path,
+    closed: bool,
     writes: Writes,
     log: &mut [u64],
     used: u64,
 ) -> GifResult
     requires { ⌜ LogFits (now log) used ⌝ }
-    ensures { λ r. ⌜ left r (now (log .exit)) ≡ commit path after (listed writes) used (now (log .entry)) ⌝ }
+    ensures { λ r. ⌜ left r (now (log .exit)) ≡ commit path after closed (listed writes) used (now (log .entry)) ⌝ }
 {
     let n = count(writes);
     if (log.len() as u64) < ENTRY_SIZE * (used + n) {
@@ -68,7 +69,7 @@ pub(crate) fn finish(
     }
     store(log, used, writes);
     GifResult {
-        answer: GifAnswer::Taken,
+        answer: GifAnswer::Taken(closed),
         path: after,
         used: used + n,
     }

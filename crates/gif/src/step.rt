@@ -13,9 +13,11 @@ use super::packed::packed_writes;
 use super::range::path_in_range;
 use super::reglist::halves;
 use super::reglist::second_descriptor;
+use super::tag::data_closes;
 use super::tag::descriptor_at;
 use super::tag::place_after;
 use super::tag::place_at_tag;
+use super::tag::tag_closes;
 use super::tag::tag_writes;
 use super::tag::taken;
 use fields::refusals;
@@ -45,7 +47,7 @@ fn take_tag(path: Path, low: u64, high: u64, log: &mut [u64], used: u64) -> GifR
         place,
     };
     let writes = tag_writes(low, high);
-    finish(path, after, writes, log, used)
+    finish(path, after, tag_closes(low, high), writes, log, used)
 }
 
 fn take_packed(
@@ -66,7 +68,7 @@ fn take_packed(
     let place = place_after(tag);
     let q = packed_q(descriptor, path.q, low, high);
     let writes = packed_writes(descriptor, path.q, low, high);
-    finish(path, Path { q, place }, writes, log, used)
+    finish(path, Path { q, place }, data_closes(tag), writes, log, used)
 }
 
 fn take_reglist(
@@ -91,7 +93,14 @@ fn take_reglist(
     }
     let place = place_after(tag);
     let writes = halves(first, second, low, high);
-    finish(path, Path { q: path.q, place }, writes, log, used)
+    finish(
+        path,
+        Path { q: path.q, place },
+        data_closes(tag),
+        writes,
+        log,
+        used,
+    )
 }
 
 fn take_image(
@@ -107,7 +116,14 @@ fn take_image(
 {
     let place = place_after(tag);
     let writes = image_writes(low, high);
-    finish(path, Path { q: path.q, place }, writes, log, used)
+    finish(
+        path,
+        Path { q: path.q, place },
+        data_closes(tag),
+        writes,
+        log,
+        used,
+    )
 }
 
 fn take_data(path: Path, tag: HeldTag, low: u64, high: u64, log: &mut [u64], used: u64) -> GifResult

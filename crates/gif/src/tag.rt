@@ -9,7 +9,7 @@ ghost use Prim.Native.Nat.{_≤_};
 ghost use Rattle.fields.specs.Fields.{quadword};
 ghost use Rattle.gif.specs.Log.{listed};
 ghost use Rattle.gif.specs.Range.{TagFits};
-ghost use Rattle.gif.specs.Tag.{formatOf, nregOf, quadwordsOf, tagOf, takenOf, descriptorAt, placeAfter, placeAtTag, tagWrites};
+ghost use Rattle.gif.specs.Tag.{formatOf, nregOf, quadwordsOf, tagOf, takenOf, descriptorAt, placeAfter, placeAtTag, tagCloses, dataCloses, tagWrites};
 
 fn format_of(flg: u64) -> TagFormat
     ensures { λ r. ⌜ r ≡ formatOf flg ⌝ }
@@ -92,6 +92,26 @@ pub(crate) fn place_at_tag(low: u64, high: u64) -> Place
     } else {
         Place::Data(tag_of(low, high))
     }
+}
+
+// Whether a tag closes a packet by itself.
+pub(crate) fn tag_closes(low: u64, high: u64) -> bool
+    ensures { λ r. ⌜ r ≡ tagCloses (quadword low high) ⌝ }
+{
+    if low / 32768 % 2 == 1 {
+        return low % 32768 == 0;
+    }
+    false
+}
+
+// Whether a tag's next data quadword closes a packet.
+pub(crate) fn data_closes(tag: HeldTag) -> bool
+    ensures { λ r. ⌜ r ≡ dataCloses tag ⌝ }
+{
+    if tag.eop {
+        return tag.due == 1;
+    }
+    false
 }
 
 // A tag's own write.

@@ -1,11 +1,13 @@
 use mathlib.Core.Path.{_≡_, refl, _∙_}
 use Prim.Native.Nat.{_+_, _*_, _-_, _≤_}
+use native.Mathlib.Nat.{add-zero}
 use native.Mathlib.Omega.{arith}
 use lib.ListN.{length}
 use Rattle.gif.specs.Log.{LogFits}
 use Rattle.gif.specs.Range.{PlaceFits}
 use Rattle.gif.specs.Feed.{feedsOf}
 use Rattle.gif.specs.Inner.{plus}
+use Rattle.fields.proofs.CountLaws.{one-most}
 use Rattle.gif.proofs.FeedLaws.{at-quadword, leads-one, feeds-begin, ends-all, goes-on, ends-refused, next-log-fits}
 use Rattle.gif.proofs.ImageLaws.{image-log-fits}
 use borrow.Author.Needs.{needs}
@@ -19,22 +21,23 @@ use Rattle.gif.proofs.image.image_quadwords.Reads as image-quadwords-re
 use Rattle.gif.proofs.step.step.Reads as step-reads
 
 abbrev Inv-loop : tie.InvT-loop
-Inv-loop main a count log₀ used p₀ entries₀ taken₀ log p entries taken =
+Inv-loop main a count log₀ used p₀ entries₀ taken₀ packets₀ log p entries taken packets =
     record {
       inner : a + 16 * count ≤ 1048576;
       log-fits : LogFits log entries;
       place-fits : PlaceFits (p .place);
       length : length log ≡ length log₀;
-      same : plus taken (feedsOf main (a + 16 * taken) (count - taken) p entries log) ≡ feedsOf main a count p₀ used log₀;
+      few : packets ≤ taken;
+      same : plus taken packets (feedsOf main (a + 16 * taken) (count - taken) p entries log) ≡ feedsOf main a count p₀ used log₀;
     }
 
 abbrev μ-loop : tie.MeasureT-loop
-μ-loop main a count log₀ used p₀ entries₀ taken₀ log p entries taken = count - taken
+μ-loop main a count log₀ used p₀ entries₀ taken₀ packets₀ log p entries taken packets = count - taken
 
 loop-holds : tie.Need-loop-holds Inv-loop μ-loop
 loop-holds c =
     let h = c .before .before .pre in
-    record { inner = h .0; log-fits = h .1 .0; place-fits = h .1 .1; length = refl; same = feeds-begin _ _ _ _ _ _ }
+    record { inner = h .0; log-fits = h .1 .0; place-fits = h .1 .1; length = refl; few = omega arith; same = feeds-begin _ _ _ _ _ _ }
 
 image-at-once-requires : tie.Need-image-at-once-requires Inv-loop μ-loop
 image-at-once-requires c κs = let i = c .before .before .loop .inv in (i .log-fits, i .place-fits)
@@ -69,27 +72,45 @@ loop-again c =
       log-fits = image-log-fits (i .log-fits) (g .1) (s .kept .1 .1 .1 .1 .0);
       place-fits = s .ensures .stays (i .place-fits);
       length = s .kept .1 .1 .1 .1 .0 ∙ i .length;
-      same = goes-on _ _ _ _ _ _ _ (i .same) _ (omega arith) (s .ensures);
+      few = let f = i .few in omega arith;
+      same = rw (add-zero _) at (goes-on _ _ _ _ _ _ _ _ (i .same) _ 0 (omega arith) (s .ensures));
     }
 
 step-requires : tie.Need-step-requires Inv-loop μ-loop
 step-requires c κs = let i = c .before .before .before .before .before .before .before .loop .inv in (i .log-fits, i .place-fits)
 
+add-packets : tie.Need-add-packets Inv-loop μ-loop
+add-packets c =
+    let stepped = c .before .before .before .before .before .before .before in
+    let in-loop = stepped .before .before .before .before .before .before .before in
+    let f = in-loop .before .loop .inv .few in
+    let l = in-loop .loop-test .taken in
+    let m = one-most _ (c .one-if .ensures) in
+    omega arith
+
 loop-less-2 : tie.Need-loop-less-2 Inv-loop μ-loop
-loop-less-2 c = let l = c .before .before .before .before .before .before .before .before .before .before .before .before .loop-test .taken in omega arith
+loop-less-2 c =
+    let l = c .before .before .before .before .before .before .before .before .before .before .before .before .before .before .loop-test .taken in
+    omega arith
 
 loop-again-2 : tie.Need-loop-again-2 Inv-loop μ-loop
 loop-again-2 c =
-    let s = c .before .before .before .before .before .step in
-    let l = c .before .before .before .before .before .before .before .before .before .before .before .before .loop-test .taken in
-    let i = c .before .before .before .before .before .before .before .before .before .before .before .before .before .loop .inv in
-    let h = leads-one (at-quadword _ _ (c .before .before .before .before .before .before .before .before .long-at .ensures) (c .before .before .before .before .before .before .before .long-at2 .ensures) _ _ _ (s .ensures)) (c .enum-told .given .1) in
+    let told = c .before .before in
+    let stepped = told .before .before .before .before .before in
+    let s = stepped .step in
+    let in-loop = stepped .before .before .before .before .before .before .before in
+    let l = in-loop .loop-test .taken in
+    let i = in-loop .before .loop .inv in
+    let f = i .few in
+    let m = one-most _ (c .one-if .ensures) in
+    let h = leads-one (at-quadword _ _ (stepped .before .before .before .long-at .ensures) (stepped .before .before .long-at2 .ensures) _ _ _ (s .ensures)) (told .answer .given .1) in
     record {
       inner = i .inner;
       log-fits = next-log-fits _ _ _ _ (s .ensures) (i .log-fits) (s .kept .1 .1 .1 .0);
       place-fits = h .stays (i .place-fits);
       length = s .kept .1 .1 .1 .0 ∙ i .length;
-      same = goes-on _ _ _ _ _ _ _ (i .same) 1 (omega arith) h;
+      few = omega arith;
+      same = rw (c .one-if .ensures) (goes-on _ _ _ _ _ _ _ _ (i .same) 1 _ (omega arith) h);
     }
 
 same-length : tie.Need-same-length Inv-loop μ-loop
@@ -103,11 +124,11 @@ returns c =
     let in-loop = after-step .before .before .before .before .before .before .before in
     let i = in-loop .before .loop .inv in
     rw (c .ended .ensures)
-    (ends-refused _ _ _ _ _ _ _ (i .same) (in-loop .loop-test .taken) (after-step .before .before .before .long-at .ensures) (after-step .before .before .long-at2 .ensures) (after-step .step .ensures)
-    (c .before .before .answer .given .1) (i .log-fits .holds))
+    (ends-refused _ _ _ _ _ _ _ _ (i .same) (in-loop .loop-test .taken) (after-step .before .before .before .long-at .ensures) (after-step .before .before .long-at2 .ensures) (after-step .step .ensures)
+    (c .before .before .answer2 .given .1) (i .log-fits .holds))
 
 returns-2 : tie.Need-returns-2 Inv-loop μ-loop
-returns-2 c = rw (c .ended2 .ensures) (ends-all _ _ _ _ _ _ _ (c .before .before .loop .inv .same) (c .before .loop-test .left))
+returns-2 c = rw (c .ended2 .ensures) (ends-all _ _ _ _ _ _ _ _ (c .before .before .loop .inv .same) (c .before .loop-test .left))
 
 pub feed-spec : {M : Type 1} → statement M
 feed-spec =
@@ -135,6 +156,8 @@ feed-spec =
     step-requires
     (λ c. search needs)
     (λ c. omega arith)
+    (λ c κs. search needs)
+    add-packets
     loop-less-2
     loop-again-2
     (λ c. search needs)
