@@ -1,6 +1,6 @@
 -- What a run hands back over its completed steps: document 01's "The step count is the number of steps completed", request 1's "the number closed, which equals
 -- the number of such quadwords among its completed steps".
-use Prim.Native.Nat.{ℕ, _+_, _<_, _^_}
+use Prim.Native.Nat.{ℕ, _+_, _%_, _^_, _≤_}
 use mathlib.Core.Bool.{Bool, true, false}
 use Rattle.fields.specs.declared.Counts.{Counts}
 
@@ -27,3 +27,11 @@ oneStep closed = counts 1 (oneIf closed)
 -- of steps and those after them
 abbrev pub plus : Counts → Counts → Counts
 plus a b = counts (a .steps + b .steps) (a .packets + b .packets)
+
+-- the same in numbers of 64 bits
+unfoldable pub plusModulo : Counts → Counts → Counts
+plusModulo a b = counts ((a .steps + b .steps) % 2 ^ 64) ((a .packets + b .packets) % 2 ^ 64)
+
+-- a step closes one packet at most
+pub record Counted (a : Counts) : Type 0 where
+  pub few : a .packets ≤ a .steps

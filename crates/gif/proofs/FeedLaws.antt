@@ -13,6 +13,7 @@ use Rattle.fields.specs.Counts.{oneIf}
 use Rattle.fields.specs.Fields.{if, quadword}
 use Rattle.fields.specs.Refusals.{logLength, outOfRange, payloadOutside}
 use Rattle.fields.specs.Memory.{longAt, quadwordAt, inside}
+use Rattle.fields.proofs.CountLaws.{one-most}
 use Rattle.fields.proofs.ChoiceLaws.{if-ind, if-zero, and-left, and-right}
 use Rattle.gif.specs.declared.Path.{Path}
 use Rattle.gif.specs.declared.GifAnswer.{GifAnswer}
@@ -208,6 +209,14 @@ unfolding feedOf
 feed-few main a n p used log e =
     let z : Few n (fed p used log 0 0 (feedRefusal main a n p used log)) = record { few = omega arith } in
     rw e (if-ind (Few n) _ (feeds-few main a n p used log) z .few)
+
+-- no more packets than quadwords
+pub takes-packets : {main : List ℕ} {a used : ℕ} {p : Path} {log : List ℕ} {x : Fed} → Takes main a p used log x → x .packets ≤ x .taken
+takes-packets none = omega arith
+takes-packets (more {x = x} {c = c} e t) =
+    let h = takes-packets t in
+    let m : oneIf c ≤ 1 = one-most c refl in
+    omega arith
 
 -- the path stays in range, and the log's length and its room for the entries stay
 pub takes-ranged : {main : List ℕ} {a used : ℕ} {p : Path} {log : List ℕ} {x : Fed} → Takes main a p used log x

@@ -17,7 +17,10 @@ use Rattle.gif.specs.declared.GifAnswer.the-variants.{Taken}
 use Rattle.gif.specs.declared.QuadwordsResult.{QuadwordsResult}
 use Rattle.gif.specs.Step.{gifStep}
 use Rattle.gif.specs.Feed.{Fed as GifFed, fedBy, feedOf as gifFeedOf}
-use Rattle.gif.proofs.FeedLaws.{Takes, none, more, feed-quadwords, feed-few}
+use Rattle.fields.specs.declared.Counts.{Counts}
+use Rattle.fields.specs.Counts.{none as noCounts, counts, stepsAlone, plus as plusCounts, Counted}
+use Rattle.fields.proofs.CountLaws.{one-quiet, counted-plus}
+use Rattle.gif.proofs.FeedLaws.{Takes, none, more, feed-quadwords, feed-few, takes-packets}
 use Rattle.memories.specs.declared.VifUnit.{VifUnit}
 use Rattle.memories.specs.Units.{quadwords, instructions}
 use Rattle.memories.specs.Lengths.{Lent, lent}
@@ -64,10 +67,11 @@ unfolding orNothing if
 waits-still due w h = rw (ne-eqb due 1 (λ e. omega arith))
 
 -- a word more
-word-more : {which : VifUnit} {main : List ℕ} {a k : ℕ} {x y z : Fed} → Leads which main a k k x y
-    → vifStep which (y .unit) (y .path2) (incomingAt main (a + 4 * k)) (y .used) (y .memories) ≡ leaves aWord (z .unit) (z .path2) (z .used) (z .memories)
-    → Leads which main a (k + 1) (k + 1) x z
-word-more {z = z} p e = leads-then p (leads-one {o = leaves aWord (z .unit) (z .path2) (z .used) (z .memories)} (sym e) refl (λ q. omega arith) refl)
+word-more : {which : VifUnit} {main : List ℕ} {a k : ℕ} {x y z : Fed} → Leads which main a k (stepsAlone k) x y
+    → vifStep which (y .unit) (y .path2) (incomingAt main (a + 4 * k)) (y .used) (y .memories) ≡ leaves (aWord false) (z .unit) (z .path2) (z .used) (z .memories)
+    → Leads which main a (k + 1) (stepsAlone (k + 1)) x z
+word-more {z = z} p e =
+    leads-then p (rw one-quiet at (leads-one {o = leaves (aWord false) (z .unit) (z .path2) (z .used) (z .memories)} (sym e) refl (λ q. omega arith) refl))
 
 -- ---- UNPACK
 
@@ -94,7 +98,7 @@ module _ (size : ℕ) (v : Vif) (f : Format) (u : Unpacking) (word : ℕ) (row m
 
   unpack-step : (which : VifUnit) → size ≡ quadwords which → (p : Path) (used : ℕ) (code log : List ℕ) (next : Incoming) → wordIn next ≡ word
       → vifStep which (unpacking v f row u) p next used (lent mem code log)
-      ≡ leaves aWord (unpacking v f (wordWritten .row) (holds u word)) p used (lent (wordWritten .mem) code log)
+      ≡ leaves (aWord false) (unpacking v f (wordWritten .row) (holds u word)) p used (lent (wordWritten .mem) code log)
   unfolding vifStep unpackStep
   unpack-step which z p used code log next e =
       rw (← z, e, not-last (u .due) (u .interrupt) h, waits-still (u .due) (UnpackDue f (holds u word)) h)
@@ -105,7 +109,7 @@ module _ (which : VifUnit) (size : ℕ) (z : size ≡ quadwords which) (v : Vif)
   wordsWritten u row mem a n = takeWords size f u (writeRegisters v) (wordsFrom main a n) (written row mem)
 
   words-lead : (n a : ℕ) (u : Unpacking) (row mem : List ℕ) → UnpackReady size v f u mem → n < u .due
-      → Leads which main a n n (fed (unpacking v f row u) p used (lent mem code log))
+      → Leads which main a n (stepsAlone n) (fed (unpacking v f row u) p used (lent mem code log))
       (fed (unpacking v f (wordsWritten u row mem a n .row) (heldAfter u (wordsFrom main a n))) p used (lent (wordsWritten u row mem a n .mem) code log))
   unfolding wordsFrom takeWords heldAfter
   words-lead zero a u row mem g h = leads-none
@@ -115,12 +119,12 @@ module _ (which : VifUnit) (size : ℕ) (z : size ≡ quadwords which) (v : Vif)
       let d : 1 < u .due = omega arith in
       rw (← one-add n)
       (leads-then
-      (leads-one (sym (unpack-step size v f u x row mem g d which z p used code log (incomingAt main a) (incoming-word main a))) refl (λ q. omega arith) refl)
+      (rw one-quiet at (leads-one (sym (unpack-step size v f u x row mem g d which z p used code log (incomingAt main a) (incoming-word main a))) refl (λ q. omega arith) refl))
       (words-lead n (a + 4) (holds u x) (o .row) (o .mem) (unpack-ready size v f u x row mem g d (o .mem) (word-length size f u (writeRegisters v) x (written row mem))) (omega arith)))
 
   pub unpack-leads : {n a : ℕ} {u : Unpacking} {mem m : List ℕ} {r : Registers} {s : WordsTaken} → v .waiting ≡ UnpackDue f u → UnpackReady size v f u mem → n < u .due
       → a ≤ 1048576 → r ≡ writeRegisters v → wordsLeft s m ≡ takeWordsOf size f u r main a n (v .row) mem
-      → Leads which main a n n (fed v p used (lent mem code log)) (fed (unpacking v f (s .row) (s .rest)) p used (lent m code log))
+      → Leads which main a n (stepsAlone n) (fed v p used (lent mem code log)) (fed (unpacking v f (s .row) (s .rest)) p used (lent m code log))
   unfolding takeWordsOf wordsAcceptable takenBy if
   unpack-leads {n} {a} {u} {mem} q g h l er es =
       let e = rw (er, le-leb a 1048576 l, lt-ltb n (u .due) h, g .accepted) at es in
@@ -149,21 +153,21 @@ module _ (v : Vif) (address count : ℕ) (i : Bool) where
   storing due = withWaiting v (MpgDue address count due i)
 
   pub mpg-begins : (which : VifUnit) (main : List ℕ) (a due : ℕ) (p : Path) (used : ℕ) (m : Lent) → v .waiting ≡ MpgDue address count due i
-      → Leads which main a 0 0 (fed v p used m) (fed (storing (due - 0)) p used m)
+      → Leads which main a 0 noCounts (fed v p used m) (fed (storing (due - 0)) p used m)
   mpg-begins which main a due p used m h = rw (sub-zero due, ← ap (λ (w : Waiting). fed (withWaiting v w) p used m) h) leads-none
 
   module _ (which : VifUnit) {size : ℕ} (z : size ≡ instructions which) where
     mpg-step : (due word : ℕ) → 1 < due → (p : Path) (used : ℕ) (mem code log : List ℕ) (next : Incoming) → mpgRefused count due next ≡ false → wordIn next ≡ word
         → vifStep which (storing due) p next used (lent mem code log)
-        ≡ leaves aWord (storing (due - 1)) p used (lent mem (mpgStored size address count due word code) log)
+        ≡ leaves (aWord false) (storing (due - 1)) p used (lent mem (mpgStored size address count due word code) log)
     unfolding vifStep mpgStep if
     mpg-step due word h p used mem code log next r e = rw (r, ← z, e, not-last due i h, waits-still due (MpgDue address count (due - 1) i) h)
 
     pub mpg-more : {main : List ℕ} {a k due word : ℕ} {p : Path} {used : ℕ} {mem code code′ log : List ℕ} {x : Fed}
         → mpgRefused count due (incomingAt main a) ≡ false → due ≤ count + count → k + 1 < due
         → word ≡ wordAt main (a + 4 * k) → code′ ≡ mpgStored size address count (due - k) word code
-        → Leads which main a k k x (fed (storing (due - k)) p used (lent mem code log))
-        → Leads which main a (k + 1) (k + 1) x (fed (storing (due - (k + 1))) p used (lent mem code′ log))
+        → Leads which main a k (stepsAlone k) x (fed (storing (due - k)) p used (lent mem code log))
+        → Leads which main a (k + 1) (stepsAlone (k + 1)) x (fed (storing (due - (k + 1))) p used (lent mem code′ log))
     mpg-more {main} {a} {k} {due} {word} {p} {used} {mem} {code} {code′} {log} r b h e s l =
         let d : due - (k + 1) ≡ due - k - 1 = omega arith in
         rw (d, s)
@@ -187,9 +191,9 @@ module _ (which : VifUnit) (main : List ℕ) (v : Vif) (mem code : List ℕ) (hl
   abbrev giving : ℕ → Path → ℕ → List ℕ → Fed
   giving due p used log = fed (withWaiting v (directs hl due i)) p used (lent mem code log)
 
-  direct-step : (a due : ℕ) (p : Path) (used : ℕ) (log : List ℕ) → a % 16 ≡ 0 → 1 < due → gifStep p (quadwordAt main a) used log .answer ≡ Taken
+  direct-step : (a due : ℕ) (p : Path) (used : ℕ) (log : List ℕ) {c : Bool} → a % 16 ≡ 0 → 1 < due → gifStep p (quadwordAt main a) used log .answer ≡ Taken c
       → vifStep which (withWaiting v (directs hl due i)) p (incomingAt main a) used (lent mem code log)
-      ≡ leaves aQuadword (withWaiting v (directs hl (due - 1) i)) (gifStep p (quadwordAt main a) used log .path) (gifStep p (quadwordAt main a) used log .used)
+      ≡ leaves (aQuadword c) (withWaiting v (directs hl (due - 1) i)) (gifStep p (quadwordAt main a) used log .path) (gifStep p (quadwordAt main a) used log .used)
       (lent mem code (gifStep p (quadwordAt main a) used log .log))
   unfolding vifStep giveQuadword longAt
   direct-step a due p used log h l e =
@@ -198,7 +202,7 @@ module _ (which : VifUnit) (main : List ℕ) (v : Vif) (mem code : List ℕ) (hl
       ∙ rw (incoming-quadword main a h) (rw (← j) (rw (e, not-last due i l, waits-still due (directs hl (due - 1) i) l)))
 
   pub direct-leads : {a due used : ℕ} {p : Path} {log : List ℕ} {x : GifFed} → Takes main a p used log x → ((x .taken ≡ 0 → ⊥) → a % 16 ≡ 0) → x .taken < due
-      → Leads which main a (4 * x .taken) (x .taken) (giving due p used log) (giving (due - x .taken) (x .path) (x .used) (x .log))
+      → Leads which main a (4 * x .taken) (counts (x .taken) (x .packets)) (giving due p used log) (giving (due - x .taken) (x .path) (x .used) (x .log))
   direct-leads {a} {due} none h l = rw (sub-zero due) leads-none
   direct-leads {a} {due} {used} {p} {log} (more {x = x} e t) h l =
       let z : a % 16 ≡ 0 = h (λ q. omega arith) in
@@ -220,6 +224,7 @@ quadwords-taken {main} {a} {due} {words} {steps} {n} {used} {p} {log} {log′} {
       few = omega arith;
       few-words = omega arith;
       few-steps = omega arith;
+      few-packets = takes-packets (feed-quadwords main a n p used log e);
       leads = λ which v mem code hl i. direct-leads which main v mem code hl i (feed-quadwords main a n p used log e) (λ z. h .3 (λ y. z (omega arith))) (omega arith);
     }
 
@@ -228,25 +233,25 @@ quadwords-taken {main} {a} {due} {words} {steps} {n} {used} {p} {log} {log′} {
 pub burst-none : {which : VifUnit} {main : List ℕ} {limit a count : ℕ} {s : WordsResult} {m : Lent} → Going limit a count s → Bursts which main limit a count s m s m
 burst-none g = record { same = refl; stays = λ r. r; later = omega arith; going = g }
 
-pub burst-leads : {which : VifUnit} {main : List ℕ} {limit a count k n used : ℕ} {s t : WordsResult} {m m′ : Lent} {v : Vif} {p : Path} → Going limit a count s
-    → k < count - s .words → n < limit - s .steps → Leads which main (a + 4 * s .words) k n (fedIn s m) (fed v p used m′)
-    → t ≡ takenWith v p used (s .words + k) (s .steps + n) (s .interrupt) → Bursts which main limit a count s m t m′
-burst-leads {which} {main} {limit} {a} {count} {k} {n} {used} {s} {t} {m} {m′} g h l i e =
+pub burst-leads : {which : VifUnit} {main : List ℕ} {limit a count k used : ℕ} {n : Counts} {s t : WordsResult} {m m′ : Lent} {v : Vif} {p : Path} → Going limit a count s
+    → k < count - s .words → n .steps < limit - s .counts .steps → Counted n → Leads which main (a + 4 * s .words) k n (fedIn s m) (fed v p used m′)
+    → t ≡ takenWith v p used (s .words + k) (plusCounts (s .counts) n) (s .interrupt) → Bursts which main limit a count s m t m′
+burst-leads {which} {main} {limit} {a} {count} {k} {used} {n} {s} {t} {m} {m′} g h l x i e =
     rw e
     (record {
       same = rest-leads which main limit a count s m i h l (s .interrupt);
       stays = i .stays;
       later = omega arith;
-      going = record { near = g .near; few-words = omega arith; few-steps = omega arith; quiet = g .quiet };
+      going = record { near = g .near; few-words = omega arith; few-steps = omega arith; counted = counted-plus (g .counted) x; quiet = g .quiet };
     })
 
 pub burst-quadwords : {which : VifUnit} {main : List ℕ} {limit a count due : ℕ} {s t : WordsResult} (mem code : List ℕ) {log log′ : List ℕ} {r : QuadwordsResult} {rest : Waiting} (hl i : Bool)
     → Going limit a count s → s .unit .waiting ≡ directs hl due i
-    → Quadwords main (a + 4 * s .words) due (count - s .words) (limit - s .steps) (s .path2) (s .used) log r log′
+    → Quadwords main (a + 4 * s .words) due (count - s .words) (limit - s .counts .steps) (s .path2) (s .used) log r log′
     → rest ≡ directs hl (due - r .taken) i
-    → t ≡ takenWith (withWaiting (s .unit) rest) (r .path) (r .used) (s .words + 4 * r .taken) (s .steps + r .taken) (s .interrupt)
+    → t ≡ takenWith (withWaiting (s .unit) rest) (r .path) (r .used) (s .words + 4 * r .taken) (plusCounts (s .counts) (counts (r .taken) (r .packets))) (s .interrupt)
     → Bursts which main limit a count s (lent mem code log) t (lent mem code log′)
 burst-quadwords {which} {s = s} mem code {log} hl i g q x w e =
-    burst-leads g (x .few-words) (x .few-steps)
+    burst-leads g (x .few-words) (x .few-steps) (record { few = x .few-packets })
     (rw (← ap (λ (w : Waiting). fed (withWaiting (s .unit) w) (s .path2) (s .used) (lent mem code log)) q) at (x .leads which (s .unit) mem code hl i))
     (rw w at e)

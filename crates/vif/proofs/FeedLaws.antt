@@ -4,10 +4,12 @@ use mathlib.Core.Bool.{Bool, true, false}
 use mathlib.Core.List.{List}
 use Prim.Native.Nat.{ℕ, zero, suc, _+_, _*_, _-_, _<_, _≤_}
 use native.Mathlib.Nat.{zero-add, add-zero, add-assoc, sub-zero}
-use native.Mathlib.Numerals.{one-add}
 use native.Mathlib.Omega.{arith}
 use borrow.Author.Tests.{ne-eqb, eqb-true}
 use lib.Dec.{eqb}
+use Rattle.fields.specs.declared.Counts.{Counts}
+use Rattle.fields.specs.Counts.{none, plus as plusCounts, Counted}
+use Rattle.fields.proofs.CountLaws.{plus-none, none-plus, plus-plus, counted-none, counted-one, counted-plus}
 use Rattle.fields.specs.Fields.{if}
 use Rattle.fields.proofs.ChoiceLaws.{and-left, and-right}
 use Rattle.gif.specs.declared.Path.{Path}
@@ -23,7 +25,7 @@ use Rattle.vif.specs.declared.VifAnswer.the-variants.{Word, Quadword, Re
 use Rattle.vif.specs.declared.WordsResult.{WordsResult}
 use Rattle.vif.specs.Range.{unitInRange}
 use Rattle.vif.specs.Words.{incomingAt}
-use Rattle.vif.specs.Step.{Left, wordsTaken, vifStep}
+use Rattle.vif.specs.Step.{Left, wordsTaken, countsIn, vifStep}
 use Rattle.vif.specs.Feeds.{Fed, fed}
 use Rattle.vif.specs.Feed.{FedOn, fedOn, fedOnBy, fedTo, stepMore, afterWord, onWord, feedsOf, wordsInside, takesSteps}
 use Rattle.vif.specs.Inner.{plus, FedReady, Leads, fedIn, restOf, Going, Gives, takenWith}
@@ -33,36 +35,57 @@ use Rattle.vif.proofs.RangeKept.{step-ready}
 -- whether an answer completed a code with its interrupt bit
 abbrev pub interruptIn : VifAnswer → Bool
 interruptIn (Word i) = i
-interruptIn (Quadword i) = i
+interruptIn (Quadword i c) = i
 interruptIn (Refused n) = false
 
+-- a step that is taken is one
+taken-one : (b : VifAnswer) → (wordsTaken b ≡ 0 → ⊥) → countsIn b .steps ≡ 1
+taken-one (Word i) z = refl
+taken-one (Quadword i c) z = refl
+taken-one (Refused n) z = absurd (z refl)
+
+taken-counted : (b : VifAnswer) → Counted (countsIn b)
+taken-counted (Word i) = counted-one false
+taken-counted (Quadword i c) = counted-one c
+taken-counted (Refused n) = counted-none
+
 -- nothing more is taken
-plus-none : (k n : ℕ) (x : Fed) → plus k n (fedOn x 0 0 false) ≡ fedOn x k n false
-plus-none k n x = rw (add-zero k, add-zero n)
+plus-nothing : (k : ℕ) (c : Counts) (x : Fed) → plus k c (fedOn x 0 none false) ≡ fedOn x k c false
+plus-nothing k c x = rw (add-zero k) (ap (λ (d : Counts). fedOn x k d false) (plus-none c))
+
+-- nothing before
+nothing-plus : (r : FedOn) → plus 0 none r ≡ r
+nothing-plus r = rw (zero-add (r .words)) (ap (λ (d : Counts). fedOn (r .after) (r .words) d (r .interrupt)) (none-plus (r .counts)))
+
+-- words, and then more of them
+plus-twice : (k j : ℕ) (c d : Counts) (r : FedOn) → plus k c (plus j d r) ≡ plus (k + j) (plusCounts c d) r
+plus-twice k j c d r =
+    rw (add-assoc k j (r .words))
+    (ap (λ (e : Counts). fedOn (r .after) (k + (j + r .words)) e (r .interrupt)) (sym (plus-plus c d (r .counts))))
 
 -- ---- by a step's answer
 
 module _ (f : ℕ → ℕ → Fed → FedOn) (o : Left) (a count : ℕ) (x : Fed) where
   taken-goes : (b : VifAnswer) {k : ℕ} → k ≡ wordsTaken b → (k ≡ 0 → ⊥) → interruptIn b ≡ false
-      → afterWord f b o a count x ≡ stepMore k (f (a + 4 * k) (count - k) (fedTo o))
+      → afterWord f b o a count x ≡ stepMore k (countsIn b) (f (a + 4 * k) (count - k) (fedTo o))
   taken-goes (Word true) e z i = absurd (let y : _≡_ {A = ℕ} 0 1 = cc in omega arith)
   taken-goes (Word false) e z i = rw e
-  taken-goes (Quadword true) e z i = absurd (let y : _≡_ {A = ℕ} 0 1 = cc in omega arith)
-  taken-goes (Quadword false) e z i = rw e
+  taken-goes (Quadword true c) e z i = absurd (let y : _≡_ {A = ℕ} 0 1 = cc in omega arith)
+  taken-goes (Quadword false c) e z i = rw e
   taken-goes (Refused n) e z i = absurd (z e)
 
-  taken-interrupts : (b : VifAnswer) {k : ℕ} → k ≡ wordsTaken b → interruptIn b ≡ true → afterWord f b o a count x ≡ fedOn (fedTo o) k 1 true
+  taken-interrupts : (b : VifAnswer) {k : ℕ} → k ≡ wordsTaken b → interruptIn b ≡ true → afterWord f b o a count x ≡ fedOn (fedTo o) k (countsIn b) true
   taken-interrupts (Word true) e i = rw e
   taken-interrupts (Word false) e i = absurd (let y : _≡_ {A = ℕ} 0 1 = cc in omega arith)
-  taken-interrupts (Quadword true) e i = rw e
-  taken-interrupts (Quadword false) e i = absurd (let y : _≡_ {A = ℕ} 0 1 = cc in omega arith)
+  taken-interrupts (Quadword true c) e i = rw e
+  taken-interrupts (Quadword false c) e i = absurd (let y : _≡_ {A = ℕ} 0 1 = cc in omega arith)
   taken-interrupts (Refused n) e i = absurd (let y : _≡_ {A = ℕ} 0 1 = cc in omega arith)
 
-  taken-none : (b : VifAnswer) → wordsTaken b ≡ 0 → afterWord f b o a count x ≡ fedOn x 0 0 false
+  taken-none : (b : VifAnswer) → wordsTaken b ≡ 0 → afterWord f b o a count x ≡ fedOn x 0 none false
   taken-none (Word true) e = absurd (omega arith)
   taken-none (Word false) e = absurd (omega arith)
-  taken-none (Quadword true) e = absurd (omega arith)
-  taken-none (Quadword false) e = absurd (omega arith)
+  taken-none (Quadword true c) e = absurd (omega arith)
+  taken-none (Quadword false c) e = absurd (omega arith)
   taken-none (Refused n) e = refl
 
 -- a step that took no word changed nothing
@@ -73,7 +96,7 @@ untaken which x r next {o} e = go (o .answer) refl
   where
     go : (b : VifAnswer) → o .answer ≡ b → wordsTaken b ≡ 0 → o .memories ≡ x .memories
     go (Word i) q z = absurd (omega arith)
-    go (Quadword i) q z = absurd (omega arith)
+    go (Quadword i c) q z = absurd (omega arith)
     go (Refused n) q z =
         let k = step-kept which (x .unit) (x .path2) (x .used) (x .memories) (log-fits (x .memories .log) (x .used) (r .fit .logged) .holds) next in
         ap (λ (y : Left). y .memories) (e ∙ k .same n (ap (λ (y : Left). y .answer) (sym e) ∙ q))
@@ -81,11 +104,11 @@ untaken which x r next {o} e = go (o .answer) refl
 -- ---- a turn
 
 module _ (which : VifUnit) (main : List ℕ) (a count : ℕ) (x : Fed) where
-  feeds-out : (n : ℕ) → n ≡ 0 → feedsOf which main n a count x ≡ fedOn x 0 0 false
+  feeds-out : (n : ℕ) → n ≡ 0 → feedsOf which main n a count x ≡ fedOn x 0 none false
   unfolding feedsOf
   feeds-out n z = rw z
 
-  feeds-none : (n : ℕ) → count ≡ 0 → feedsOf which main n a count x ≡ fedOn x 0 0 false
+  feeds-none : (n : ℕ) → count ≡ 0 → feedsOf which main n a count x ≡ fedOn x 0 none false
   unfolding feedsOf if
   feeds-none zero z = refl
   feeds-none (suc n) z = rw z
@@ -97,37 +120,38 @@ module _ (which : VifUnit) (main : List ℕ) (a count : ℕ) (x : Fed) where
 
 -- ---- steps one after another
 
-pub leads-none : {which : VifUnit} {main : List ℕ} {a : ℕ} {x : Fed} → Leads which main a 0 0 x x
+pub leads-none : {which : VifUnit} {main : List ℕ} {a : ℕ} {x : Fed} → Leads which main a 0 none x x
 leads-none {which} {main} {a} {x} =
     record {
-      goes = λ l c. rw (zero-add l, zero-add c, add-zero a, zero-add (feedsOf which main l a c x .words), zero-add (feedsOf which main l a c x .steps));
+      goes = λ l d. rw (zero-add l, zero-add d, add-zero a) (sym (nothing-plus (feedsOf which main l a d x)));
       stays = λ r. r;
     }
 
 -- a step
 pub leads-one : {which : VifUnit} {main : List ℕ} {a k : ℕ} {x : Fed} {o : Left} → o ≡ vifStep which (x .unit) (x .path2) (incomingAt main a) (x .used) (x .memories)
-    → k ≡ wordsTaken (o .answer) → (k ≡ 0 → ⊥) → interruptIn (o .answer) ≡ false → Leads which main a k 1 x (fedTo o)
+    → k ≡ wordsTaken (o .answer) → (k ≡ 0 → ⊥) → interruptIn (o .answer) ≡ false → Leads which main a k (countsIn (o .answer)) x (fedTo o)
 leads-one {which} {main} {a} {k} {x} {o} e t z q =
     record {
       goes =
-          λ l c.
-          let d : k + c - k ≡ c = omega arith in
-          one-turn which main a (k + c) x (1 + l) l (omega arith) (λ y. z (omega arith)) e
-          ∙ taken-goes (feedsOf which main l) o a (k + c) x (o .answer) t z q
-          ∙ rw (d, one-add (feedsOf which main l (a + 4 * k) c (fedTo o) .steps));
+          λ l d.
+          let f : k + d - k ≡ d = omega arith in
+          let n = taken-one (o .answer) (λ y. z (t ∙ y)) in
+          one-turn which main a (k + d) x (countsIn (o .answer) .steps + l) l (omega arith) (λ y. z (omega arith)) e
+          ∙ taken-goes (feedsOf which main l) o a (k + d) x (o .answer) t z q
+          ∙ rw f;
       stays = λ r. step-ready which (x .unit) (x .path2) (x .used) (x .memories) r (incomingAt main a) o e;
     }
 
 -- steps, and then more of them
-pub leads-then : {which : VifUnit} {main : List ℕ} {a k n j m : ℕ} {x y z : Fed} → Leads which main a k n x y → Leads which main (a + 4 * k) j m y z → Leads which main a (k + j) (n + m) x z
-leads-then {which} {main} {a} {k} {n} {j} {m} {x} {y} {z} p q =
+pub leads-then : {which : VifUnit} {main : List ℕ} {a k j : ℕ} {c d : Counts} {x y z : Fed} → Leads which main a k c x y → Leads which main (a + 4 * k) j d y z
+    → Leads which main a (k + j) (plusCounts c d) x z
+leads-then {which} {main} {a} {k} {j} {c} {d} {x} {y} {z} p q =
     record {
       goes =
-          λ l c.
+          λ l n.
           let b : a + 4 * k + 4 * j ≡ a + 4 * (k + j) = omega arith in
-          let r = feedsOf which main l (a + 4 * (k + j)) c z in
-          rw (add-assoc n m l, add-assoc k j c)
-          (p .goes (m + l) (j + c) ∙ ap (plus k n) (q .goes l c) ∙ rw (b, add-assoc k j (r .words), add-assoc n m (r .steps)));
+          rw (add-assoc (c .steps) (d .steps) l, add-assoc k j n)
+          (p .goes (d .steps + l) (j + n) ∙ ap (plus k c) (q .goes l n) ∙ rw b (plus-twice k j c d (feedsOf which main l (a + 4 * (k + j)) n z)));
       stays = λ r. q .stays (p .stays r);
     }
 
@@ -135,67 +159,69 @@ leads-then {which} {main} {a} {k} {n} {j} {m} {x} {y} {z} p q =
 
 module _ (which : VifUnit) (main : List ℕ) (limit a count : ℕ) (s : WordsResult) (m : Lent) where
   -- no step or no word is left
-  pub rest-out : s .interrupt ≡ false → limit ≤ s .steps → restOf which main limit a count s m ≡ fedOnBy s m
+  pub rest-out : s .interrupt ≡ false → limit ≤ s .counts .steps → restOf which main limit a count s m ≡ fedOnBy s m
   rest-out q l =
-      let z : limit - s .steps ≡ 0 = omega arith in
-      ap (plus (s .words) (s .steps)) (feeds-out which main (a + 4 * s .words) (count - s .words) (fedIn s m) (limit - s .steps) z)
-      ∙ plus-none (s .words) (s .steps) (fedIn s m)
+      let z : limit - s .counts .steps ≡ 0 = omega arith in
+      ap (plus (s .words) (s .counts)) (feeds-out which main (a + 4 * s .words) (count - s .words) (fedIn s m) (limit - s .counts .steps) z)
+      ∙ plus-nothing (s .words) (s .counts) (fedIn s m)
       ∙ rw q
 
   pub rest-used : s .interrupt ≡ false → count ≤ s .words → restOf which main limit a count s m ≡ fedOnBy s m
   rest-used q l =
       let z : count - s .words ≡ 0 = omega arith in
-      ap (plus (s .words) (s .steps)) (feeds-none which main (a + 4 * s .words) (count - s .words) (fedIn s m) (limit - s .steps) z)
-      ∙ plus-none (s .words) (s .steps) (fedIn s m)
+      ap (plus (s .words) (s .counts)) (feeds-none which main (a + 4 * s .words) (count - s .words) (fedIn s m) (limit - s .counts .steps) z)
+      ∙ plus-nothing (s .words) (s .counts) (fedIn s m)
       ∙ rw q
 
   -- steps at once
-  pub rest-leads : {k n : ℕ} {y : Fed} → Leads which main (a + 4 * s .words) k n (fedIn s m) y → k < count - s .words → n < limit - s .steps
-      → (i : Bool) → restOf which main limit a count s m ≡ restOf which main limit a count (takenWith (y .unit) (y .path2) (y .used) (s .words + k) (s .steps + n) i) (y .memories)
-  rest-leads {k} {n} {y} p h l i =
-      let c : count - s .words ≡ k + (count - (s .words + k)) = omega arith in
-      let d : limit - s .steps ≡ n + (limit - (s .steps + n)) = omega arith in
+  pub rest-leads : {k : ℕ} {c : Counts} {y : Fed} → Leads which main (a + 4 * s .words) k c (fedIn s m) y → k < count - s .words → c .steps < limit - s .counts .steps
+      → (i : Bool)
+      → restOf which main limit a count s m ≡ restOf which main limit a count (takenWith (y .unit) (y .path2) (y .used) (s .words + k) (plusCounts (s .counts) c) i) (y .memories)
+  rest-leads {k} {c} {y} p h l i =
+      let n = s .counts .steps + c .steps in
+      let e : count - s .words ≡ k + (count - (s .words + k)) = omega arith in
+      let d : limit - s .counts .steps ≡ c .steps + (limit - n) = omega arith in
       let b : a + 4 * s .words + 4 * k ≡ a + 4 * (s .words + k) = omega arith in
-      let r = feedsOf which main (limit - (s .steps + n)) (a + 4 * (s .words + k)) (count - (s .words + k)) y in
-      rw (c, d) (ap (plus (s .words) (s .steps)) (p .goes (limit - (s .steps + n)) (count - (s .words + k))) ∙ rw (b, add-assoc (s .words) k (r .words), add-assoc (s .steps) n (r .steps)))
+      rw (e, d)
+      (ap (plus (s .words) (s .counts)) (p .goes (limit - n) (count - (s .words + k)))
+      ∙ rw b (plus-twice (s .words) k (s .counts) c (feedsOf which main (limit - n) (a + 4 * (s .words + k)) (count - (s .words + k)) y)))
 
   -- one step
   module _ (g : Going limit a count s) {o : Left} (e : o ≡ vifStep which (s .unit) (s .path2) (incomingAt main (a + 4 * s .words)) (s .used) m) where
     turns : restOf which main limit a count s m
-        ≡ plus (s .words) (s .steps) (onWord (feedsOf which main (limit - (s .steps + 1))) o (a + 4 * s .words) (count - s .words) (fedIn s m))
+        ≡ plus (s .words) (s .counts) (onWord (feedsOf which main (limit - (s .counts .steps + 1))) o (a + 4 * s .words) (count - s .words) (fedIn s m))
     turns =
         let l = g .few-steps in
         let h = g .few-words in
-        ap (plus (s .words) (s .steps))
-        (one-turn which main (a + 4 * s .words) (count - s .words) (fedIn s m) (limit - s .steps) (limit - (s .steps + 1)) (omega arith) (λ z. omega arith) e)
+        ap (plus (s .words) (s .counts))
+        (one-turn which main (a + 4 * s .words) (count - s .words) (fedIn s m) (limit - s .counts .steps) (limit - (s .counts .steps + 1)) (omega arith) (λ z. omega arith) e)
 
     pub rest-goes : {k : ℕ} → k ≡ wordsTaken (o .answer) → (k ≡ 0 → ⊥) → interruptIn (o .answer) ≡ false
-        → (i : Bool) → restOf which main limit a count s m ≡ restOf which main limit a count (takenWith (o .unit) (o .path2) (o .used) (s .words + k) (s .steps + 1) i) (o .memories)
+        → (i : Bool)
+        → restOf which main limit a count s m ≡ restOf which main limit a count (takenWith (o .unit) (o .path2) (o .used) (s .words + k) (plusCounts (s .counts) (countsIn (o .answer))) i) (o .memories)
     rest-goes {k} t z q i =
-        let j = taken-goes (feedsOf which main (limit - (s .steps + 1))) o (a + 4 * s .words) (count - s .words) (fedIn s m) (o .answer) t z q in
+        let n = taken-one (o .answer) (λ y. z (t ∙ y)) in
+        let l = limit - (s .counts .steps + countsIn (o .answer) .steps) in
+        let e : limit - (s .counts .steps + 1) ≡ l = omega arith in
+        let j = taken-goes (feedsOf which main (limit - (s .counts .steps + 1))) o (a + 4 * s .words) (count - s .words) (fedIn s m) (o .answer) t z q in
         let c : a + 4 * s .words + 4 * k ≡ a + 4 * (s .words + k) = omega arith in
         let d : count - s .words - k ≡ count - (s .words + k) = omega arith in
         turns
-        ∙ ap (plus (s .words) (s .steps)) j
-        ∙ rw (c, d) (more-after (feedsOf which main (limit - (s .steps + 1)) (a + 4 * (s .words + k)) (count - (s .words + k)) (fedTo o)))
-      where
-        more-after : (r : FedOn) → plus (s .words) (s .steps) (stepMore k r) ≡ plus (s .words + k) (s .steps + 1) r
-        more-after r =
-            let p : s .words + (k + r .words) ≡ s .words + k + r .words = omega arith in
-            let q : s .steps + suc (r .steps) ≡ s .steps + 1 + r .steps = omega arith in
-            rw (p, q)
+        ∙ ap (plus (s .words) (s .counts)) j
+        ∙ rw (c, d, e)
+        (plus-twice (s .words) k (s .counts) (countsIn (o .answer)) (feedsOf which main l (a + 4 * (s .words + k)) (count - (s .words + k)) (fedTo o)))
 
     pub rest-interrupts : {k : ℕ} → k ≡ wordsTaken (o .answer) → interruptIn (o .answer) ≡ true
-        → restOf which main limit a count s m ≡ fedOn (fedTo o) (s .words + k) (s .steps + 1) true
+        → restOf which main limit a count s m ≡ fedOn (fedTo o) (s .words + k) (plusCounts (s .counts) (countsIn (o .answer))) true
     rest-interrupts t q =
-        turns ∙ ap (plus (s .words) (s .steps)) (taken-interrupts (feedsOf which main (limit - (s .steps + 1))) o (a + 4 * s .words) (count - s .words) (fedIn s m) (o .answer) t q)
+        turns ∙ ap (plus (s .words) (s .counts)) (taken-interrupts (feedsOf which main (limit - (s .counts .steps + 1))) o (a + 4 * s .words) (count - s .words) (fedIn s m) (o .answer) t q)
 
     pub rest-refused : wordsTaken (o .answer) ≡ 0 → FedReady which (fedIn s m) → restOf which main limit a count s m ≡ fedOnBy s (o .memories)
     rest-refused z r =
         rw (untaken which (fedIn s m) r (incomingAt main (a + 4 * s .words)) e z, g .quiet)
         (turns
-        ∙ ap (plus (s .words) (s .steps)) (taken-none (feedsOf which main (limit - (s .steps + 1))) o (a + 4 * s .words) (count - s .words) (fedIn s m) (o .answer) z)
-        ∙ plus-none (s .words) (s .steps) (fedIn s m))
+        ∙ ap (plus (s .words) (s .counts)) (taken-none (feedsOf which main (limit - (s .counts .steps + 1))) o (a + 4 * s .words) (count - s .words) (fedIn s m) (o .answer) z)
+        ∙ plus-nothing (s .words) (s .counts) (fedIn s m))
 
 -- a step given to the unit
 module _ (which : VifUnit) (main : List ℕ) (a : ℕ) (s : WordsResult) (m : Lent) (r : FedReady which (fedIn s m)) {next : Incoming} (g : next ≡ incomingAt main (a + 4 * s .words))
@@ -203,39 +229,44 @@ module _ (which : VifUnit) (main : List ℕ) (a : ℕ) (s : WordsResult) (m : Le
   given : o ≡ vifStep which (s .unit) (s .path2) (incomingAt main (a + 4 * s .words)) (s .used) m
   given = rw g at e
 
-  pub gives-taken : {b : VifAnswer} {k : ℕ} {i : Bool} {t : WordsResult} → o .answer ≡ b → wordsTaken b ≡ k → interruptIn b ≡ i → 1 ≤ k
-      → t ≡ takenWith (o .unit) (o .path2) (o .used) (s .words + k) (s .steps + 1) i → Gives which main a s m t (o .memories)
-  gives-taken {b} {k} {i} q w j l f =
+  pub gives-taken : {b : VifAnswer} {k : ℕ} {c : Counts} {i : Bool} {t : WordsResult} → o .answer ≡ b → wordsTaken b ≡ k → interruptIn b ≡ i → 1 ≤ k
+      → Counted (s .counts) → c ≡ plusCounts (s .counts) (countsIn b)
+      → t ≡ takenWith (o .unit) (o .path2) (o .used) (s .words + k) c i → Gives which main a s m t (o .memories)
+  gives-taken {b} {k} {c} {i} q w j l h x f =
       let t : k ≡ wordsTaken (o .answer) = rw q (sym w) in
       let n : interruptIn (o .answer) ≡ i = rw q j in
-      rw f
+      let one = taken-one (o .answer) (λ y. omega arith) in
+      let d = taken-counted (o .answer) in
+      rw (f, x, ← q)
       (record {
         ready = step-ready which (s .unit) (s .path2) (s .used) m r next o e;
         later = omega arith;
+        counted = counted-plus h d;
         goes = λ limit count c z. rest-goes which main limit a count s m c given t (λ y. omega arith) (n ∙ z) i;
         stops = λ limit count c z. rest-interrupts which main limit a count s m c given t (n ∙ z) ∙ rw z;
         refuses = λ limit count c z. absurd (omega arith);
       })
 
-  pub gives-refused : {n : ℕ} → o .answer ≡ Refused n → Gives which main a s m s (o .memories)
-  gives-refused q =
+  pub gives-refused : {n : ℕ} → o .answer ≡ Refused n → Counted (s .counts) → Gives which main a s m s (o .memories)
+  gives-refused q h =
       let z : wordsTaken (o .answer) ≡ 0 = rw q in
       let u : o .memories ≡ m = untaken which (fedIn s m) r next e z in
       record {
         ready = rw u r;
         later = omega arith;
+        counted = h;
         goes = λ limit count c y. rw u;
         stops = λ limit count c y. absurd (let h : _≡_ {A = ℕ} 0 1 = cc (c .quiet) in omega arith);
         refuses = λ limit count c y. rest-refused which main limit a count s m c given z r;
       }
 
 -- before the first word all of them are left
-pub rest-begins : (which : VifUnit) (main : List ℕ) (limit a count : ℕ) (s : WordsResult) (m : Lent) → s .words ≡ 0 → s .steps ≡ 0
+pub rest-begins : (which : VifUnit) (main : List ℕ) (limit a count : ℕ) (s : WordsResult) (m : Lent) → s .words ≡ 0 → s .counts ≡ none
     → restOf which main limit a count s m ≡ feedsOf which main limit a count (fedIn s m)
-rest-begins which main limit a count s m h l = rw (h, l, sub-zero limit, sub-zero count, add-zero a, zero-add (feedsOf which main limit a count (fedIn s m) .words), zero-add (feedsOf which main limit a count (fedIn s m) .steps))
+rest-begins which main limit a count s m h l = rw (h, l, sub-zero limit, sub-zero count, add-zero a) (nothing-plus (feedsOf which main limit a count (fedIn s m)))
 
 -- where all of them end
-pub rest-ends : (which : VifUnit) (main : List ℕ) (limit a count : ℕ) (m : Lent) {used : ℕ} {v : Vif} {p : Path} {s : WordsResult} {w y : FedOn} → s ≡ takenWith v p used 0 0 false
+pub rest-ends : (which : VifUnit) (main : List ℕ) (limit a count : ℕ) (m : Lent) {used : ℕ} {v : Vif} {p : Path} {s : WordsResult} {w y : FedOn} → s ≡ takenWith v p used 0 none false
     → w ≡ feedsOf which main limit a count (fedIn s m) → w ≡ y → y ≡ feedsOf which main limit a count (fed v p used m)
 rest-ends which main limit a count m e i h = sym h ∙ i ∙ rw e
 

@@ -62,7 +62,7 @@ record Does (v : Vif) (used : ℕ) (mem log : List ℕ) (e : Executed) : Type 0 
 no-word : {i : Bool} {n : ℕ} → Word i ≡ Refused n → ⊥
 no-word e = let z : _≡_ {A = ℕ} 0 1 = cc in omega arith
 
-no-quadword : {i : Bool} {n : ℕ} → Quadword i ≡ Refused n → ⊥
+no-quadword : {i c : Bool} {n : ℕ} → Quadword i c ≡ Refused n → ⊥
 no-quadword e = let z : _≡_ {A = ℕ} 0 1 = cc in omega arith
 
 module _ (which : VifUnit) (v : Vif) (used : ℕ) (mem log : List ℕ) (h : entrySize * used ≤ length log) where
@@ -166,7 +166,7 @@ module _ (which : VifUnit) (v : Vif) (p : Path) (used : ℕ) (m : Lent) (h : ent
 
   kept-gif : (a : GifAnswer) (o : GifLeft) → a ≡ o .answer → Wrote p used (m .log) o → (due : ℕ) (i : Bool) (w : Waiting)
       → Kept v p used m (afterGif a o v p due i w used m)
-  kept-gif Taken o q g due i w =
+  kept-gif (Taken c) o q g due i w =
       record {
         same = λ n e. absurd (no-quadword e);
         mem-length = refl;

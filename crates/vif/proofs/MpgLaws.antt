@@ -76,7 +76,7 @@ not-between at j h a b =
 
 module _ (which : VifUnit) (v : Vif) (p : Path) (used : ℕ) (m : Lent) where
   gif-code : (a : GifAnswer) (o : GifLeft) (due : ℕ) (i : Bool) (w : Waiting) → afterGif a o v p due i w used m .memories .code ≡ m .code
-  gif-code Taken o due i w = refl
+  gif-code (Taken c) o due i w = refl
   gif-code (GifRefused n) o due i w = refl
 
   direct-code : (n : Incoming) (due : ℕ) (i : Bool) (w : Waiting) → directStep n v p due i w used m .memories .code ≡ m .code

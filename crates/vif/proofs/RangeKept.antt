@@ -332,7 +332,7 @@ module _ (which : VifUnit) (v : Vif) (h : unitInRange which v ≡ true) (p : Pat
 
   gif-ranged : (a : GifAnswer) (o : GifLeft) → pathInRange (o .path) ≡ true → (due : ℕ) (i : Bool) (w : Waiting)
       → waitingInRange which (orNothing due w) (v .cl) (v .wl) ≡ true → StaysRanged which (afterGif a o v p due i w used m)
-  gif-ranged Taken o r due i w k =
+  gif-ranged (Taken c) o r due i w k =
       record { unit-held = unit-ranged which (withWaiting v (orNothing due w)) fits k; path-held = r }
   gif-ranged (GifRefused n) o r due i w k = refused-ranged _ refl refl
 

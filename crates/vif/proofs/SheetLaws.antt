@@ -58,9 +58,9 @@ use Rattle.vif.proofs.UnpackLaws.{quiet, waits-no-more, words-length, p
 -- ---- steps one after another
 
 -- steps, and then more of them
-pub feeds-join : {which : VifUnit} {a : VifAnswer} {x y z : Fed} {ns ms : List Incoming} → Feeds which a x ns y → Feeds which a y ms z → Feeds which a x (ns ++ ms) z
+pub feeds-join : {which : VifUnit} {a : Bool → VifAnswer} {x y z : Fed} {ns ms : List Incoming} → Feeds which a x ns y → Feeds which a y ms z → Feeds which a x (ns ++ ms) z
 feeds-join none q = q
-feeds-join (more e p) q = more e (feeds-join p q)
+feeds-join (more c e p) q = more c e (feeds-join p q)
 
 -- a list of incoming words by its first one
 pub feeds-cons : {which : VifUnit} {x y : Fed} {a : ℕ} {ws : List ℕ} (ns : List Incoming) → wordsIn ns ≡ a ∷ ws
@@ -70,7 +70,7 @@ feeds-cons [] e k = absurd (let z : _≡_ {A = ℕ} 0 1 = cc in omega arith)
 feeds-cons (n ∷ ms) e k = k n ms (cc) (cc) refl
 
 -- what is left may be written in another way
-pub feeds-as : {which : VifUnit} {a : VifAnswer} {x y z : Fed} {ns : List Incoming} → Feeds which a x ns y → y ≡ z → Feeds which a x ns z
+pub feeds-as : {which : VifUnit} {a : Bool → VifAnswer} {x y z : Fed} {ns : List Incoming} → Feeds which a x ns y → y ≡ z → Feeds which a x ns z
 feeds-as f e = rw (← e) f
 
 -- ---- a code's own step
@@ -83,7 +83,7 @@ nop-decoded which = rw (listed-both which 0x00 refl) refl
 pub feeds-nop : {which : VifUnit} {v : Vif} {p : Path} {used : ℕ} {m : Lent} → v .waiting ≡ Nothing → {y : Fed} {n : Incoming} {ns : List Incoming} → wordIn n ≡ 0
     → Feeds which aWord (fed v p used m) ns y → Feeds which aWord (fed v p used m) (n ∷ ns) y
 unfolding bits
-feeds-nop {which} {v} {p} {used} {m} h {y} {n} e f = more (code-taken which v p used m n h e (nop-decoded which) refl) f
+feeds-nop {which} {v} {p} {used} {m} h {y} {n} e f = more false (code-taken which v p used m n h e (nop-decoded which) refl) f
 
 -- ---- data: NOP, STCYCL 1 1, STMOD 0, UNPACK V4-32
 
@@ -174,10 +174,10 @@ feeds-data which v p used m n a ws ns h hr some few inside q w l =
     feeds-nop h e0
     (feeds-cons ns0 q0
     (λ n1 ns1 e1 q1 _.
-    more (stcycl-taken which v p used m h n1 e1)
+    more false (stcycl-taken which v p used m h n1 e1)
     (feeds-cons ns1 q1
     (λ n2 ns2 e2 q2 _.
-    more (stmod-taken which (withCycle v 1 1) p used m h n2 e2)
+    more false (stmod-taken which (withCycle v 1 1) p used m h n2 e2)
     (feeds-cons ns2 q2
     (λ n3 ns3 e3 q3 _.
     rw (← q3) (data-fed which (withMode (withCycle v 1 1) 0) p used m n a h refl refl refl hr some few inside n3 ns3 e3 (rw q3 w) (rw q3 l)))))))))
@@ -228,7 +228,7 @@ unfolding startProgram lacksRoom if
 feeds-start which v p used m a ns h inside room q =
     after-nops h ns q
     (λ k ms e q3 _.
-    more (code-taken which v p used m k h e (start-decoded a inside which) (start-quiet a inside) ∙ rw (le-ltb (length (m .log)) (entrySize * (used + 1)) room))
+    more false (code-taken which v p used m k h e (start-decoded a inside which) (start-quiet a inside) ∙ rw (le-ltb (length (m .log)) (entrySize * (used + 1)) room))
     (no-words ms q3))
 
 -- ---- code: three NOPs, MPG, and words 0 after its payload
@@ -355,8 +355,8 @@ module _ (which : VifUnit) (v : Vif) (p : Path) (used : ℕ) (mem log : List ℕ
       let t : getD ws (2 * j + 1) 0 ≡ wordIn y = g 1 in
       let q = (a + j) % instructions which in
       rw (s, t, ← two-words code q (wordIn x) (wordIn y))
-      (more (mpg-word (suc r + suc r) (8 * q) x code (first-taken n j r x e o) (first-waits a n r) (rw c (first-place (instructions which) a j)))
-      (more (mpg-word (r + r + 1) (8 * q + 4) y (sets code (8 * q) (bytesOf (wordIn x))) (second-taken n j r y e) (second-waits a n r) (rw d (second-place (instructions which) a j)))
+      (more false (mpg-word (suc r + suc r) (8 * q) x code (first-taken n j r x e o) (first-waits a n r) (rw c (first-place (instructions which) a j)))
+      (more false (mpg-word (r + r + 1) (8 * q + 4) y (sets code (8 * q) (bytesOf (wordIn x))) (second-taken n j r y e) (second-waits a n r) (rw d (second-place (instructions which) a j)))
       (mpg-feeds ws r (suc j) ns (sets (sets code (8 * q) (bytesOf (wordIn x))) (8 * q + 4) (bytesOf (wordIn y))) (omega arith) (omega arith)
       (λ i. let z : 2 * suc j + i ≡ 2 * j + suc (suc i) = omega arith in rw z (g (suc (suc i)))) (λ z. absurd (omega arith)))))
 
@@ -378,7 +378,7 @@ feeds-code which v p used m n a ws pad ns h some few inside q l z o =
     ms
     q3
     (λ xs ys s t f.
-    more (code-taken which v p used m k h e (code-decoded n a some few inside which) (code-quiet n a some few inside) ∙ rw (count-num n some few, begins n some))
+    more false (code-taken which v p used m k h e (code-decoded n a some few inside which) (code-quiet n a some few inside) ∙ rw (count-num n some few, begins n some))
     (feeds-join (mpg-feeds which v p used (m .mem) (m .log) a n ws n 0 xs (m .code) (omega arith) (sym (words-length xs) ∙ rw s l) (λ i. rw (zero-add, s)) (λ _. first-part xs ys f))
     (rw (idle-same v h) (feeds-zeros which v p used _ ys h (rw t z)))))
     (rw d at o))
@@ -415,12 +415,12 @@ direct-next (suc k) =
 
 module _ (which : VifUnit) (v : Vif) (mem code : List ℕ) where
   -- a quadword that the GIF takes
-  direct-quadword : (k : ℕ) (p p′ : Path) (used used′ a b c d x : ℕ) (log log′ : List ℕ) → quadword (a + b * 2 ^ 32) (c + d * 2 ^ 32) ≡ x
-      → gifStep p x used log ≡ took p′ used′ log′
+  direct-quadword : (closed : Bool) (k : ℕ) (p p′ : Path) (used used′ a b c d x : ℕ) (log log′ : List ℕ) → quadword (a + b * 2 ^ 32) (c + d * 2 ^ 32) ≡ x
+      → gifStep p x used log ≡ took closed p′ used′ log′
       → vifStep which (withWaiting v (directWaits (suc k))) p (Word0 a b c d) used (lent mem code log)
-      ≡ leaves (Quadword false) (withWaiting v (directWaits k)) p′ used′ (lent mem code log′)
+      ≡ leaves (Quadword false closed) (withWaiting v (directWaits k)) p′ used′ (lent mem code log′)
   unfolding vifStep giveQuadword
-  direct-quadword k p p′ used used′ a b c d x log log′ e g = rw (e, g, quiet (suc k), direct-next k)
+  direct-quadword closed k p p′ used used′ a b c d x log log′ e g = rw (e, g, quiet (suc k), direct-next k)
 
   -- A+D quadwords one after another
   direct-feeds : (n : ℕ) → 0 < n → n < 32768 → (q used : ℕ) (log : List ℕ) {ns : List Incoming} {xs : List ℕ} → QuadwordsIn ns xs
@@ -432,7 +432,7 @@ module _ (which : VifUnit) (v : Vif) (mem code : List ℕ) where
   direct-feeds n some few q used log (one-quadword {a} {b} {c} {d} {x} {ns} {xs} e r) h =
       let s : used + suc (length xs) ≡ used + 1 + length xs = omega arith in
       rw (s, ← logged-then log used (addressData x ∷ []) (addressDatas xs))
-      (more (direct-quadword (length xs) _ _ used (used + 1) a b c d x log _ e (sheet-data n some few (length xs) q x used log (omega arith)))
+      (more (eqb (length xs) 0) (direct-quadword (eqb (length xs) 0) (length xs) _ _ used (used + 1) a b c d x log _ e (sheet-data n some few (length xs) q x used log (omega arith)))
       (direct-feeds n some few q (used + 1) (logged log used (addressData x ∷ [])) r (rw (logged-length log used (addressData x ∷ [])) (omega arith))))
 
 -- three NOPs and DIRECT: quadwords are due
@@ -441,7 +441,7 @@ pub feeds-direct : (which : VifUnit) → codeListed which 0x50 ≡ true → (v :
     → Feeds which aWord (fed v p used m) ns (fed (withWaiting v (directWaits (suc n))) p used m)
 feeds-direct which x v p used m n ns h few w =
     after-nops h ns w
-    (λ k ls f z _. more (code-taken which v p used m k h f (direct-decoded n few which x) (direct-quiet n few) ∙ rw (add-one n)) (no-words ls z))
+    (λ k ls f z _. more false (code-taken which v p used m k h f (direct-decoded n few which x) (direct-quiet n few) ∙ rw (add-one n)) (no-words ls z))
 
 -- a GIF tag and n A+D quadwords after them write n log entries, and path 2 is idle again
 pub feeds-entries : (which : VifUnit) (v : Vif) (q used : ℕ) (m : Lent) (n : ℕ) (quads : List ℕ) (ms : List Incoming) → v .waiting ≡ Nothing → length quads ≡ n → 1 ≤ n
@@ -449,6 +449,6 @@ pub feeds-entries : (which : VifUnit) (v : Vif) (q used : ℕ) (m : Lent) (n : �
     → Feeds which aQuadword (fed (withWaiting v (directWaits (suc n))) (pathOf q Idle) used m) ms
     (fed v (pathOf tagQ Idle) (used + n) (lent (m .mem) (m .code) (logged (m .log) used (addressDatas quads))))
 feeds-entries which v q used m n quads ms h e some few room (one-quadword {a} {b} {c} {d} t r) =
-    more {z = fed v (pathOf tagQ Idle) (used + n) (lent (m .mem) (m .code) (logged (m .log) used (addressDatas quads)))}
-    (direct-quadword which v (m .mem) (m .code) n _ _ used used a b c d _ (m .log) _ t (sheet-tag n some (omega arith) q used (m .log) (omega arith)))
+    more {z = fed v (pathOf tagQ Idle) (used + n) (lent (m .mem) (m .code) (logged (m .log) used (addressDatas quads)))} false
+    (direct-quadword which v (m .mem) (m .code) false n _ _ used used a b c d _ (m .log) _ t (sheet-tag n some (omega arith) q used (m .log) (omega arith)))
     (feeds-as (rw e at (direct-feeds which v (m .mem) (m .code) n some (omega arith) tagQ used (m .log) r (rw e room))) (rw (idle-same v h)))

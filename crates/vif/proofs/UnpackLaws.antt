@@ -125,7 +125,7 @@ module _ (which : VifUnit) (v : Vif) (p : Path) (used : ℕ) (code log : List �
   unfolding takeWords heldAfter
   unpack-feeds u [] x q h = none
   unpack-feeds u (n ∷ ns) x q h =
-      more (unpack-word u n x (quiet-word (u .due) (length ns) (u .interrupt) q) (omega arith))
+      more false (unpack-word u n x (quiet-word (u .due) (length ns) (u .interrupt) q) (omega arith))
       (unpack-feeds (holds u (wordIn n)) ns (unpackWord (quadwords which) f u (writeRegisters v) (wordIn n) x) (quiet-next (u .due) (length ns) (u .interrupt) q) (omega arith))
 
 -- words as many as came
@@ -240,7 +240,7 @@ module _ (which : VifUnit) (v : Vif) (p : Path) (used : ℕ) (m : Lent) (n : Inc
         (unpackFed v p used (m .code) (m .log) f (heldAfter (begunUnpack f u v i) (wordsIn ns))
         (takeWords (quadwords which) f (begunUnpack f u v i) (writeRegisters v) (wordsIn ns) (written (v .row) (m .mem))))
     unpack-fed ns q l =
-        more unpack-taken
+        more false unpack-taken
         (unpack-feeds which v p used (m .code) (m .log) f (begunUnpack f u v i) ns (written (v .row) (m .mem)) (rw (begun-bit, begun-words) q) (rw begun-words l))
 
     -- "After k payload words, exactly the vectors lying wholly in them have been written": the unit's ROW and data memory, all else as it was

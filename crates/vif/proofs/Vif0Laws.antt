@@ -184,8 +184,8 @@ module _ (main : List ℕ) where
           → (b : VifAnswer) → afterWord (feedsOf Vif0 main n) b o a count x .after .path2 ≡ x .path2
       go on (Word true) = same
       go on (Word false) = on (a + 4) (count - 1) (fedTo o) next ∙ same
-      go on (Quadword true) = same
-      go on (Quadword false) = on (a + 16) (count - 4) (fedTo o) next ∙ same
+      go on (Quadword true c) = same
+      go on (Quadword false c) = on (a + 16) (count - 4) (fedTo o) next ∙ same
       go on (Refused k) = refl
 
   pub feed-path : (limit a count : ℕ) (x : Fed) → feedOf Vif0 main limit a count x .after .path2 ≡ x .path2

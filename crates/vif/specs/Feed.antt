@@ -3,6 +3,8 @@ use Prim.Native.Nat.{ℕ, zero, suc, _+_, _*_, _-_, _/_, _%_}
 use mathlib.Core.Bool.{Bool, true, false, _&&_}
 use mathlib.Core.List.{List}
 use lib.Dec.{eqb}
+use Rattle.fields.specs.declared.Counts.{Counts}
+use Rattle.fields.specs.Counts.{none, oneStep, plus}
 use Rattle.fields.specs.Fields.{if}
 use Rattle.fields.specs.Memory.{inside}
 use Rattle.gif.specs.Range.{pathInRange}
@@ -16,43 +18,43 @@ use Rattle.vif.specs.Words.{incomingAt}
 use Rattle.vif.specs.Step.{Left, vifStep}
 use Rattle.vif.specs.Feeds.{Fed, fed}
 
--- what they left, how many words and steps that took, and whether the last step completed an interrupt
+-- what they left, how many words were taken, what the steps count for, and whether the last step completed an interrupt
 pub record FedOn : Type 0 where
   pub after : Fed
   pub words : ℕ
-  pub steps : ℕ
+  pub counts : Counts
   pub interrupt : Bool
 
-abbrev pub fedOn : Fed → ℕ → ℕ → Bool → FedOn
-fedOn x k n i = record { after = x; words = k; steps = n; interrupt = i }
+abbrev pub fedOn : Fed → ℕ → Counts → Bool → FedOn
+fedOn x k c i = record { after = x; words = k; counts = c; interrupt = i }
 
 -- of the program's result and the memories afterwards
 abbrev pub fedOnBy : WordsResult → Lent → FedOn
-fedOnBy r m = fedOn (fed (r .unit) (r .path2) (r .used) m) (r .words) (r .steps) (r .interrupt)
+fedOnBy r m = fedOn (fed (r .unit) (r .path2) (r .used) m) (r .words) (r .counts) (r .interrupt)
 
 abbrev pub fedTo : Left → Fed
 fedTo o = fed (o .unit) (o .path2) (o .used) (o .memories)
 
--- a step more, of k words
-abbrev pub stepMore : ℕ → FedOn → FedOn
-stepMore k r = fedOn (r .after) (k + r .words) (suc (r .steps)) (r .interrupt)
+-- a step before them, of k words
+abbrev pub stepMore : ℕ → Counts → FedOn → FedOn
+stepMore k c r = fedOn (r .after) (k + r .words) (plus c (r .counts)) (r .interrupt)
 
 -- by a step's answer; f goes on with the address and the number of the words that are left
 abbrev pub afterWord : (ℕ → ℕ → Fed → FedOn) → VifAnswer → Left → ℕ → ℕ → Fed → FedOn
-afterWord f (Word true) o a count x = fedOn (fedTo o) 1 1 true
-afterWord f (Word false) o a count x = stepMore 1 (f (a + 4) (count - 1) (fedTo o))
-afterWord f (Quadword true) o a count x = fedOn (fedTo o) 4 1 true
-afterWord f (Quadword false) o a count x = stepMore 4 (f (a + 16) (count - 4) (fedTo o))
-afterWord f (Refused n) o a count x = fedOn x 0 0 false
+afterWord f (Word true) o a count x = fedOn (fedTo o) 1 (oneStep false) true
+afterWord f (Word false) o a count x = stepMore 1 (oneStep false) (f (a + 4) (count - 1) (fedTo o))
+afterWord f (Quadword true closed) o a count x = fedOn (fedTo o) 4 (oneStep closed) true
+afterWord f (Quadword false closed) o a count x = stepMore 4 (oneStep closed) (f (a + 16) (count - 4) (fedTo o))
+afterWord f (Refused n) o a count x = fedOn x 0 none false
 
 abbrev pub onWord : (ℕ → ℕ → Fed → FedOn) → Left → ℕ → ℕ → Fed → FedOn
 onWord f o a count x = afterWord f (o .answer) o a count x
 
 -- at most n steps, with `count` words from address a on
 unfoldable pub feedsOf : VifUnit → List ℕ → ℕ → ℕ → ℕ → Fed → FedOn
-feedsOf which main zero a count x = fedOn x 0 0 false
+feedsOf which main zero a count x = fedOn x 0 none false
 feedsOf which main (suc n) a count x =
-    if (eqb count 0) (fedOn x 0 0 false)
+    if (eqb count 0) (fedOn x 0 none false)
     (onWord (feedsOf which main n) (vifStep which (x .unit) (x .path2) (incomingAt main a) (x .used) (x .memories)) a count x)
 
 -- the words lie inside, start at a word and end with a quadword
@@ -65,4 +67,4 @@ takesSteps which x = eqb (lengthsRefusal which (x .memories) (x .used)) 0 && (un
 
 -- the public function, which tests its own input: none is taken where that is not so
 unfoldable pub feedOf : VifUnit → List ℕ → ℕ → ℕ → ℕ → Fed → FedOn
-feedOf which main n a count x = if (wordsInside main a count && takesSteps which x) (feedsOf which main n a count x) (fedOn x 0 0 false)
+feedOf which main n a count x = if (wordsInside main a count && takesSteps which x) (feedsOf which main n a count x) (fedOn x 0 none false)

@@ -38,19 +38,19 @@ pub record Fed : Type 0 where
 abbrev pub fed : Vif → Path → ℕ → Lent → Fed
 fed v p used m = record { unit = v; path2 = p; used = used; memories = m }
 
--- steps one after another with one and the same answer: each takes a word, or each takes a quadword, and none completes an interrupt
-pub data Feeds (which : VifUnit) (a : VifAnswer) : Fed → List Incoming → Fed → Type 0 where
+-- steps one after another: each takes a word, or each takes a quadword, which closes a packet or not, and none completes an interrupt
+pub data Feeds (which : VifUnit) (a : Bool → VifAnswer) : Fed → List Incoming → Fed → Type 0 where
   none : {x : Fed} → Feeds which a x [] x
-  more : {x y z : Fed} {n : Incoming} {ns : List Incoming}
-      → vifStep which (x .unit) (x .path2) n (x .used) (x .memories) ≡ leaves a (y .unit) (y .path2) (y .used) (y .memories)
+  more : {x y z : Fed} {n : Incoming} {ns : List Incoming} (closed : Bool)
+      → vifStep which (x .unit) (x .path2) n (x .used) (x .memories) ≡ leaves (a closed) (y .unit) (y .path2) (y .used) (y .memories)
       → Feeds which a y ns z
       → Feeds which a x (n ∷ ns) z
 
-abbrev pub aWord : VifAnswer
-aWord = Word false
+abbrev pub aWord : Bool → VifAnswer
+aWord closed = Word false
 
-abbrev pub aQuadword : VifAnswer
-aQuadword = Quadword false
+abbrev pub aQuadword : Bool → VifAnswer
+aQuadword closed = Quadword false closed
 
 -- incoming words as numbers
 abbrev pub wordsIn : List Incoming → List ℕ

@@ -2,6 +2,8 @@
 use Prim.Native.Nat.{ℕ, _+_, _*_, _-_, _^_}
 use mathlib.Core.Bool.{Bool, true, false, not, _&&_}
 use lib.Dec.{eqb}
+use Rattle.fields.specs.declared.Counts.{Counts}
+use Rattle.fields.specs.Counts.{none, oneStep}
 use Rattle.fields.specs.Fields.{if, quadword}
 use Rattle.fields.specs.Refusals.{outOfRange, directUnaligned, mpgUnaligned}
 use Rattle.gif.specs.declared.Path.{Path}
@@ -32,7 +34,7 @@ use Rattle.vif.specs.Range.{unitInRange}
 -- the number of an answer: 0 taken, else document 01's refusal number
 abbrev pub numberOf : VifAnswer → ℕ
 numberOf (Word i) = 0
-numberOf (Quadword i) = 0
+numberOf (Quadword i closed) = 0
 numberOf (Refused n) = n
 
 -- what a step leaves: the answer and its number, and all else
@@ -56,8 +58,14 @@ leaves a v p used m = record { answer = a; number = numberOf a; unit = v; path2 
 -- the words that an answer took
 abbrev pub wordsTaken : VifAnswer → ℕ
 wordsTaken (Word i) = 1
-wordsTaken (Quadword i) = 4
+wordsTaken (Quadword i closed) = 4
 wordsTaken (Refused n) = 0
+
+-- what the step counts for; only a quadword closes a packet
+abbrev pub countsIn : VifAnswer → Counts
+countsIn (Word i) = oneStep false
+countsIn (Quadword i closed) = oneStep closed
+countsIn (Refused n) = none
 
 -- the next word
 abbrev pub wordIn : Incoming → ℕ
@@ -86,8 +94,8 @@ codeStep which v p word used m = afterCode (decodedStep which (decodeOf which wo
 
 -- a quadword of DIRECT, by what the GIF made of it
 abbrev pub afterGif : GifAnswer → GifLeft → Vif → Path → ℕ → Bool → Waiting → ℕ → Lent → Left
-afterGif Taken o v p due i w used m =
-    leaves (Quadword (completes due i)) (withWaiting v (orNothing due w)) (o .path) (o .used) (lent (m .mem) (m .code) (o .log))
+afterGif (Taken closed) o v p due i w used m =
+    leaves (Quadword (completes due i) closed) (withWaiting v (orNothing due w)) (o .path) (o .used) (lent (m .mem) (m .code) (o .log))
 afterGif (GifRefused n) o v p due i w used m = refused n v p used m
 
 abbrev pub afterQuadword : GifLeft → Vif → Path → ℕ → Bool → Waiting → ℕ → Lent → Left

@@ -10,6 +10,9 @@ use super::registers::write_registers;
 use super::step::direct_rest;
 use super::step::directhl_rest;
 use super::words::incoming_at;
+use fields::Counts;
+use fields::plus;
+use fields::steps_alone;
 use fields::word_at;
 use gif::Path;
 use gif::QuadwordsResult;
@@ -21,6 +24,7 @@ ghost use mathlib.Core.Bool.{true, false};
 ghost use mathlib.Core.List.{List};
 ghost use Prim.Native.Nat.{ℕ, _+_, _*_, _-_, _%_, _^_, _<_, _≤_};
 ghost use lib.ListN.{length};
+ghost use Rattle.fields.specs.Counts.{counts, stepsAlone, plus as plusCounts, Counted};
 ghost use Rattle.gif.specs.declared.Path.{Path as PathT};
 ghost use Rattle.memories.specs.Units.{quadwords, instructions, dataWords, codeBytes};
 ghost use Rattle.memories.specs.Lengths.{lent};
@@ -37,17 +41,17 @@ pub(crate) fn taken(
     path2: Path,
     used: u64,
     words: u32,
-    steps: u64,
+    counts: Counts,
     interrupt: bool,
 ) -> WordsResult
-    ensures { λ r. ⌜ r ≡ takenWith unit path2 used words steps interrupt ⌝ }
+    ensures { λ r. ⌜ r ≡ takenWith unit path2 used words counts interrupt ⌝ }
 {
     WordsResult {
         unit,
         path2,
         used,
         words,
-        steps,
+        counts,
         interrupt,
     }
 }
@@ -94,7 +98,7 @@ fn unpack_words(
 ) -> Vif
     requires { ⌜ (unit .waiting ≡ UnpackDue f u) × UnpackReady (quadwords which) unit f u (now «data») × (n < u .due) × (a + 4 * n ≤ 1048576) ⌝ }
     ensures { λ r. ⌜ ((p : PathT) (used : ℕ) (code log : List ℕ)
-        → Leads which (now (main .entry)) a n n (fed unit p used (lent (now («data» .entry)) code log))
+        → Leads which (now (main .entry)) a n (stepsAlone n) (fed unit p used (lent (now («data» .entry)) code log))
         (fed r p used (lent (now («data» .exit)) code log))) ⌝ }
 {
     let size = memories::quadwords(which);
@@ -122,7 +126,7 @@ fn mpg_words(
     requires { ⌜ (unit .waiting ≡ MpgDue address count due interrupt) × MpgReady (instructions which) address count due (now code)
         × (mpgRefused count due (incomingAt (now main) a) ≡ false) × (n < due) × (a + 4 * n ≤ 1048576) ⌝ }
     ensures { λ r. ⌜ ((p : PathT) (used : ℕ) (mem log : List ℕ)
-        → Leads which (now (main .entry)) a n n (fed unit p used (lent mem (now (code .entry)) log))
+        → Leads which (now (main .entry)) a n (stepsAlone n) (fed unit p used (lent mem (now (code .entry)) log))
         (fed r p used (lent mem (now (code .exit)) log))) ⌝ }
 {
     let size = memories::instructions(which);
@@ -154,34 +158,39 @@ fn quadwords(
     log: &mut [u64],
 ) -> QuadwordsResult
     requires { ⌜ (1 ≤ due) × Going limit a count s ⌝ }
-    ensures { λ r. ⌜ Quadwords (now (main .entry)) (a + 4 * s .words) due (count - s .words) (limit - s .steps)
+    ensures { λ r. ⌜ Quadwords (now (main .entry)) (a + 4 * s .words) due (count - s .words) (limit - s .counts .steps)
         (s .path2) (s .used) (now (log .entry)) r (now (log .exit)) ⌝ }
 {
     let path2 = s.path2;
     let at = a + 4 * s.words;
-    let n = quadwords_at_once(due, at, count - s.words, limit - s.steps);
+    let n = quadwords_at_once(due, at, count - s.words, limit - s.counts.steps);
     gif::take_quadwords(path2, main, at, n, log, s.used)
 }
 
 // The result of s with quadwords after it; `rest` is what waits then.
 fn with_quadwords(s: WordsResult, r: QuadwordsResult, rest: Waiting) -> WordsResult
-    requires { ⌜ (s .words + 4 * r .taken < 2 ^ 32) × (s .steps + r .taken < 2 ^ 64) ⌝ }
+    requires { ⌜ (s .words + 4 * r .taken < 2 ^ 32) × (s .counts .steps + r .taken < 2 ^ 64) × Counted (s .counts) × (r .packets ≤ r .taken) ⌝ }
     ensures { λ t. ⌜ t
-        ≡ takenWith (withWaiting (s .unit) rest) (r .path) (r .used) (s .words + 4 * r .taken) (s .steps + r .taken) (s .interrupt) ⌝ }
+        ≡ takenWith (withWaiting (s .unit) rest) (r .path) (r .used) (s .words + 4 * r .taken) (plusCounts (s .counts) (counts (r .taken) (r .packets))) (s .interrupt) ⌝ }
 {
     let unit = with_waiting(s.unit, rest);
     let words = s.words + 4 * r.taken;
-    let steps = s.steps + r.taken as u64;
-    taken(unit, r.path, r.used, words, steps, s.interrupt)
+    let more = Counts {
+        steps: r.taken as u64,
+        packets: r.packets,
+    };
+    let counts = plus(s.counts, more);
+    taken(unit, r.path, r.used, words, counts, s.interrupt)
 }
 
 // The result of s with a burst after it: the unit that it left, and so many words, each a step.
 fn with_words(s: WordsResult, unit: Vif, words: u32) -> WordsResult
-    requires { ⌜ (s .words + words < 2 ^ 32) × (s .steps + words < 2 ^ 64) ⌝ }
-    ensures { λ r. ⌜ r ≡ takenWith unit (s .path2) (s .used) (s .words + words) (s .steps + words) (s .interrupt) ⌝ }
+    requires { ⌜ (s .words + words < 2 ^ 32) × (s .counts .steps + words < 2 ^ 64) × Counted (s .counts) ⌝ }
+    ensures { λ r. ⌜ r
+        ≡ takenWith unit (s .path2) (s .used) (s .words + words) (plusCounts (s .counts) (stepsAlone words)) (s .interrupt) ⌝ }
 {
-    let steps = s.steps + words as u64;
-    taken(unit, s.path2, s.used, s.words + words, steps, s.interrupt)
+    let counts = plus(s.counts, steps_alone(words as u64));
+    taken(unit, s.path2, s.used, s.words + words, counts, s.interrupt)
 }
 
 // Payload words of UNPACK.
@@ -201,7 +210,7 @@ fn unpack_burst(
         → Bursts which (now (main .entry)) limit a count s (lent (now («data» .entry)) code log) r (lent (now («data» .exit)) code log)) ⌝ }
 {
     let unit = s.unit;
-    let n = at_once(u.due, count - s.words, limit - s.steps);
+    let n = at_once(u.due, count - s.words, limit - s.counts.steps);
     let after = unpack_words(which, unit, f, u, main, a + 4 * s.words, n, data);
     with_words(s, after, n)
 }
@@ -235,7 +244,7 @@ fn mpg_burst(
     if mpg_refused(num, due, incoming_at(main, at)) {
         return s;
     }
-    let n = at_once(due, count - s.words, limit - s.steps);
+    let n = at_once(due, count - s.words, limit - s.counts.steps);
     let after = mpg_words(which, unit, address, num, due, interrupt, main, at, n, code);
     with_words(s, after, n)
 }

@@ -45,8 +45,11 @@ fn give(
     let answer = r.answer;
     let path = r.path;
     match answer {
-        GifAnswer::Taken => answered(
-            VifAnswer::Quadword(completed(due, interrupt)),
+        GifAnswer::Taken(closed) => answered(
+            VifAnswer::Quadword {
+                interrupt: completed(due, interrupt),
+                closed,
+            },
             with_waiting(unit, or_nothing(due, rest)),
             path,
             r.used,

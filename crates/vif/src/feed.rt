@@ -7,16 +7,37 @@ use super::bursts::taken;
 use super::step::in_range;
 use super::step::step;
 use super::words::incoming_at;
+use fields::Counts;
 use fields::lies_inside;
+use fields::one_step;
+use fields::plus;
+use fields::steps_alone;
 use gif::Path;
 use memories::VifUnit;
 use memories::lengths_refusal;
 ghost use mathlib.Core.Path.{_≡_};
+ghost use mathlib.Core.Bool.{false};
 ghost use Prim.Native.Nat.{_+_, _*_, _^_, _<_, _≤_};
+ghost use Rattle.fields.specs.Counts.{none, oneStep, plus as plusCounts, Counted};
 ghost use Rattle.memories.specs.Lengths.{lent};
 ghost use Rattle.vif.specs.Feeds.{fed};
 ghost use Rattle.vif.specs.Feed.{fedOnBy, feedsOf, wordsInside, takesSteps, feedOf};
-ghost use Rattle.vif.specs.Inner.{StepReady, FedReady, fedIn, Gives};
+ghost use Rattle.vif.specs.Inner.{StepReady, FedReady, fedIn, Gives, takenWith};
+
+// Before the first word.
+fn nothing_taken(unit: Vif, path2: Path, used: u64) -> WordsResult
+    ensures { λ r. ⌜ r ≡ takenWith unit path2 used 0 none false ⌝ }
+{
+    taken(unit, path2, used, 0, steps_alone(0), false)
+}
+
+// What steps count for with one more, by whether it closed a packet.
+fn one_more(counts: Counts, closed: bool) -> Counts
+    requires { ⌜ Counted counts × (counts .steps + 1 < 2 ^ 64) ⌝ }
+    ensures { λ r. ⌜ r ≡ plusCounts counts (oneStep closed) ⌝ }
+{
+    plus(counts, one_step(closed))
+}
 
 // One step more; one that is refused leaves all as it was.
 fn give_word(
@@ -28,7 +49,7 @@ fn give_word(
     code: &mut [u8],
     log: &mut [u64],
 ) -> WordsResult
-    requires { ⌜ FedReady which (fedIn s (lent (now «data») (now code) (now log))) × (a + 4 * s .words ≤ 1048576) × (s .steps + 1 < 2 ^ 64) ⌝ }
+    requires { ⌜ FedReady which (fedIn s (lent (now «data») (now code) (now log))) × (a + 4 * s .words ≤ 1048576) × (s .counts .steps + 1 < 2 ^ 64) × Counted (s .counts) ⌝ }
     ensures { λ r. ⌜ Gives which (now (main .entry)) a s (lent (now («data» .entry)) (now (code .entry)) (now (log .entry)))
         r (lent (now («data» .exit)) (now (code .exit)) (now (log .exit))) ⌝ }
 {
@@ -40,8 +61,17 @@ fn give_word(
     let after = r.unit;
     let path = r.path2;
     match answer {
-        VifAnswer::Word(i) => taken(after, path, r.used, s.words + 1, s.steps + 1, i),
-        VifAnswer::Quadword(i) => taken(after, path, r.used, s.words + 4, s.steps + 1, i),
+        VifAnswer::Word(i) => {
+            let counts = one_more(s.counts, false);
+            taken(after, path, r.used, s.words + 1, counts, i)
+        }
+        VifAnswer::Quadword {
+            interrupt: i,
+            closed,
+        } => {
+            let counts = one_more(s.counts, closed);
+            taken(after, path, r.used, s.words + 4, counts, i)
+        }
         VifAnswer::Refused(_) => s,
     }
 }
@@ -65,9 +95,9 @@ fn give_words(
         ≡ feedsOf which (now (main .entry)) limit a count
         (fed unit path2 used (lent (now («data» .entry)) (now (code .entry)) (now (log .entry)))) ⌝ }
 {
-    let mut s = taken(unit, path2, used, 0, 0, false);
+    let mut s = nothing_taken(unit, path2, used);
     loop {
-        if s.steps >= limit {
+        if s.counts.steps >= limit {
             return s;
         }
         if s.words >= count {
@@ -78,7 +108,7 @@ fn give_words(
         if s.interrupt {
             return s;
         }
-        if s.steps == b.steps {
+        if s.counts.steps == b.counts.steps {
             return s;
         }
     }
@@ -149,13 +179,7 @@ pub fn take_words(
                 used,
             );
         }
+        return nothing_taken(unit, path2, used);
     }
-    WordsResult {
-        unit,
-        path2,
-        used,
-        words: 0,
-        steps: 0,
-        interrupt: false,
-    }
+    nothing_taken(unit, path2, used)
 }

@@ -116,10 +116,10 @@ pub enum Incoming {
     Word3(u32),
 }
 
-// What was taken, and whether that completed a code with its interrupt bit; or the refusal.
+// What was taken, and whether that completed a code with its interrupt bit, and a quadword closed a packet; or the refusal.
 pub enum VifAnswer {
     Word(bool),
-    Quadword(bool),
+    Quadword { interrupt: bool, closed: bool },
     Refused(u32),
 }
 
@@ -137,12 +137,12 @@ pub struct VifResult {
     pub used: u64,
 }
 
-// What words given one after another leave, how many words and steps were taken, and whether the last step completed an interrupt.
+// What words given one after another leave, how many words were taken, what the steps count for, and whether the last of them completed an interrupt.
 pub struct WordsResult {
     pub unit: Vif,
     pub path2: gif::Path,
     pub used: u64,
     pub words: u32,
-    pub steps: u64,
+    pub counts: fields::Counts,
     pub interrupt: bool,
 }

@@ -2,6 +2,7 @@ use mathlib.Core.Path.{sym, _∙_}
 use native.Mathlib.Omega.{arith}
 use borrow.Author.Needs.{needs}
 use Rattle.vif.proofs.RangeLaws.{mpg-due, mpg-ready}
+use Rattle.fields.proofs.CountLaws.{counted-alone}
 use Rattle.vif.proofs.BurstLaws.{burst-none, burst-leads}
 use Rattle.vif.proofs.bursts.mpg_burst.Statement.{statement}
 use Rattle.vif.proofs.bursts.mpg_burst.Tie as tie
@@ -39,7 +40,7 @@ with-words-requires c κs =
     let n = counted .at-once .ensures in
     let g = start .pre .2 in
     let l = start .fits .limit in
-    (omega arith, omega arith)
+    (omega arith, omega arith, g .counted)
 
 words : tie.Need-returns-3
 words c =
@@ -47,7 +48,7 @@ words c =
     let counted = c .before .before .before .before .before in
     let start = counted .before .before .before .before .before .before .before .before .before .before .before .before .before in
     let n = counted .at-once .ensures in
-    burst-leads (start .pre .2) (n .1) (n .2) (c .before .before .before .mpg-words .ensures _ _ mem log) (c .with-words .ensures)
+    burst-leads (start .pre .2) (n .1) (n .2) (counted-alone _) (c .before .before .before .mpg-words .ensures _ _ mem log) (c .with-words .ensures)
 
 pub mpg-burst-spec : {M : Type 1} → statement M
 mpg-burst-spec =

@@ -1,10 +1,15 @@
 use mathlib.Core.Path.{_∙_}
 use borrow.Author.Needs.{needs}
+use Rattle.fields.proofs.CountLaws.{plus-fits}
 use Rattle.vif.proofs.bursts.with_quadwords.Statement.{statement}
 use Rattle.vif.proofs.bursts.with_quadwords.Tie as tie
 
 returns : tie.Need-returns
-returns c = c .taken .ensures ∙ rw (c .before .before .before .before .before .with-waiting .ensures)
+returns c =
+    let added = c .before in
+    let unit = added .before .before .before .before in
+    let start = unit .before in
+    c .taken .ensures ∙ rw (unit .with-waiting .ensures, added .plus .ensures ∙ plus-fits (start .pre .2) (record { few = start .pre .3 }) (start .pre .1))
 
 pub with-quadwords-spec : {M : Type 1} → statement M
 with-quadwords-spec =
@@ -14,6 +19,6 @@ with-quadwords-spec =
     (λ c. search needs)
     (λ c. search needs)
     (λ c. search needs)
-    (λ c. search needs)
+    (λ c κs. search needs)
     (λ c κs. search needs)
     returns)

@@ -3,11 +3,26 @@ use borrow.Author.Needs.{needs}
 use Rattle.vif.proofs.direct.give.Statement.{statement}
 use Rattle.vif.proofs.direct.give.Tie as tie
 
-returns : tie.Need-returns
-returns c = λ mem code. gave _ _ _ _ _ _ _ _ _ _ (c .before .before .before .before .before .before .before .before .before .before .before .before .pre) (c .before .before .before .before .before .before .before .before .before .take-quadword .ensures) (by-answer (c .before .before .before .before .enum-told .given .1) _ _ _ _ _ _ _ _ (rw (c .answered .ensures, c .before .with-waiting .ensures, c .before .before .or-nothing .ensures, c .before .before .before .completed .ensures)))
+taken : tie.Need-returns
+taken c =
+    λ mem code.
+    let waits = c .before in
+    let completed = waits .before .before in
+    let told = completed .before .before in
+    let gave-it = told .before .before .before .before .before in
+    let start = gave-it .before .before .before in
+    gave _ _ _ _ _ _ _ _ _ _ (start .pre) (gave-it .take-quadword .ensures)
+    (by-answer (told .answer .given .1) _ _ _ _ _ _ _ _ (rw (c .answered .ensures, waits .with-waiting .ensures, waits .before .or-nothing .ensures, completed .completed .ensures)))
 
-returns-2 : tie.Need-returns-2
-returns-2 c = λ mem code. gave _ _ _ _ _ _ _ _ _ _ (c .before .before .before .before .before .before .before .before .before .before .pre) (c .before .before .before .before .before .before .before .take-quadword .ensures) (by-answer (c .before .before .answer .given .1) _ _ _ _ _ _ _ _ (rw (c .answered2 .ensures, gif-kept _ _ _ _ (c .before .before .before .before .before .before .before .before .before .before .pre) (c .before .before .before .before .before .before .before .take-quadword .ensures) (c .before .before .answer .given .1))))
+refused : tie.Need-returns-2
+refused c =
+    λ mem code.
+    let told = c .before .before in
+    let gave-it = told .before .before .before .before .before in
+    let start = gave-it .before .before .before in
+    let q = told .answer2 .given .1 in
+    gave _ _ _ _ _ _ _ _ _ _ (start .pre) (gave-it .take-quadword .ensures)
+    (by-answer q _ _ _ _ _ _ _ _ (rw (c .answered2 .ensures, gif-kept _ _ _ _ (start .pre) (gave-it .take-quadword .ensures) q)))
 
 pub give-spec : {M : Type 1} → statement M
 give-spec =
@@ -22,6 +37,6 @@ give-spec =
     (λ c. search needs)
     (λ c κs. search needs)
     (λ c. search needs)
-    returns
+    taken
     (λ c. search needs)
-    returns-2)
+    refused)

@@ -4,6 +4,8 @@ use Prim.Native.Nat.{_-_}
 use native.Mathlib.Omega.{arith}
 use borrow.Author.Needs.{needs}
 use lib.ListN.{length}
+use Rattle.fields.specs.Counts.{Counted}
+use Rattle.fields.proofs.CountLaws.{counted-none}
 use Rattle.memories.specs.Lengths.{lent}
 use Rattle.vif.specs.Feed.{feedsOf}
 use Rattle.vif.specs.Inner.{FedReady, fedIn, restOf}
@@ -17,31 +19,33 @@ Inv-loop which main a count limit data₀ code₀ log₀ used s₀ «data» code
       ready : FedReady which (fedIn s (lent «data» code log));
       lengths : (length «data» ≡ length data₀) × (length code ≡ length code₀) × (length log ≡ length log₀);
       quiet : s .interrupt ≡ false;
+      counted : Counted (s .counts);
       same : restOf which main limit a count s (lent «data» code log) ≡ feedsOf which main limit a count (fedIn s₀ (lent data₀ code₀ log₀));
     }
 
 abbrev μ-loop : tie.MeasureT-loop
-μ-loop which main a count limit data₀ code₀ log₀ used s₀ «data» code log s = limit - s .steps
+μ-loop which main a count limit data₀ code₀ log₀ used s₀ «data» code log s = limit - s .counts .steps
 
 loop-holds : tie.Need-loop-holds Inv-loop μ-loop
 loop-holds c =
-    let e = c .taken .ensures in
+    let e = c .nothing-taken .ensures in
     record {
       ready = rw e (c .before .before .before .before .before .pre .0);
       lengths = (refl, refl, refl);
       quiet = rw e;
-      same = rest-begins _ _ _ _ _ (c .taken .result) _ (rw e) (rw e);
+      counted = rw e counted-none;
+      same = rest-begins _ _ _ _ _ (c .nothing-taken .result) _ (rw e) (rw e);
     }
 
 out-of-steps : tie.Need-returns Inv-loop μ-loop
 out-of-steps c =
     let turn = c .before .before in
-    rest-ends _ _ _ _ _ _ (turn .before .taken .ensures) (turn .loop .inv .same) (rest-out _ _ _ _ _ _ _ (turn .loop .inv .quiet) (c .if1 .taken))
+    rest-ends _ _ _ _ _ _ (turn .before .nothing-taken .ensures) (turn .loop .inv .same) (rest-out _ _ _ _ _ _ _ (turn .loop .inv .quiet) (c .if1 .taken))
 
 out-of-words : tie.Need-returns-2 Inv-loop μ-loop
 out-of-words c =
     let turn = c .before .before .before .before in
-    rest-ends _ _ _ _ _ _ (turn .before .taken .ensures) (turn .loop .inv .same) (rest-used _ _ _ _ _ _ _ (turn .loop .inv .quiet) (c .if2 .taken))
+    rest-ends _ _ _ _ _ _ (turn .before .nothing-taken .ensures) (turn .loop .inv .same) (rest-used _ _ _ _ _ _ _ (turn .loop .inv .quiet) (c .if2 .taken))
 
 burst-requires : tie.Need-burst-requires Inv-loop μ-loop
 burst-requires c κs =
@@ -51,7 +55,7 @@ burst-requires c κs =
       q .ready .ranged,
       q .ready .fit .long,
       q .ready .fit .wide,
-      record { near = turn .before .before .before .before .before .before .pre .1; few-words = tested .if2 .left; few-steps = tested .before .before .if1 .left; quiet = q .quiet },
+      record { near = turn .before .before .before .before .before .before .pre .1; few-words = tested .if2 .left; few-steps = tested .before .before .if1 .left; counted = q .counted; quiet = q .quiet },
     )
 
 give-word-requires : tie.Need-give-word-requires Inv-loop μ-loop
@@ -61,7 +65,7 @@ give-word-requires c κs =
     let u = burst .burst .ensures in
     let g = u .going in
     let l = turn .before .before .before .before .before .before .fits .limit in
-    (u .stays (turn .loop .inv .ready), omega arith, omega arith)
+    (u .stays (turn .loop .inv .ready), omega arith, omega arith, g .counted)
 
 interrupted : tie.Need-returns-3 Inv-loop μ-loop
 interrupted c =
@@ -69,7 +73,7 @@ interrupted c =
     let burst = gave .before .before .before .before .before .before .before .before .before .before in
     let turn = burst .before .before .before .before .before .before .before .before in
     let u = burst .burst .ensures in
-    rest-ends _ _ _ _ _ _ (turn .before .taken .ensures) (turn .loop .inv .same) (u .same ∙ gave .give-word .ensures .stops _ _ (u .going) (c .if3 .taken))
+    rest-ends _ _ _ _ _ _ (turn .before .nothing-taken .ensures) (turn .loop .inv .same) (u .same ∙ gave .give-word .ensures .stops _ _ (u .going) (c .if3 .taken))
 
 refused : tie.Need-returns-4 Inv-loop μ-loop
 refused c =
@@ -77,7 +81,7 @@ refused c =
     let burst = gave .before .before .before .before .before .before .before .before .before .before in
     let turn = burst .before .before .before .before .before .before .before .before in
     let u = burst .burst .ensures in
-    rest-ends _ _ _ _ _ _ (turn .before .taken .ensures) (turn .loop .inv .same) (u .same ∙ gave .give-word .ensures .refuses _ _ (u .going) (c .if4 .taken))
+    rest-ends _ _ _ _ _ _ (turn .before .nothing-taken .ensures) (turn .loop .inv .same) (u .same ∙ gave .give-word .ensures .refuses _ _ (u .going) (c .if4 .taken))
 
 loop-less : tie.Need-loop-less Inv-loop μ-loop
 loop-less c =
@@ -102,6 +106,7 @@ loop-again c =
       ready = g .ready;
       lengths = (gave .give-word .kept .1 .1 .1 .1 .0 ∙ burst .burst .kept .1 .1 .1 .1 .1 .1 .0 ∙ turn .loop .inv .lengths .0, gave .give-word .kept .1 .1 .1 .1 .1 .0 ∙ burst .burst .kept .1 .1 .1 .1 .1 .1 .1 .0 ∙ turn .loop .inv .lengths .1, gave .give-word .kept .1 .1 .1 .1 .1 .1 .0 ∙ burst .burst .kept .1 .1 .1 .1 .1 .1 .1 .1 .0 ∙ turn .loop .inv .lengths .2);
       quiet = quiet;
+      counted = g .counted;
       same = sym (u .same ∙ g .goes _ _ (u .going) quiet) ∙ turn .loop .inv .same;
     }
 

@@ -24,12 +24,13 @@ given c =
 not-ready : tie.Need-returns-2
 unfolding feedOf if
 not-ready c =
-    let inside = c .before .before .before .before .before in
-    rw (sym (inside .before .words-inside .ensures) ∙ inside .if1 .taken, sym (c .before .takes-steps .ensures) ∙ c .if2 .left)
+    let tested = c .before in
+    let inside = tested .before .before .before .before .before in
+    rw (c .nothing-taken .ensures, sym (inside .before .words-inside .ensures) ∙ inside .if1 .taken, sym (tested .before .takes-steps .ensures) ∙ tested .if2 .left)
 
 outside : tie.Need-returns-3
 unfolding feedOf if
-outside c = rw (sym (c .before .words-inside .ensures) ∙ c .if1 .left)
+outside c = rw (c .nothing-taken2 .ensures, sym (c .before .before .words-inside .ensures) ∙ c .before .if1 .left)
 
 pub take-words-spec : {M : Type 1} → statement M
 take-words-spec =
@@ -42,8 +43,10 @@ take-words-spec =
     (λ c. search needs)
     (λ c. search needs)
     given
+    (λ c κs. search needs)
     (λ c. search needs)
     (λ c. search needs)
     (λ c. search needs)
     not-ready
+    (λ c κs. search needs)
     outside)
