@@ -7,6 +7,8 @@ use native.Mathlib.Omega.{arith}
 use borrow.Author.Tests.{leb-true, leb-false, le-leb, ltb-false, lt-ltb, eqb-true, eqb-false, eq-eqb, ne-eqb, not-false}
 use lib.ListN.{length}
 use lib.Dec.{eqb, leb, ltb}
+use Rattle.fields.specs.Counts.{oneStep, Counted}
+use Rattle.fields.proofs.CountLaws.{counted-none, counted-one}
 use Rattle.fields.specs.Fields.{if}
 use Rattle.fields.specs.Refusals.{tadrOutside, addrUnaligned, scratchpadSet, stackFull, payloadOutside}
 use Rattle.fields.proofs.FieldLaws.{bits-below}
@@ -43,7 +45,7 @@ use Rattle.vif.specs.Words.{incomingAt}
 use Rattle.chain.specs.Pending.{tagsAfter, payloadAfter}
 use Rattle.chain.specs.Range.{channelInRange, startInRange, entryInRange, stackInRange, tagWordInRange, tagsInRange, wordsInRange, payloadInRange, tagsInside, payloadInside}
 use Rattle.chain.specs.Inner.{Ready, PayloadInside}
-use Rattle.chain.specs.Step.{Stepped, stepped, steppedBy, fedUnit, heldBy, afterVif, vifTook, vifGiven, afterGif, gifGiven, payloadStep, payloadOrTag, pendingOrTag, stepOf}
+use Rattle.chain.specs.Step.{Stepped, stepped, refusedStep, steppedBy, fedUnit, heldBy, afterVif, vifTook, vifGiven, afterGif, gifGiven, payloadStep, payloadOrTag, pendingOrTag, stepOf}
 use Rattle.chain.proofs.ReadyLaws.{Facts, facts-of, ready-of, main-most, unit-ready, tadr-whole, payload-ready}
 
 -- ---- a tag
@@ -200,7 +202,7 @@ record Stays (main : List ℕ) (x : Stepped) : Type 0 where
 pub no-completed : {n : ℕ} {i : Bool} → Refused n ≡ Completed i → ⊥
 no-completed e = let z : _≡_ {A = ℕ} 0 1 = cc in omega arith
 
-refused-stays : (main : List ℕ) (n : ℕ) (s : State) (m : Lent) → Stays main (stepped (Refused n) s m)
+refused-stays : (main : List ℕ) (n : ℕ) (s : State) (m : Lent) → Stays main (refusedStep n s m)
 refused-stays main n s m = record { stays = λ i e. absurd (no-completed e) }
 
 module _ {main : List ℕ} {s : State} {m : Lent} (r : Ready main s m) where
@@ -294,7 +296,7 @@ module _ {main : List ℕ} {s : State} {m : Lent} (r : Ready main s m) where
 
       go : (b : VifAnswer) → Stays main (afterVif (fedUnit s) b o t p s m)
       go (Word i) = record { stays = λ j e. again (p 1) one }
-      go (Quadword i) = record { stays = λ j e. again (p 4) four }
+      go (Quadword i c) = record { stays = λ j e. again (p 4) four }
       go (VifRefused n) = refused-stays main n s m
 
   -- tag words: word 3 follows word 2
@@ -349,7 +351,7 @@ module _ {main : List ℕ} {s : State} {m : Lent} (r : Ready main s m) where
       o = gifStep (s .path3) (quadwordAt main a) (s .used) (m .log)
 
       go : (b : GifAnswer) → Stays main (afterGif b o q s m)
-      go Taken =
+      go (Taken c) =
           let g = step-wrote (s .path3) (s .used) (m .log) (log-fits (m .log) (s .used) (f .fit .logged) .holds) (quadwordAt main a) in
           let l : length (o .log) ≡ length (m .log) = rw (g .stored) (logged-length (m .log) (s .used) (g .entries)) in
           record {
@@ -405,29 +407,36 @@ module _ {main : List ℕ} {s : State} {m : Lent} (r : Ready main s m) where
   unfolding stepOf
   step-stays x e i q = rw e (pending-or-tag-stays (s .tags) refl .stays i (ap (λ (y : Stepped). y .answer) (sym e) ∙ q))
 
--- ---- a refusal changes nothing
+-- ---- a refusal changes nothing and counts for nothing, a completed step is one step
 
 record Same (s : State) (m : Lent) (x : Stepped) : Type 0 where
-  same : (n : ℕ) → x .answer ≡ Refused n → x ≡ stepped (Refused n) s m
+  same : (n : ℕ) → x .answer ≡ Refused n → x ≡ refusedStep n s m
+  one : (i : Bool) → x .answer ≡ Completed i → x .counts .steps ≡ 1
+  few : Counted (x .counts)
 
 module _ (main : List ℕ) (s : State) (m : Lent) where
-  completed-same : (i : Bool) (t : State) (l : Lent) → Same s m (stepped (Completed i) t l)
-  completed-same i t l = record { same = λ n e. absurd (no-completed (sym e)) }
+  completed-same : (i closed : Bool) (t : State) (l : Lent) → Same s m (stepped (Completed i) (oneStep closed) t l)
+  completed-same i closed t l = record { same = λ n e. absurd (no-completed (sym e)); one = λ j e. refl; few = counted-one closed }
 
-  refused-same : (k : ℕ) → Same s m (stepped (Refused k) s m)
-  refused-same k = record { same = λ n e. let q : k ≡ n = cc in ap (λ (j : ℕ). stepped (Refused j) s m) q }
+  refused-same : (k : ℕ) → Same s m (refusedStep k s m)
+  refused-same k =
+      record {
+        same = λ n e. let q : k ≡ n = cc in ap (λ (j : ℕ). refusedStep j s m) q;
+        one = λ i e. absurd (no-completed e);
+        few = counted-none;
+      }
 
   tag-same : Same s m (steppedBy (tagStep main s) m)
   unfolding tagRead
-  tag-same = if-ind (λ (x : StepResult). Same s m (steppedBy x m)) _ (completed-same false _ m) (refused-same _)
+  tag-same = if-ind (λ (x : StepResult). Same s m (steppedBy x m)) _ (completed-same false false _ m) (refused-same _)
 
   vif-given-same : (a : ℕ) (t : TagWords) (p : ℕ → Payload) → Same s m (vifGiven main a t p s m)
   unfolding vifGiven
   vif-given-same a t p = go (vifTook (fedUnit s) main a s m .answer)
     where
       go : (b : VifAnswer) → Same s m (afterVif (fedUnit s) b (vifTook (fedUnit s) main a s m) t p s m)
-      go (Word i) = completed-same i _ _
-      go (Quadword i) = completed-same i _ _
+      go (Word i) = completed-same i false _ _
+      go (Quadword i c) = completed-same i c _ _
       go (VifRefused n) = refused-same n
 
   gif-given-same : (a : ℕ) (p : Payload) → Same s m (gifGiven main a p s m)
@@ -435,7 +444,7 @@ module _ (main : List ℕ) (s : State) (m : Lent) where
   gif-given-same a p = go (gifStep (s .path3) (quadwordAt main a) (s .used) (m .log) .answer)
     where
       go : (b : GifAnswer) → Same s m (afterGif b (gifStep (s .path3) (quadwordAt main a) (s .used) (m .log)) p s m)
-      go Taken = completed-same false _ _
+      go (Taken c) = completed-same false c _ _
       go (GifRefused n) = refused-same n
 
   payload-same : (p : Payload) → Same s m (payloadOrTag p main s m)
@@ -450,6 +459,15 @@ module _ (main : List ℕ) (s : State) (m : Lent) where
   pending-same (From a) p = vif-given-same a (tagsAfter a) (λ k. s .payload)
 
   -- a refused step leaves the machine as it was
-  pub step-same : (x : Stepped) → x ≡ stepOf main s m → (n : ℕ) → x .answer ≡ Refused n → x ≡ stepped (Refused n) s m
+  pub step-same : (x : Stepped) → x ≡ stepOf main s m → (n : ℕ) → x .answer ≡ Refused n → x ≡ refusedStep n s m
   unfolding stepOf
   step-same x e n q = e ∙ pending-same (s .tags) (s .payload) .same n (ap (λ (y : Stepped). y .answer) (sym e) ∙ q)
+
+  -- what a step counts for
+  pub step-one : (x : Stepped) → x ≡ stepOf main s m → (i : Bool) → x .answer ≡ Completed i → x .counts .steps ≡ 1
+  unfolding stepOf
+  step-one x e i q = rw e (pending-same (s .tags) (s .payload) .one i (ap (λ (y : Stepped). y .answer) (sym e) ∙ q))
+
+  pub step-counted : (x : Stepped) → x ≡ stepOf main s m → Counted (x .counts)
+  unfolding stepOf
+  step-counted x e = rw e (pending-same (s .tags) (s .payload) .few)

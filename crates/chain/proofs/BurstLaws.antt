@@ -3,12 +3,16 @@ use mathlib.Core.Path.{_≡_, refl, sym, ap, _∙_}
 use mathlib.Core.Bool.{Bool, true, false, _&&_}
 use mathlib.Core.List.{List}
 use Prim.Native.Nat.{ℕ, zero, suc, _+_, _*_, _-_, _/_, _^_, _<_, _≤_}
-use native.Mathlib.Nat.{add-zero, add-assoc, sub-zero}
+use native.Mathlib.Nat.{add-zero, sub-zero}
+use native.Mathlib.Numerals.{one-add}
 use native.Mathlib.Omega.{arith}
 use borrow.Author.Tests.{eqb-false, leb-true, leb-false, le-leb, lt-leb, ne-eqb}
 use lib.Dec.{eqb, leb}
+use Rattle.fields.specs.declared.Counts.{Counts}
+use Rattle.fields.specs.Counts.{none, counts, plus, Counted}
+use Rattle.fields.proofs.CountLaws.{plus-none, counted-none, counted-plus}
 use Rattle.fields.specs.Fields.{if}
-use Rattle.fields.proofs.ChoiceLaws.{if-ind, if-ind-by}
+use Rattle.fields.proofs.ChoiceLaws.{if-ind, if-ind-by, and-false}
 use Rattle.fields.specs.Memory.{quadwordAt}
 use Rattle.gif.specs.declared.Path.{Path}
 use Rattle.gif.specs.declared.GifAnswer.{GifAnswer}
@@ -38,52 +42,56 @@ use Rattle.chain.specs.declared.StepResult.{StepResult}
 use Rattle.chain.specs.declared.State.{State}
 use Rattle.chain.specs.Setters.{pickUnit, withPending, withUnit, withPath3}
 use Rattle.chain.specs.Pending.{noTags, payloadAfter}
-use Rattle.chain.specs.Inner.{Ready, PayloadInside, PayloadNext, Burst, Advance, completedBy}
+use Rattle.chain.specs.Inner.{Ready, PayloadInside, PayloadNext, Burst, Advance}
 use Rattle.chain.specs.Step.{Machine, machine, Stepped, steppedBy, fedUnit, heldBy, afterVif, givenVif, vifGiven, afterGif, givenGif, gifGiven, payloadStep, stepOf}
-use Rattle.chain.specs.Run.{Ran, ran, done, oneMore, stepsOf}
+use Rattle.chain.specs.Run.{Ran, ran, done, counted, stepsOf}
 use Rattle.chain.specs.Stops.{stepFrom, Reaches, here, step}
-use Rattle.chain.proofs.AfterLaws.{no-completed, step-same}
-use Rattle.chain.proofs.RunLaws.{plus, run-goes, run-interrupts, run-refuses}
+use Rattle.chain.proofs.AfterLaws.{no-completed, step-same, step-one, step-counted}
+use Rattle.chain.proofs.RunLaws.{counted-twice, run-goes, run-interrupts, run-refuses}
 use Rattle.chain.proofs.Theorems.{run-from}
 
 -- ---- bursts of steps
 
 -- a step, by what it leaves
-pub step-by : {main : List ℕ} {k : ℕ} {x z : Machine} {o : Stepped} → done (x .state) ≡ false → stepFrom main x ≡ o → o .answer ≡ Completed false
-    → Reaches main k (o .after) z → Reaches main (suc k) x z
-step-by {main} {k} {x} {z} d e q r = step {k = k} {x = x} {z = z} d (rw e q) (rw e r)
+pub step-by : {main : List ℕ} {c : Counts} {x z : Machine} {o : Stepped} → done (x .state) ≡ false → stepFrom main x ≡ o → o .answer ≡ Completed false
+    → Reaches main c (o .after) z → Reaches main (plus (o .counts) c) x z
+step-by {main} {c} {x} {z} d e q r = rw (← e) (step {c = c} {x = x} {z = z} d (rw e q) (rw e r))
 
 -- steps of which none is an interrupt mark
-burst-of : {main : List ℕ} {n k : ℕ} {x y : Machine} → k ≤ n → Reaches main k x y → Burst main n x false k y
-burst-of l r = record { few = l; some = λ h. absurd (differ h); goes = λ h. r; stops = λ h. absurd (differ h) }
+burst-of : {main : List ℕ} {n : ℕ} {c : Counts} {x y : Machine} → c .steps ≤ n → Counted c → Reaches main c x y → Burst main n x false c y
+burst-of l w r = record { few = l; counted = w; some = λ h. absurd (differ h); goes = λ h. r; stops = λ h. absurd (differ h) }
   where
     differ : false ≡ true → ⊥
     differ h = let z : _≡_ {A = ℕ} 0 1 = cc in omega arith
 
 -- no step
-pub burst-none : (main : List ℕ) (n : ℕ) (x : Machine) → Burst main n x false 0 x
-burst-none main n x = burst-of (omega arith) here
+pub burst-none : (main : List ℕ) (n : ℕ) (x : Machine) → Burst main n x false none x
+burst-none main n x = burst-of (omega arith) counted-none here
 
 module _ (main : List ℕ) (n : ℕ) (x : Machine) (d : done (x .state) ≡ false) {o : Stepped} (e : stepFrom main x ≡ o) where
   -- one, that is an interrupt mark
-  pub burst-stops : o .answer ≡ Completed true → Burst main (suc n) x true 1 (o .after)
+  pub burst-stops : o .answer ≡ Completed true → Burst main (suc n) x true (o .counts) (o .after)
   burst-stops q =
+      let one = step-one main (x .state) (x .memories) o (sym e) true q in
       record {
         few = omega arith;
+        counted = step-counted main (x .state) (x .memories) o (sym e);
         some = λ h. omega arith;
         goes = λ h. absurd (let z : _≡_ {A = ℕ} 0 1 = cc in omega arith);
         stops = λ h. run-interrupts main (x .state) (x .memories) (suc n) n refl d (sym e) q;
       }
 
   -- one more
-  pub burst-goes : {i : Bool} {k : ℕ} {y : Machine} → o .answer ≡ Completed false → Burst main n (o .after) i k y → Burst main (suc n) x i (suc k) y
+  pub burst-goes : {i : Bool} {c : Counts} {y : Machine} → o .answer ≡ Completed false → Burst main n (o .after) i c y → Burst main (suc n) x i (plus (o .counts) c) y
   burst-goes q b =
       let l = b .few in
+      let one = step-one main (x .state) (x .memories) o (sym e) false q in
       record {
         few = omega arith;
+        counted = counted-plus (step-counted main (x .state) (x .memories) o (sym e)) (b .counted);
         some = λ h. omega arith;
         goes = λ h. step-by d e q (b .goes h);
-        stops = λ h. run-goes main (x .state) (x .memories) (suc n) n refl d (sym e) q ∙ ap oneMore (b .stops h);
+        stops = λ h. run-goes main (x .state) (x .memories) (suc n) n refl d (sym e) q ∙ ap (counted (o .counts)) (b .stops h);
       }
 
 -- ---- some steps at once, or else one
@@ -91,73 +99,77 @@ module _ (main : List ℕ) (n : ℕ) (x : Machine) (d : done (x .state) ≡ fals
 same-told : {i j : Bool} → Completed i ≡ Completed j → i ≡ j
 same-told q = cc
 
-module _ {main : List ℕ} {n : ℕ} {x : Machine} {i : Bool} {k : ℕ} {y : Machine} (b : Burst main n x i k y) where
-  pub advance-burst : (k ≡ 0 → ⊥) → Advance main n x (Completed i) k y
+module _ {main : List ℕ} {n : ℕ} {x : Machine} {i : Bool} {c : Counts} {y : Machine} (b : Burst main n x i c y) where
+  pub advance-burst : (c .steps ≡ 0 → ⊥) → Advance main n x (Completed i) c y
   advance-burst z =
       record {
         few = b .few;
+        counted = b .counted;
         some = λ q. omega arith;
         goes = λ q. b .goes (same-told q);
         interrupts = λ q. b .stops (same-told q);
-        refuses = λ c q. absurd (no-completed (sym q));
+        refuses = λ k q. absurd (no-completed (sym q));
       }
 
   -- a burst of no step leaves the machine as it was
-  burst-empty : k ≡ 0 → x ≡ y
+  burst-empty : c .steps ≡ 0 → x ≡ y
   burst-empty z = go i refl
     where
-      nowhere : {u v : Machine} → Reaches main 0 u v → u ≡ v
-      nowhere here = refl
+      nowhere : {d : Counts} {u v : Machine} → Reaches main d u v → d .steps ≡ 0 → u ≡ v
+      nowhere here e = refl
+      nowhere (step {x = u} g a p) e = let one = step-one main (u .state) (u .memories) (stepFrom main u) refl false a in absurd (omega arith)
 
-      go : (c : Bool) → i ≡ c → x ≡ y
+      go : (t : Bool) → i ≡ t → x ≡ y
       go true q = let l = b .some q in absurd (omega arith)
-      go false q = nowhere (rw z at (b .goes q))
+      go false q = nowhere (b .goes q) z
 
-  pub empty-ready : k ≡ 0 → Ready main (x .state) (x .memories) → Ready main (y .state) (y .memories)
+  pub empty-ready : c .steps ≡ 0 → Ready main (x .state) (x .memories) → Ready main (y .state) (y .memories)
   empty-ready z r = rw (← burst-empty z) r
 
 -- one step
 module _ (main : List ℕ) (n : ℕ) (s : State) (m : Lent) (d : done s ≡ false) (l : 1 ≤ n) {o : Stepped} (e : o ≡ stepOf main s m) where
-  one-most : (a : StepAnswer) → completedBy a ≤ 1
-  one-most (Completed i) = omega arith
-  one-most (Refused c) = omega arith
+  one-most : (a : StepAnswer) → o .answer ≡ a → o .counts .steps ≤ 1
+  one-most (Completed i) q = let one = step-one main s m o e i q in omega arith
+  one-most (Refused c) q = rw (step-same main s m o e c q) (omega arith)
 
   left : n ≡ suc (n - 1)
   left = omega arith
 
-  advance-step : Advance main n (machine s m) (o .answer) (completedBy (o .answer)) (o .after)
+  advance-step : Advance main n (machine s m) (o .answer) (o .counts) (o .after)
   advance-step =
-      let f = one-most (o .answer) in
+      let f = one-most (o .answer) refl in
       record {
         few = omega arith;
-        some = λ q. rw q (omega arith);
-        goes = λ q. rw q (step-by d (sym e) q here);
-        interrupts = λ q. rw q (run-interrupts main s m n (n - 1) left d e q);
+        counted = step-counted main s m o e;
+        some = λ q. let one = step-one main s m o e false q in omega arith;
+        goes = λ q. rw (plus-none (o .counts)) at (step-by d (sym e) q here);
+        interrupts = λ q. run-interrupts main s m n (n - 1) left d e q;
         refuses = λ c q. rw (step-same main s m o e c q) (run-refuses main s m n (n - 1) left d e q);
       }
 
-pub advance-one : {main : List ℕ} {n : ℕ} {s : State} {m : Lent} {i : Bool} {j : ℕ} {t : State} {m₁ : Lent} → Burst main n (machine s m) i j (machine t m₁) → j ≡ 0
-    → done s ≡ false → 1 ≤ n → {r : StepResult} {m₂ : Lent} → steppedBy r m₂ ≡ stepOf main t m₁ → {k : ℕ} → k ≡ completedBy (r .answer)
-    → Advance main n (machine s m) (r .answer) k (machine (r .state) m₂)
-advance-one {main} {n} {s} {m} {i} {j} {t} {m₁} b z d l e q =
+pub advance-one : {main : List ℕ} {n : ℕ} {s : State} {m : Lent} {i : Bool} {c : Counts} {t : State} {m₁ : Lent} → Burst main n (machine s m) i c (machine t m₁)
+    → c .steps ≡ 0 → done s ≡ false → 1 ≤ n → {r : StepResult} {m₂ : Lent} → steppedBy r m₂ ≡ stepOf main t m₁
+    → Advance main n (machine s m) (r .answer) (r .counts) (machine (r .state) m₂)
+advance-one {main} {n} {s} {m} {i} {c} {t} {m₁} b z d l e =
     let w = burst-empty b z in
-    rw (q, w) (advance-step main n t m₁ (ap (λ (y : Machine). done (y .state)) (sym w) ∙ d) l e)
+    rw w (advance-step main n t m₁ (ap (λ (y : Machine). done (y .state)) (sym w) ∙ d) l e)
 
--- in a run with k steps before
-module _ (main : List ℕ) (s : State) (m : Lent) (k allowance : ℕ) {w : Ran} (e : plus k (stepsOf main (allowance - k) s m) ≡ w)
-    {a : StepAnswer} {j : ℕ} {y : Machine} (b : Advance main (allowance - k) (machine s m) a j y) where
-  pub goes-on : k < allowance → a ≡ Completed false → plus (k + j) (stepsOf main (allowance - (k + j)) (y .state) (y .memories)) ≡ w
+-- in a run with steps before
+module _ (main : List ℕ) (s : State) (m : Lent) (c : Counts) (allowance : ℕ) {w : Ran} (e : counted c (stepsOf main (allowance - c .steps) s m) ≡ w)
+    {a : StepAnswer} {j : Counts} {y : Machine} (b : Advance main (allowance - c .steps) (machine s m) a j y) where
+  pub goes-on : c .steps < allowance → a ≡ Completed false
+      → counted (plus c j) (stepsOf main (allowance - (c .steps + j .steps)) (y .state) (y .memories)) ≡ w
   goes-on l h =
       let f = b .few in
-      let n : allowance - k ≡ j + (allowance - (k + j)) = omega arith in
-      let r = stepsOf main (allowance - (k + j)) (y .state) (y .memories) in
-      rw (add-assoc k j (r .steps)) (sym (ap (plus k) (rw n (run-from (b .goes h) (allowance - (k + j))))) ∙ e)
+      let k = allowance - (c .steps + j .steps) in
+      let n : allowance - c .steps ≡ j .steps + k = omega arith in
+      sym (ap (counted c) (rw n (run-from (b .goes h) k)) ∙ counted-twice c j (stepsOf main k (y .state) (y .memories))) ∙ e
 
-  pub ends-interrupt : a ≡ Completed true → ran Interrupt (y .state) (k + j) (y .memories) ≡ w
-  ends-interrupt h = sym (ap (plus k) (b .interrupts h)) ∙ e
+  pub ends-interrupt : a ≡ Completed true → ran Interrupt (y .state) (plus c j) (y .memories) ≡ w
+  ends-interrupt h = sym (ap (counted c) (b .interrupts h)) ∙ e
 
-  pub ends-refused : {c : ℕ} → a ≡ Refused c → ran (AnswerRefused c) (y .state) (k + j) (y .memories) ≡ w
-  ends-refused {c} h = sym (ap (plus k) (b .refuses c h)) ∙ e
+  pub ends-refused : {k : ℕ} → a ≡ Refused k → ran (AnswerRefused k) (y .state) (plus c j) (y .memories) ≡ w
+  ends-refused {k} h = sym (ap (counted c) (b .refuses k h)) ∙ e
 
 -- ---- the payload after some of its words, and then some more
 
@@ -185,10 +197,6 @@ pub pending-going : (s : State) (a n : ℕ) → s .payload ≡ Words a n → (n 
 unfolding done
 pending-going s a n e z = rw (e, ne-eqb n 0 z) (go (s .ended) (noTags (s .tags)))
   where
-    and-false : (c : Bool) → (c && false) ≡ false
-    and-false true = refl
-    and-false false = refl
-
     go : (c t : Bool) → (c && (t && false)) ≡ false
     go c t = rw (and-false t) (and-false c)
 
@@ -222,7 +230,7 @@ givenWord which main a x = vifStep which (x .unit) (x .path2) (incomingAt main a
 record FewWords (count : ℕ) (r : FedOn) : Type 0 where
   few-words : r .words ≤ 4 * count
 
-no-words : (count : ℕ) (x : Fed) → FewWords count (fedOn x 0 0 false)
+no-words : (count : ℕ) (x : Fed) → FewWords count (fedOn x 0 none false)
 no-words count x = record { few-words = omega arith }
 
 module _ (which : VifUnit) (main : List ℕ) where
@@ -230,8 +238,8 @@ module _ (which : VifUnit) (main : List ℕ) where
       → (b : VifAnswer) (o : VifLeft) (a count : ℕ) (x : Fed) → (count ≡ 0 → ⊥) → FewWords count (afterWord f b o a count x)
   answer-few f h (Word true) o a count x z = record { few-words = omega arith }
   answer-few f h (Word false) o a count x z = let i = h (a + 4) (count - 1) (fedTo o) .few-words in record { few-words = omega arith }
-  answer-few f h (Quadword true) o a count x z = record { few-words = omega arith }
-  answer-few f h (Quadword false) o a count x z = let i = h (a + 16) (count - 4) (fedTo o) .few-words in record { few-words = omega arith }
+  answer-few f h (Quadword true c) o a count x z = record { few-words = omega arith }
+  answer-few f h (Quadword false c) o a count x z = let i = h (a + 16) (count - 4) (fedTo o) .few-words in record { few-words = omega arith }
   answer-few f h (VifRefused c) o a count x z = no-words count x
 
   feeds-few : (n a count : ℕ) (x : Fed) → FewWords count (feedsOf which main n a count x)
@@ -254,9 +262,9 @@ module _ (main : List ℕ) (s : State) (channel : s .channel ≡ 2 → ⊥) wher
 
   -- the burst that words given to VIF1 are
   record FedBurst (n a count : ℕ) (x : Fed) (r : FedOn) : Type 0 where
-    fed-burst : Burst main n (feeding s x (payloadAfter a count 0)) (r .interrupt) (r .steps) (feeding s (r .after) (payloadAfter a count (r .words)))
+    fed-burst : Burst main n (feeding s x (payloadAfter a count 0)) (r .interrupt) (r .counts) (feeding s (r .after) (payloadAfter a count (r .words)))
 
-  none-fed : (n a count : ℕ) (x : Fed) → FedBurst n a count x (fedOn x 0 0 false)
+  none-fed : (n a count : ℕ) (x : Fed) → FedBurst n a count x (fedOn x 0 none false)
   none-fed n a count x = record { fed-burst = burst-none main n _ }
 
   -- a word or quadword, by the answer to it
@@ -276,12 +284,12 @@ module _ (main : List ℕ) (s : State) (channel : s .channel ≡ 2 → ⊥) wher
       going = pending-going _ a count (payload-whole a count z) z
 
       stop-after : (k : ℕ) {y : Stepped} → stepFrom main (feeding s x (payloadAfter a count 0)) ≡ y → y .answer ≡ Completed true
-          → y .after ≡ feeding s (fedTo o) (payloadAfter a count k) → FedBurst (suc n) a count x (fedOn (fedTo o) k 1 true)
+          → y .after ≡ feeding s (fedTo o) (payloadAfter a count k) → FedBurst (suc n) a count x (fedOn (fedTo o) k (y .counts) true)
       stop-after k e h w = record { fed-burst = rw (← w) (burst-stops main n _ going e h) }
 
       go-after : (k : ℕ) {y : Stepped} → stepFrom main (feeding s x (payloadAfter a count 0)) ≡ y → y .answer ≡ Completed false
-          → y .after ≡ feeding s (fedTo o) (payloadAfter a count k) → FedBurst (suc n) a count x (stepMore k (feedsOf (fedUnit s) main n (a + 4 * k) (count - k) (fedTo o)))
-      go-after k e h w =
+          → y .after ≡ feeding s (fedTo o) (payloadAfter a count k) → FedBurst (suc n) a count x (stepMore k (y .counts) (feedsOf (fedUnit s) main n (a + 4 * k) (count - k) (fedTo o)))
+      go-after k {y} e h w =
           let r = feedsOf (fedUnit s) main n (a + 4 * k) (count - k) (fedTo o) in
           let i = f (a + 4 * k) (count - k) (fedTo o) .fed-burst in
           let p = payload-more a count k 0 ∙ ap (payloadAfter a count) (add-zero k) in
@@ -294,8 +302,8 @@ module _ (main : List ℕ) (s : State) (channel : s .channel ≡ 2 → ⊥) wher
       go : (b : VifAnswer) → o .answer ≡ b → FedBurst (suc n) a count x (afterWord (feedsOf (fedUnit s) main n) b o a count x)
       go (Word true) q = stop-after 1 (at-word (Word true) q) refl (again 1)
       go (Word false) q = go-after 1 (at-word (Word false) q) refl (again 1)
-      go (Quadword true) q = stop-after 4 (at-word (Quadword true) q) refl (again 4)
-      go (Quadword false) q = go-after 4 (at-word (Quadword false) q) refl (again 4)
+      go (Quadword true c) q = stop-after 4 (at-word (Quadword true c) q) refl (again 4)
+      go (Quadword false c) q = go-after 4 (at-word (Quadword false c) q) refl (again 4)
       go (VifRefused c) q = none-fed (suc n) a count x
 
   words-fed : (n a count : ℕ) (x : Fed) → FedBurst n a count x (feedsOf (fedUnit s) main n a count x)
@@ -307,7 +315,7 @@ module _ (main : List ℕ) (s : State) (channel : s .channel ≡ 2 → ⊥) wher
 
   -- whatever was tested
   pub words-burst : (n a count : ℕ) (x : Fed) {r : FedOn} → r ≡ feedOf (fedUnit s) main n a count x
-      → Burst main n (feeding s x (payloadAfter a count 0)) (r .interrupt) (r .steps) (feeding s (r .after) (payloadAfter a count (r .words)))
+      → Burst main n (feeding s x (payloadAfter a count 0)) (r .interrupt) (r .counts) (feeding s (r .after) (payloadAfter a count (r .words)))
   unfolding feedOf
   words-burst n a count x e = rw e (if-ind (FedBurst n a count x) _ (words-fed n a count x) (none-fed n a count x) .fed-burst)
 
@@ -322,7 +330,7 @@ module _ {s : State} {a count : ℕ} (p : PayloadNext s a count) where
       (e : fedOnBy v m′ ≡ feedOf which main n a count (fed u (s .path2) (s .used) m)) where
     pub words-given : (s .channel ≡ 2 → ⊥) → {t : State}
         → t ≡ withPending (withUnit which s (v .unit) (v .path2) (v .used)) NoTagWords (payloadAfter a count (v .words))
-        → Burst main n (machine s m) (v .interrupt) (v .steps) (machine t m′)
+        → Burst main n (machine s m) (v .interrupt) (v .counts) (machine t m′)
     words-given c q = rw (q, ew, as-feeding m) (words-burst main s c n a count _ (rw (eu, ew) at e))
 
     pub words-fit : PayloadInside main s a count → a + 4 * v .words < 2 ^ 32
@@ -350,9 +358,9 @@ module _ (main : List ℕ) (s : State) (m : Lent) (channel : s .channel ≡ 2) w
 
   -- the burst that quadwords given to path 3 are
   record DrawnBurst (n a count : ℕ) (p : Path) (used : ℕ) (log : List ℕ) (r : GifFed) : Type 0 where
-    drawn-burst : Burst main n (drawing s m (gifFed p used log 0 Taken) (payloadAfter a count 0)) false (r .taken) (drawing s m r (payloadAfter a count (4 * r .taken)))
+    drawn-burst : Burst main n (drawing s m (gifFed p used log 0 0 0) (payloadAfter a count 0)) false (counts (r .taken) (r .packets)) (drawing s m r (payloadAfter a count (4 * r .taken)))
 
-  none-drawn : (n a count : ℕ) (p : Path) (used : ℕ) (log : List ℕ) (g : GifAnswer) → DrawnBurst n a count p used log (gifFed p used log 0 g)
+  none-drawn : (n a count : ℕ) (p : Path) (used : ℕ) (log : List ℕ) (g : ℕ) → DrawnBurst n a count p used log (gifFed p used log 0 0 g)
   none-drawn n a count p used log g = record { drawn-burst = burst-none main n _ }
 
   -- a quadword, by the answer to it
@@ -360,23 +368,23 @@ module _ (main : List ℕ) (s : State) (m : Lent) (channel : s .channel ≡ 2) w
       → ((p′ : Path) (used′ : ℕ) (log′ : List ℕ) → DrawnBurst n (a + 16) (count - 4) p′ used′ log′ (f p′ used′ log′))
       → (b : GifAnswer) → givenQuadword main a p used log .answer ≡ b
       → DrawnBurst (suc n) a count p used log (afterQuadword f b (givenQuadword main a p used log) p used log)
-  quadword-drawn n a count p used log f z i Taken q =
+  quadword-drawn n a count p used log f z i (Taken c) q =
       let o = givenQuadword main a p used log in
       let r = f (o .path) (o .used) (o .log) in
-      let x = drawing s m (gifFed p used log 0 Taken) (Words a count) in
+      let x = drawing s m (gifFed p used log 0 0 0) (Words a count) in
       let e : 4 * suc (r .taken) ≡ 4 + 4 * r .taken = omega arith in
-      let j : stepFrom main x ≡ afterGif Taken o (payloadAfter a count 4) (x .state) (x .memories) = drawn-step (gifFed p used log 0 Taken) a count z ∙ rw q in
+      let j : stepFrom main x ≡ afterGif (Taken c) o (payloadAfter a count 4) (x .state) (x .memories) = drawn-step (gifFed p used log 0 0 0) a count z ∙ rw q in
       record {
         drawn-burst =
-            rw (payload-whole a count z, e, ← payload-more a count 4 (4 * r .taken))
+            rw (payload-whole a count z, e, ← payload-more a count 4 (4 * r .taken), ← one-add (r .taken))
             (burst-goes main n x (pending-going _ a count refl z) j refl
             (rw (← payload-more a count 4 0) (i (o .path) (o .used) (o .log) .drawn-burst)));
       }
-  quadword-drawn n a count p used log f z i (GifRefused c) q = none-drawn (suc n) a count p used log (GifRefused c)
+  quadword-drawn n a count p used log f z i (GifRefused c) q = none-drawn (suc n) a count p used log c
 
   quadwords-drawn : (n a count : ℕ) (p : Path) (used : ℕ) (log : List ℕ) → 4 * n ≤ count → DrawnBurst n a count p used log (gifFeedsOf main a n p used log)
   unfolding gifFeedsOf
-  quadwords-drawn zero a count p used log l = none-drawn 0 a count p used log Taken
+  quadwords-drawn zero a count p used log l = none-drawn 0 a count p used log 0
   quadwords-drawn (suc n) a count p used log l =
       quadword-drawn n a count p used log (gifFeedsOf main (a + 16) n) (λ z. omega arith)
       (λ p′ used′ log′. quadwords-drawn n (a + 16) (count - 4) p′ used′ log′ (omega arith))
@@ -385,25 +393,25 @@ module _ (main : List ℕ) (s : State) (m : Lent) (channel : s .channel ≡ 2) w
 
   -- whatever was tested
   pub quadwords-burst : (n a count : ℕ) (p : Path) (used : ℕ) (log : List ℕ) → 4 * n ≤ count → {r : GifFed} → r ≡ gifFeedOf main a n p used log
-      → Burst main n (drawing s m (gifFed p used log 0 Taken) (payloadAfter a count 0)) false (r .taken) (drawing s m r (payloadAfter a count (4 * r .taken)))
+      → Burst main n (drawing s m (gifFed p used log 0 0 0) (payloadAfter a count 0)) false (counts (r .taken) (r .packets)) (drawing s m r (payloadAfter a count (4 * r .taken)))
   unfolding gifFeedOf
   quadwords-burst n a count p used log l e =
       rw e (if-ind (DrawnBurst n a count p used log) _ (quadwords-drawn n a count p used log l) (none-drawn n a count p used log _) .drawn-burst)
 
 module _ {s : State} {a count : ℕ} (p : PayloadNext s a count) where
-  as-drawing : (m : Lent) → machine s m ≡ drawing s m (gifFed (s .path3) (s .used) (m .log) 0 Taken) (payloadAfter a count 0)
+  as-drawing : (m : Lent) → machine s m ≡ drawing s m (gifFed (s .path3) (s .used) (m .log) 0 0 0) (payloadAfter a count 0)
   as-drawing m = rw (payload-whole a count (p .some), ← p .payload, ← p .no-tags)
 
   -- quadwords that the GIF tested and took
   pub quadwords-given : (main mem code log : List ℕ) (n : ℕ) {limit : ℕ} {log′ : List ℕ} {v : QuadwordsResult} → fedBy v log′ ≡ gifFeedOf main a n (s .path3) (s .used) log
       → s .channel ≡ 2 → (n ≤ count / 4) × (n ≤ limit)
       → {t : State} → t ≡ withPending (withPath3 s (v .path) (v .used)) NoTagWords (payloadAfter a count (4 * v .taken))
-      → Burst main limit (machine s (lent mem code log)) false (v .taken) (machine t (lent mem code log′))
+      → Burst main limit (machine s (lent mem code log)) false (counts (v .taken) (v .packets)) (machine t (lent mem code log′))
   quadwords-given main mem code log n e c l q =
       rw (q, as-drawing (lent mem code log))
       (let b = quadwords-burst main s (lent mem code log) c n a count (s .path3) (s .used) log (omega arith) e in
       let f = b .few in
-      burst-of (omega arith) (b .goes refl))
+      burst-of (omega arith) (b .counted) (b .goes refl))
 
 -- they end where the payload does
 pub quadwords-fit : {main : List ℕ} {s : State} {a count : ℕ} → PayloadInside main s a count → (n : ℕ) (log : List ℕ) {log′ : List ℕ} {v : QuadwordsResult}

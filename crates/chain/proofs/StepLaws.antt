@@ -26,10 +26,10 @@ use Rattle.chain.specs.declared.StepAnswer.the-variants.{Refused}
 use Rattle.chain.specs.declared.StepResult.{StepResult}
 use Rattle.chain.specs.declared.State.{State}
 use Rattle.fields.specs.Memory.{longAt}
-use Rattle.chain.specs.Tags.{stepResult}
+use Rattle.chain.specs.Tags.{refusedResult}
 use Rattle.vif.specs.Words.{incomingAt}
 use Rattle.chain.specs.Inner.{Ready, WordInside, PayloadInside, QuadwordReady, byTaken}
-use Rattle.chain.specs.Step.{Stepped, stepped, steppedBy, fedUnit, heldBy, afterVif, givenVif, vifTook, vifGiven, afterGif, givenGif, gifGiven, payloadOrTag, pendingOrTag}
+use Rattle.chain.specs.Step.{Stepped, refusedStep, steppedBy, fedUnit, heldBy, afterVif, givenVif, vifTook, vifGiven, afterGif, givenGif, gifGiven, payloadOrTag, pendingOrTag}
 use Rattle.chain.proofs.ReadyLaws.{unit-ready, facts-of}
 
 -- what holds at the case that an arm knows holds at the value itself
@@ -56,7 +56,7 @@ same-pending main a t p s m = go (vifTook (fedUnit s) main a s m .answer)
   where
     go : (b : VifAnswer) → afterVif (fedUnit s) b (vifTook (fedUnit s) main a s m) t (byTaken (p 1) (p 4)) s m ≡ afterVif (fedUnit s) b (vifTook (fedUnit s) main a s m) t p s m
     go (Word i) = refl
-    go (Quadword i) = refl
+    go (Quadword i c) = refl
     go (VifRefused n) = refl
 
 -- a word that the channel's unit tested
@@ -78,8 +78,8 @@ module _ {main : List ℕ} {s : State} {m : Lent} (r : Ready main s m) (a : ℕ)
       ap (λ (o : VifLeft). o .memories) (taken-as ∙ w .same k (ap (λ (o : VifLeft). o .answer) (sym taken-as) ∙ q))
 
   -- and the step is refused
-  pub vif-refuses : {k : ℕ} → v .answer ≡ VifRefused k → {x : StepResult} → x ≡ stepResult (Refused k) s → steppedBy x m′ ≡ vifGiven main a t p s m
-  vif-refuses {k} q er = vif-gave (by-vif q which (vifLeft v m′) t p s m (rw er (ap (λ (x : Lent). stepped (Refused k) s x) (vif-same q))))
+  pub vif-refuses : {k : ℕ} → v .answer ≡ VifRefused k → {x : StepResult} → x ≡ refusedResult k s → steppedBy x m′ ≡ vifGiven main a t p s m
+  vif-refuses {k} q er = vif-gave (by-vif q which (vifLeft v m′) t p s m (rw er (ap (λ (x : Lent). refusedStep k s x) (vif-same q))))
 
 -- a quadword that the GIF tested
 module _ {main : List ℕ} {s : State} {log : List ℕ} {a : ℕ} (r : QuadwordReady main a s log) (p : Payload) (mem code : List ℕ) {x y : ℕ} (ex : x ≡ longAt main a)

@@ -17,7 +17,7 @@ use Rattle.chain.specs.declared.StepAnswer.the-variants.{Completed, Refu
 use Rattle.chain.specs.declared.StepResult.{StepResult}
 use Rattle.chain.specs.declared.State.{State}
 use Rattle.chain.specs.Setters.{withTag}
-use Rattle.chain.specs.Tags.{payloadAt, pushed, popped, tagRefusal, tagState, stepResult, tagRead}
+use Rattle.chain.specs.Tags.{payloadAt, pushed, popped, tagRefusal, tagState, completedResult, refusedResult, tagRead}
 
 pub by-push : {k j : Stack} → k ≡ j → (a : ℕ) {r : Stack} → r ≡ pushed j a → r ≡ pushed k a
 by-push q a h = rw q h
@@ -47,12 +47,12 @@ module _ (low high : ℕ) (l : low < 2 ^ 32) (h : high < 2 ^ 32) where
 
   module _ (size : ℕ) (s : State) {n : ℕ} {r : StepResult}
       (e : n ≡ tagRefusal size (s .tadr) (low / 268435456 % 8) (high % 2147483648) (eqb (high / 2147483648) 1) (low % 65536) (s .stack)) where
-    pub tag-taken : n ≡ 0 → r ≡ stepResult (Completed false) (tagState (low / 268435456 % 8) (high % 2147483648) (low % 65536) s)
+    pub tag-taken : n ≡ 0 → r ≡ completedResult false false (tagState (low / 268435456 % 8) (high % 2147483648) (low % 65536) s)
         → r ≡ tagRead size (low + high * 2 ^ 32) s
     unfolding tagRead if
     tag-taken z q = rw (qwc-at, id-at, addr-at, spr-at, ← e, eq-eqb n 0 z) q
 
-    pub tag-refused : (n ≡ 0 → ⊥) → r ≡ stepResult (Refused n) s → r ≡ tagRead size (low + high * 2 ^ 32) s
+    pub tag-refused : (n ≡ 0 → ⊥) → r ≡ refusedResult n s → r ≡ tagRead size (low + high * 2 ^ 32) s
     unfolding tagRead if
     tag-refused z q = rw (qwc-at, id-at, addr-at, spr-at, ← e, ne-eqb n 0 z) q
 

@@ -62,7 +62,7 @@ module _ (main : List ℕ) (s : State) (m : Lent) (r : Ready main s m) (c : s .c
     where
       go : (b : VifAnswer) → OthersKept s (afterVif Vif0 b (vifTook Vif0 main a s m) t p s m)
       go (Word i) = record { vif1 = refl; path2 = no-path a; path3 = refl }
-      go (Quadword i) = record { vif1 = refl; path2 = no-path a; path3 = refl }
+      go (Quadword i d) = record { vif1 = refl; path2 = no-path a; path3 = refl }
       go (VifRefused n) = record { vif1 = refl; path2 = refl; path3 = refl }
 
   given-leaves : (at n : ℕ) → OthersKept s (payloadStep main at n s m)
@@ -98,7 +98,7 @@ module _ (main : List ℕ) (s : State) (m : Lent) (c : s .channel ≡ 0 → ⊥)
     where
       go : (b : VifAnswer) → Vif0Kept (afterVif Vif1 b (vifTook Vif1 main a s m) t p s m)
       go (Word i) = refl
-      go (Quadword i) = refl
+      go (Quadword i d) = refl
       go (VifRefused n) = refl
 
   quadword-keeps : (a : ℕ) (p : Payload) → Vif0Kept (gifGiven main a p s m)
@@ -106,7 +106,7 @@ module _ (main : List ℕ) (s : State) (m : Lent) (c : s .channel ≡ 0 → ⊥)
   quadword-keeps a p = go (gifStep (s .path3) (quadwordAt main a) (s .used) (m .log) .answer)
     where
       go : (b : GifAnswer) → Vif0Kept (afterGif b (gifStep (s .path3) (quadwordAt main a) (s .used) (m .log)) p s m)
-      go Taken = refl
+      go (Taken d) = refl
       go (GifRefused n) = refl
 
   payload-keeps : (p : Payload) → Vif0Kept (payloadOrTag p main s m)

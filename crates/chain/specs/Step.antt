@@ -3,6 +3,8 @@ use Prim.Native.Nat.{ℕ}
 use mathlib.Core.Bool.{false}
 use mathlib.Core.List.{List}
 use lib.Dec.{eqb}
+use Rattle.fields.specs.declared.Counts.{Counts}
+use Rattle.fields.specs.Counts.{none, oneStep}
 use Rattle.fields.specs.Fields.{if}
 use Rattle.gif.specs.declared.GifAnswer.{GifAnswer}
 use Rattle.gif.specs.declared.GifAnswer.the-variants.{Taken, Refused as GifRefused}
@@ -12,7 +14,7 @@ use Rattle.memories.specs.Lengths.{Lent, lent}
 use Rattle.vif.specs.declared.Vif.{Vif}
 use Rattle.vif.specs.declared.VifAnswer.{VifAnswer}
 use Rattle.vif.specs.declared.VifAnswer.the-variants.{Word, Quadword, Refused as VifRefused}
-use Rattle.vif.specs.Step.{Left as VifLeft, vifStep}
+use Rattle.vif.specs.Step.{Left as VifLeft, countsIn, vifStep}
 use Rattle.chain.specs.declared.TagWords.{TagWords}
 use Rattle.chain.specs.declared.TagWords.the-variants.{Nothing as NoTagWords, From}
 use Rattle.chain.specs.declared.Payload.{Payload}
@@ -36,16 +38,21 @@ pub record Machine : Type 0 where
 abbrev pub machine : State → Lent → Machine
 machine s m = record { state = s; memories = m }
 
--- what a step leaves
+-- what a step leaves: its answer, what it counts for, and the machine
 pub record Stepped : Type 0 where
   pub answer : StepAnswer
+  pub counts : Counts
   pub after : Machine
 
-abbrev pub stepped : StepAnswer → State → Lent → Stepped
-stepped a s m = record { answer = a; after = machine s m }
+abbrev pub stepped : StepAnswer → Counts → State → Lent → Stepped
+stepped a c s m = record { answer = a; counts = c; after = machine s m }
 
 abbrev pub steppedBy : StepResult → Lent → Stepped
-steppedBy r m = stepped (r .answer) (r .state) m
+steppedBy r m = stepped (r .answer) (r .counts) (r .state) m
+
+-- "A refused step isn't counted."
+abbrev pub refusedStep : ℕ → State → Lent → Stepped
+refusedStep n s m = stepped (Refused n) none s m
 
 -- the unit that the chain's words go to, by the channel
 abbrev pub fedUnit : State → VifUnit
@@ -55,11 +62,11 @@ fedUnit s = unitOf (s .channel)
 abbrev pub heldBy : VifUnit → State → Vif
 heldBy which s = pickUnit which (s .vif0) (s .vif1)
 
--- a word or quadword that a unit was given, by what it made of it; t and p are what is then pending, p by the number of words taken
+-- a word or quadword that a unit was given, by what it made of it, and, request 1, by whether it closed a packet; t and p are what is then pending, p by the number of words taken
 abbrev pub afterVif : VifUnit → VifAnswer → VifLeft → TagWords → (ℕ → Payload) → State → Lent → Stepped
-afterVif which (Word i) o t p s m = stepped (Completed i) (withPending (withUnit which s (o .unit) (o .path2) (o .used)) t (p 1)) (o .memories)
-afterVif which (Quadword i) o t p s m = stepped (Completed i) (withPending (withUnit which s (o .unit) (o .path2) (o .used)) t (p 4)) (o .memories)
-afterVif which (VifRefused n) o t p s m = stepped (Refused n) s m
+afterVif which (Word i) o t p s m = stepped (Completed i) (countsIn (Word i)) (withPending (withUnit which s (o .unit) (o .path2) (o .used)) t (p 1)) (o .memories)
+afterVif which (Quadword i closed) o t p s m = stepped (Completed i) (countsIn (Quadword i closed)) (withPending (withUnit which s (o .unit) (o .path2) (o .used)) t (p 4)) (o .memories)
+afterVif which (VifRefused n) o t p s m = refusedStep n s m
 
 abbrev pub givenVif : VifUnit → VifLeft → TagWords → (ℕ → Payload) → State → Lent → Stepped
 givenVif which o t p s m = afterVif which (o .answer) o t p s m
@@ -73,8 +80,8 @@ vifGiven main a t p s m = givenVif (fedUnit s) (vifTook (fedUnit s) main a s m) 
 
 -- a quadword that path 3 was given
 abbrev pub afterGif : GifAnswer → GifLeft → Payload → State → Lent → Stepped
-afterGif Taken o p s m = stepped (Completed false) (withPending (withPath3 s (o .path) (o .used)) (s .tags) p) (lent (m .mem) (m .code) (o .log))
-afterGif (GifRefused n) o p s m = stepped (Refused n) s m
+afterGif (Taken closed) o p s m = stepped (Completed false) (oneStep closed) (withPending (withPath3 s (o .path) (o .used)) (s .tags) p) (lent (m .mem) (m .code) (o .log))
+afterGif (GifRefused n) o p s m = refusedStep n s m
 
 abbrev pub givenGif : GifLeft → Payload → State → Lent → Stepped
 givenGif o p s m = afterGif (o .answer) o p s m

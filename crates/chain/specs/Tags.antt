@@ -4,6 +4,7 @@ use mathlib.Core.Bool.{Bool, true, false, not, _&&_, _||_}
 use mathlib.Core.List.{List}
 use lib.ListN.{length}
 use lib.Dec.{eqb, ltb, leb}
+use Rattle.fields.specs.Counts.{none, oneStep}
 use Rattle.fields.specs.Fields.{if, bits}
 use Rattle.fields.specs.Refusals.{tadrOutside, addrUnaligned, scratchpadSet, stackFull, payloadOutside}
 use Rattle.chain.specs.declared.Stack.{Stack}
@@ -111,12 +112,15 @@ tagState id addr qwc s =
     (tagWordsOf (s .tte) (s .tadr))
     (payloadOf (payloadAt id addr (s .tadr)) qwc)
 
-abbrev pub stepResult : StepAnswer → State → StepResult
-stepResult a s = record { answer = a; state = s }
+abbrev pub completedResult : Bool → Bool → State → StepResult
+completedResult i closed s = record { answer = Completed i; counts = oneStep closed; state = s }
+
+abbrev pub refusedResult : ℕ → State → StepResult
+refusedResult n s = record { answer = Refused n; counts = none; state = s }
 
 abbrev pub tagAnswer : ℕ → ℕ → State → StepResult
 tagAnswer n tag s =
-    if (eqb n 0) (stepResult (Completed false) (tagState (idOf tag) (addrOf tag) (qwcOf tag) s)) (stepResult (Refused n) s)
+    if (eqb n 0) (completedResult false false (tagState (idOf tag) (addrOf tag) (qwcOf tag) s)) (refusedResult n s)
 
 unfoldable pub tagRead : ℕ → ℕ → State → StepResult
 tagRead size tag s =

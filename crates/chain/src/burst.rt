@@ -9,10 +9,13 @@ use super::setters::held_by;
 use super::setters::with_path3;
 use super::setters::with_pending;
 use super::setters::with_unit;
+use fields::Counts;
+use fields::steps_alone;
 ghost use mathlib.Core.Path.{_≡_};
 ghost use mathlib.Core.Bool.{false};
 ghost use mathlib.Core.List.{List};
 ghost use Prim.Native.Nat.{ℕ, _≤_};
+ghost use Rattle.fields.specs.Counts.{none};
 ghost use Rattle.memories.specs.Lengths.{lent};
 ghost use Rattle.chain.specs.declared.TagWords.the-variants.{Nothing};
 ghost use Rattle.chain.specs.Inner.{Ready, PayloadNext, PayloadInside, Burst, burstResult};
@@ -31,7 +34,7 @@ fn give_words(
 ) -> BurstResult
     requires { ⌜ PayloadNext s at count × (PayloadInside (now main) s at count × (s .channel ≡ 2 → ⊥)) ⌝ }
     ensures { λ r. ⌜ Burst (now (main .entry)) limit (machine s (lent (now («data» .entry)) (now (code .entry)) (now (log .entry))))
-        (r .interrupt) (r .steps) (machine (r .state) (lent (now («data» .exit)) (now (code .exit)) (now (log .exit)))) ⌝ }
+        (r .interrupt) (r .counts) (machine (r .state) (lent (now («data» .exit)) (now (code .exit)) (now (log .exit)))) ⌝ }
 {
     let which = unit_of(s.channel);
     let unit = held_by(which, s);
@@ -52,13 +55,14 @@ fn give_words(
     let after = r.unit;
     let path = r.path2;
     let rest = payload_after(at, count, r.words);
+    let counts = r.counts;
     BurstResult {
         state: with_pending(
             with_unit(which, s, after, path, r.used),
             TagWords::Nothing,
             rest,
         ),
-        steps: r.steps,
+        counts,
         interrupt: r.interrupt,
     }
 }
@@ -81,26 +85,31 @@ fn give_quadwords(
 ) -> BurstResult
     requires { ⌜ PayloadNext s at count × (PayloadInside (now main) s at count × (s .channel ≡ 2)) ⌝ }
     ensures { λ r. ⌜ ((mem code : List ℕ) → Burst (now (main .entry)) limit (machine s (lent mem code (now (log .entry))))
-        (r .interrupt) (r .steps) (machine (r .state) (lent mem code (now (log .exit))))) ⌝ }
+        (r .interrupt) (r .counts) (machine (r .state) (lent mem code (now (log .exit))))) ⌝ }
 {
     let path3 = s.path3;
     let r = gif::take_quadwords(path3, main, at, smaller(count / 4, limit), log, s.used);
     let path = r.path;
     let rest = payload_after(at, count, 4 * r.taken);
+    let counts = Counts {
+        steps: r.taken as u64,
+        packets: r.packets,
+    };
     BurstResult {
         state: with_pending(with_path3(s, path, r.used), TagWords::Nothing, rest),
-        steps: r.taken as u64,
+        counts,
         interrupt: false,
     }
 }
 
 // No step.
 fn no_burst(s: State) -> BurstResult
-    ensures { λ r. ⌜ r ≡ burstResult s 0 false ⌝ }
+    ensures { λ r. ⌜ r ≡ burstResult s none false ⌝ }
 {
+    let counts = steps_alone(0);
     BurstResult {
         state: s,
-        steps: 0,
+        counts,
         interrupt: false,
     }
 }
@@ -117,7 +126,7 @@ fn give_payload(
 ) -> BurstResult
     requires { ⌜ Ready (now main) s (lent (now «data») (now code) (now log)) × ((s .tags ≡ Nothing) × (s .payload ≡ payload)) ⌝ }
     ensures { λ r. ⌜ Burst (now (main .entry)) limit (machine s (lent (now («data» .entry)) (now (code .entry)) (now (log .entry))))
-        (r .interrupt) (r .steps) (machine (r .state) (lent (now («data» .exit)) (now (code .exit)) (now (log .exit)))) ⌝ }
+        (r .interrupt) (r .counts) (machine (r .state) (lent (now («data» .exit)) (now (code .exit)) (now (log .exit)))) ⌝ }
 {
     match payload {
         Payload::Nothing => no_burst(s),
@@ -144,7 +153,7 @@ pub(crate) fn burst(
 ) -> BurstResult
     requires { ⌜ Ready (now main) s (lent (now «data») (now code) (now log)) ⌝ }
     ensures { λ r. ⌜ Burst (now (main .entry)) limit (machine s (lent (now («data» .entry)) (now (code .entry)) (now (log .entry))))
-        (r .interrupt) (r .steps) (machine (r .state) (lent (now («data» .exit)) (now (code .exit)) (now (log .exit)))) ⌝ }
+        (r .interrupt) (r .counts) (machine (r .state) (lent (now («data» .exit)) (now (code .exit)) (now (log .exit)))) ⌝ }
 {
     let tags = s.tags;
     let payload = s.payload;

@@ -8,23 +8,15 @@ use super::burst::burst;
 use super::pending::finished;
 use super::range::entry_refusal;
 use super::step::step;
+use fields::plus;
+use fields::steps_alone;
 ghost use mathlib.Core.Path.{_≡_};
 ghost use mathlib.Core.Bool.{false};
 ghost use Prim.Native.Nat.{_≤_};
 ghost use Rattle.memories.specs.Lengths.{lent};
-ghost use Rattle.chain.specs.Inner.{Ready, Advance, completedBy};
+ghost use Rattle.chain.specs.Inner.{Ready, Advance};
 ghost use Rattle.chain.specs.Step.{machine};
 ghost use Rattle.chain.specs.Run.{done, leftBy, stepsOf, runOf};
-
-// The steps that an answer completed.
-fn completed(answer: StepAnswer) -> u64
-    ensures { λ r. ⌜ r ≡ completedBy answer ⌝ }
-{
-    match answer {
-        StepAnswer::Completed(_) => 1,
-        StepAnswer::Refused(_) => 0,
-    }
-}
 
 // Some steps at once, or else one.
 fn advance(
@@ -37,24 +29,26 @@ fn advance(
 ) -> AdvanceResult
     requires { ⌜ Ready (now main) s (lent (now «data») (now code) (now log)) × ((done s ≡ false) × (1 ≤ limit)) ⌝ }
     ensures { λ r. ⌜ Advance (now (main .entry)) limit (machine s (lent (now («data» .entry)) (now (code .entry)) (now (log .entry))))
-        (r .answer) (r .steps) (machine (r .state) (lent (now («data» .exit)) (now (code .exit)) (now (log .exit)))) ⌝ }
+        (r .answer) (r .counts) (machine (r .state) (lent (now («data» .exit)) (now (code .exit)) (now (log .exit)))) ⌝ }
 {
     let b = burst(main, s, limit, data, code, log);
     let after = b.state;
-    if b.steps != 0 {
+    if b.counts.steps != 0 {
+        let counts = b.counts;
         return AdvanceResult {
             answer: StepAnswer::Completed(b.interrupt),
             state: after,
-            steps: b.steps,
+            counts,
         };
     }
     let r = step(main, after, data, code, log);
     let answer = r.answer;
     let state = r.state;
+    let counts = r.counts;
     AdvanceResult {
         answer,
         state,
-        steps: completed(answer),
+        counts,
     }
 }
 
@@ -72,18 +66,18 @@ fn steps_of(
         ≡ stepsOf (now (main .entry)) allowance state (lent (now («data» .entry)) (now (code .entry)) (now (log .entry))) ⌝ }
 {
     let mut s = state;
-    let mut steps: u64 = 0;
+    let mut counts = steps_alone(0);
     let answer = loop {
         if finished(s) {
             break Answer::Done;
         }
-        if steps >= allowance {
+        if counts.steps >= allowance {
             break Answer::Allowance;
         }
-        let r = advance(main, s, allowance - steps, data, code, log);
+        let r = advance(main, s, allowance - counts.steps, data, code, log);
         let outcome = r.answer;
         s = r.state;
-        steps = steps + r.steps;
+        counts = plus(counts, r.counts);
         match outcome {
             StepAnswer::Completed(i) => {
                 if i {
@@ -96,7 +90,7 @@ fn steps_of(
     RunResult {
         answer,
         state: s,
-        steps,
+        counts,
     }
 }
 
@@ -114,10 +108,11 @@ pub fn run(
 {
     let refused = entry_refusal(main, data, code, log, state);
     if refused != 0 {
+        let counts = steps_alone(0);
         return RunResult {
             answer: Answer::Refused(refused),
             state,
-            steps: 0,
+            counts,
         };
     }
     steps_of(main, data, code, log, state, allowance)

@@ -52,23 +52,25 @@ pub enum StepAnswer {
     Refused(u32),
 }
 
+// A step's answer, what it counts for, and the state that it leaves.
 pub struct StepResult {
     pub answer: StepAnswer,
+    pub counts: fields::Counts,
     pub state: State,
 }
 
-// What so many steps leave, and whether the last of them was an interrupt mark.
+// What some steps leave and count for, and whether the last of them was an interrupt mark.
 pub(crate) struct BurstResult {
     pub(crate) state: State,
-    pub(crate) steps: u64,
+    pub(crate) counts: fields::Counts,
     pub(crate) interrupt: bool,
 }
 
-// What some steps leave, and the answer to the last; or the refusal of the first.
+// What some steps leave and count for, and the answer to the last; or the refusal of the first.
 pub(crate) struct AdvanceResult {
     pub(crate) answer: StepAnswer,
     pub(crate) state: State,
-    pub(crate) steps: u64,
+    pub(crate) counts: fields::Counts,
 }
 
 pub enum StartAnswer {
@@ -91,5 +93,5 @@ pub enum Answer {
 pub struct RunResult {
     pub answer: Answer,
     pub state: State,
-    pub steps: u64,
+    pub counts: fields::Counts,
 }

@@ -1,7 +1,6 @@
 // One step of a run.
 use super::Payload;
 use super::State;
-use super::StepAnswer;
 use super::StepResult;
 use super::TagWords;
 use super::pending::payload_after;
@@ -11,7 +10,8 @@ use super::setters::held_by;
 use super::setters::with_path3;
 use super::setters::with_pending;
 use super::setters::with_unit;
-use super::tags::answered;
+use super::tags::completed;
+use super::tags::refused;
 use super::tags::take_tag;
 use fields::long_at;
 use gif::GifAnswer;
@@ -49,15 +49,20 @@ fn give_vif(
     let after = r.unit;
     let path = r.path2;
     match answer {
-        VifAnswer::Word(i) => answered(
-            StepAnswer::Completed(i),
+        VifAnswer::Word(i) => completed(
+            i,
+            false,
             with_pending(with_unit(which, s, after, path, r.used), tags, one),
         ),
-        VifAnswer::Quadword(i) => answered(
-            StepAnswer::Completed(i),
+        VifAnswer::Quadword {
+            interrupt: i,
+            closed,
+        } => completed(
+            i,
+            closed,
             with_pending(with_unit(which, s, after, path, r.used), tags, four),
         ),
-        VifAnswer::Refused(n) => answered(StepAnswer::Refused(n), s),
+        VifAnswer::Refused(n) => refused(n, s),
     }
 }
 
@@ -73,11 +78,12 @@ fn give_gif(main: &[u8], a: u32, rest: Payload, s: State, log: &mut [u64]) -> St
     let path = r.path;
     let tags = s.tags;
     match answer {
-        GifAnswer::Taken => answered(
-            StepAnswer::Completed(false),
+        GifAnswer::Taken(closed) => completed(
+            false,
+            closed,
             with_pending(with_path3(s, path, r.used), tags, rest),
         ),
-        GifAnswer::Refused(n) => answered(StepAnswer::Refused(n), s),
+        GifAnswer::Refused(n) => refused(n, s),
     }
 }
 

@@ -6,14 +6,16 @@ use super::StepAnswer;
 use super::StepResult;
 use super::TagWords;
 use super::setters::with_tag;
+use fields::one_step;
 use fields::refusals;
+use fields::steps_alone;
 use fields::word_at;
 ghost use mathlib.Core.Path.{_≡_};
 ghost use mathlib.Core.Bool.{_||_, _&&_, not};
 ghost use Prim.Native.Nat.{_+_, _*_, _%_, _^_, _<_, _≤_};
 ghost use lib.ListN.{length};
 ghost use lib.Dec.{eqb, ltb};
-ghost use Rattle.chain.specs.Tags.{usesAddr, payloadAt, afterPayload, returnTo, nextTadr, isEmpty, isFull, endsChain, pushed, popped, nextStack, tagWordsOf, payloadOf, tagRefusal, tagState, stepResult, tagRead, tagStep};
+ghost use Rattle.chain.specs.Tags.{usesAddr, payloadAt, afterPayload, returnTo, nextTadr, isEmpty, isFull, endsChain, pushed, popped, nextStack, tagWordsOf, payloadOf, tagRefusal, tagState, completedResult, refusedResult, tagRead, tagStep};
 
 fn uses_addr(id: u32) -> bool
     ensures { λ r. ⌜ r ≡ usesAddr id ⌝ }
@@ -239,10 +241,27 @@ fn tag_state(id: u32, addr: u32, qwc: u32, s: State) -> State
     with_tag(s, next, ended, after, tags, payload)
 }
 
-pub(crate) fn answered(answer: StepAnswer, state: State) -> StepResult
-    ensures { λ r. ⌜ r ≡ stepResult answer state ⌝ }
+// A step that was completed; `closed` says whether it closed a packet.
+pub(crate) fn completed(interrupt: bool, closed: bool, state: State) -> StepResult
+    ensures { λ r. ⌜ r ≡ completedResult interrupt closed state ⌝ }
 {
-    StepResult { answer, state }
+    let counts = one_step(closed);
+    StepResult {
+        answer: StepAnswer::Completed(interrupt),
+        counts,
+        state,
+    }
+}
+
+pub(crate) fn refused(number: u32, state: State) -> StepResult
+    ensures { λ r. ⌜ r ≡ refusedResult number state ⌝ }
+{
+    let counts = steps_alone(0);
+    StepResult {
+        answer: StepAnswer::Refused(number),
+        counts,
+        state,
+    }
 }
 
 // A tag by its two low words.
@@ -255,11 +274,11 @@ fn read_tag(size: usize, low: u32, high: u32, s: State) -> StepResult
     let addr = high % 2147483648;
     let spr = high / 2147483648 == 1;
     let stack = s.stack;
-    let refused = tag_refusal(size, s.tadr, id, addr, spr, qwc, stack);
-    if refused == 0 {
-        answered(StepAnswer::Completed(false), tag_state(id, addr, qwc, s))
+    let refusal = tag_refusal(size, s.tadr, id, addr, spr, qwc, stack);
+    if refusal == 0 {
+        completed(false, false, tag_state(id, addr, qwc, s))
     } else {
-        answered(StepAnswer::Refused(refused), s)
+        refused(refusal, s)
     }
 }
 
@@ -270,7 +289,7 @@ pub(crate) fn take_tag(main: &[u8], s: State) -> StepResult
 {
     let tadr = s.tadr;
     if main.len() < (tadr + 16) as usize {
-        return answered(StepAnswer::Refused(refusals::TADR_OUTSIDE), s);
+        return refused(refusals::TADR_OUTSIDE, s);
     }
     read_tag(main.len(), word_at(main, tadr), word_at(main, tadr + 4), s)
 }

@@ -13,11 +13,12 @@ payload-after-requires c κs =
 
 returns : tie.Need-returns
 returns c =
-    let took = c .before .before .before .before .before .before .before .before .before .before .before in
+    let paid = c .before .before .before in
+    let took = paid .before .before .before .before .before .before .before .before .before in
     let held = took .before .before .before .before .before in
     let start = held .before .before .before .before .before .before in
     words-given (start .pre .0) _ _ _ (held .before .unit-of .ensures) (held .held-by .ensures) (took .take-words .ensures) (start .pre .1 .1)
-    (c .with-pending .ensures ∙ rw (c .before .with-unit .ensures, c .before .before .payload-after .ensures))
+    (c .with-pending .ensures ∙ rw (c .before .with-unit .ensures, paid .payload-after .ensures))
 
 pub give-words-spec : {M : Type 1} → statement M
 give-words-spec =

@@ -16,7 +16,7 @@ word c =
     let a = start .args in
     vif-gave (start .pre .0) (a .a) (a .tags) (byTaken (a .one) (a .four)) (came .incoming-at .ensures) (held .before .unit-of .ensures) (held .held-by .ensures) (took .take .ensures)
     (by-vif (c .before .before .before .before .answer .given .1) _ _ _ _ _ _
-    (rw (c .answered .ensures, c .before .with-pending .ensures, c .before .before .with-unit .ensures)))
+    (rw (c .completed .ensures, c .before .with-pending .ensures, c .before .before .with-unit .ensures)))
 
 quadword : tie.Need-returns-2
 unfolding if
@@ -28,7 +28,7 @@ quadword c =
     let a = start .args in
     vif-gave (start .pre .0) (a .a) (a .tags) (byTaken (a .one) (a .four)) (came .incoming-at .ensures) (held .before .unit-of .ensures) (held .held-by .ensures) (took .take .ensures)
     (by-vif (c .before .before .before .before .answer2 .given .1) _ _ _ _ _ _
-    (rw (c .answered2 .ensures, c .before .with-pending2 .ensures, c .before .before .with-unit2 .ensures)))
+    (rw (c .completed2 .ensures, c .before .with-pending2 .ensures, c .before .before .with-unit2 .ensures)))
 
 refused : tie.Need-returns-3
 refused c =
@@ -36,7 +36,7 @@ refused c =
     let came = took .before .before .before .before in
     let held = came .before .before in
     let start = held .before .before .before .before .before .before in
-    vif-refuses (start .pre .0) _ _ _ (came .incoming-at .ensures) (held .before .unit-of .ensures) (held .held-by .ensures) (took .take .ensures) (c .before .before .answer3 .given .1) (c .answered3 .ensures)
+    vif-refuses (start .pre .0) _ _ _ (came .incoming-at .ensures) (held .before .unit-of .ensures) (held .held-by .ensures) (took .take .ensures) (c .before .before .answer3 .given .1) (c .refused .ensures)
 
 pub give-vif-spec : {M : Type 1} → statement M
 give-vif-spec =
@@ -57,12 +57,12 @@ give-vif-spec =
     (λ c. search needs)
     (λ c κs. search needs)
     (λ c. c .before .before .before .before .before .before .before .before .before .before .before .before .before .before .take .kept .1 .1 .1 .1 .0)
-    (λ c. search needs)
-    (λ c. search needs)
+    (λ c. c .before .before .before .before .before .before .before .before .before .before .before .before .before .before .take .kept .1 .1 .1 .1 .1 .0)
+    (λ c. c .before .before .before .before .before .before .before .before .before .before .before .before .before .before .take .kept .1 .1 .1 .1 .1 .1 .0)
     word
     (λ c. c .before .before .before .before .before .before .before .before .before .before .before .before .before .before .take .kept .1 .1 .1 .1 .0)
-    (λ c. search needs)
-    (λ c. search needs)
+    (λ c. c .before .before .before .before .before .before .before .before .before .before .before .before .before .before .take .kept .1 .1 .1 .1 .1 .0)
+    (λ c. c .before .before .before .before .before .before .before .before .before .before .before .before .before .before .take .kept .1 .1 .1 .1 .1 .1 .0)
     quadword
     (λ c. search needs)
     (λ c. search needs)
