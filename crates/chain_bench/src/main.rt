@@ -66,7 +66,7 @@ fn round(
     let after = r.state;
     Total {
         state: after,
-        steps: std::num::wrapping_add_u64(s.steps, r.steps),
+        steps: std::num::wrapping_add_u64(s.steps, r.counts.steps),
         stopped: std::num::wrapping_add_u32(s.stopped, one_more(answer)),
     }
 }

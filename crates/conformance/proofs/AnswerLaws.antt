@@ -8,6 +8,7 @@ use borrow.Author.Tests.{ltb-true, le-ltb, eq-eqb, ne-eqb}
 use lib.ListN.{length, take, drop, take-append-drop, length-drop, drop-of-length-le}
 use lib.Seq.{take-all}
 use lib.Dec.{eqb, ltb}
+use Rattle.fields.specs.Counts.{none}
 use Rattle.fields.specs.Fields.{if}
 use Rattle.fields.specs.Refusals.{mainLength, outOfRange}
 use Rattle.fields.proofs.ChoiceLaws.{if-ind-by}
@@ -105,12 +106,12 @@ module _ (sheet main : List ℕ) (a : ℕ) (s : State) (m : Lent) (allowance : �
   unfolding playRefusal memoriesRefusal
   refusal-is = rw l (lengths-first (mainRefused (length main)) (lengthsRefusal Vif1 m (s .used)) _)
 
-  pub play-lengths : (n ≡ 0 → ⊥) → played (Refused n 0) s 0 main m ≡ playOf sheet main a s m allowance
+  pub play-lengths : (n ≡ 0 → ⊥) → played (Refused n 0) s none main m ≡ playOf sheet main a s m allowance
   unfolding playOf if
   play-lengths z = simp (refusal-is, ne-eqb n 0 z)
 
   module _ (z : n ≡ 0) {r : StartResult} (e : r ≡ startOf s 1 a false) where
-    pub play-start : {k : ℕ} → r .answer ≡ StartRefused k → played (Refused k 0) s 0 main m ≡ playOf sheet main a s m allowance
+    pub play-start : {k : ℕ} → r .answer ≡ StartRefused k → played (Refused k 0) s none main m ≡ playOf sheet main a s m allowance
     unfolding playOf if
     play-start q = let f = start-refused s a (rw e at q) in simp (refusal-is, z, f .0, f .1)
 
@@ -119,7 +120,7 @@ module _ (sheet main : List ℕ) (a : ℕ) (s : State) (m : Lent) (allowance : �
       unfolding if
       accepted = let f = start-passed s a (rw e at q) in simp (refusal-is, z, f)
 
-      pub play-build : {k offset : ℕ} → x ≡ BuildRefused k offset → played (Refused k offset) s 0 main′ m ≡ playOf sheet main a s m allowance
+      pub play-build : {k offset : ℕ} → x ≡ BuildRefused k offset → played (Refused k offset) s none main′ m ≡ playOf sheet main a s m allowance
       unfolding playOf builtAt if
       play-build y =
           let f : buildOf sheet (drop a main) .answer ≡ BuildRefused _ _ = sym (ap (λ (o : Left). o .answer) b) ∙ y in
@@ -127,7 +128,7 @@ module _ (sheet main : List ℕ) (a : ℕ) (s : State) (m : Lent) (allowance : �
           simp (accepted, f, o)
 
       pub play-run : {size : ℕ} → x ≡ Built size → {u : RunResult} {m′ : Lent} → leftBy u m′ ≡ runOf main′ allowance (r .state) m
-          → played (Ended (u .answer)) (u .state) (u .steps) main′ m′ ≡ playOf sheet main a s m allowance
+          → played (Ended (u .answer)) (u .state) (u .counts) main′ m′ ≡ playOf sheet main a s m allowance
       unfolding playOf builtAt if
       play-run {size} y v =
           let f : buildOf sheet (drop a main) .answer ≡ Built size = sym (ap (λ (o : Left). o .answer) b) ∙ y in

@@ -1,11 +1,13 @@
 -- Steps of VIF1 as steps of the chain.
-use mathlib.Core.Path.{_≡_, refl, _∙_}
-use mathlib.Core.Bool.{false}
+use mathlib.Core.Path.{_≡_, refl, sym, _∙_}
+use mathlib.Core.Bool.{Bool, false}
 use mathlib.Core.List.{List, [], _∷_}
 use Prim.Native.Nat.{ℕ, zero, suc, _+_, _*_, _-_, _≤_}
 use native.Mathlib.Nat.{zero-add, mul-zero}
 use native.Mathlib.Omega.{arith}
 use borrow.Author.Tests.{le-leb, lt-leb}
+use Rattle.fields.specs.declared.Counts.{Counts}
+use Rattle.fields.specs.Counts.{none as noCounts, plus}
 use Rattle.fields.specs.Fields.{if}
 use Rattle.gif.specs.declared.Path.{Path}
 use Rattle.memories.specs.declared.VifUnit.the-variants.{Vif1}
@@ -13,7 +15,7 @@ use Rattle.memories.specs.Lengths.{Lent}
 use Rattle.vif.specs.declared.Vif.{Vif}
 use Rattle.vif.specs.declared.VifAnswer.{VifAnswer}
 use Rattle.vif.specs.declared.Incoming.{Incoming}
-use Rattle.vif.specs.Step.{leaves, vifStep}
+use Rattle.vif.specs.Step.{leaves, countsIn, vifStep}
 use Rattle.vif.specs.Feeds.{Fed, Feeds, none, more, aWord, aQuadword}
 use Rattle.chain.specs.declared.TagWords.the-variants.{Nothing as NoTagWords}
 use Rattle.chain.specs.declared.Payload.{Payload}
@@ -23,10 +25,13 @@ use Rattle.chain.specs.declared.State.{State}
 use Rattle.chain.specs.Setters.{withPending, withUnit}
 use Rattle.vif.specs.Words.{incomingAt}
 use Rattle.chain.specs.Pending.{payloadAfter}
-use Rattle.chain.specs.Step.{stepped, givenVif}
+use Rattle.chain.specs.Step.{Machine, Stepped, stepped, givenVif}
+use Rattle.chain.specs.Run.{done}
 use Rattle.chain.specs.Stops.{stepFrom, Reaches, here}
 use Rattle.chain.proofs.BurstLaws.{step-by, pending-going, feeding, fed-step}
 use Rattle.chain.proofs.UnitLaws.{channel-vif1}
+use Rattle.chain.proofs.AfterLaws.{step-one}
+use Rattle.chain.proofs.Theorems.{reaches-join}
 
 -- payload words pending
 abbrev pub pending : ℕ → ℕ → Payload
@@ -50,40 +55,64 @@ unfoldable pub incomings : ℕ → List ℕ → ℕ → ℕ → List Incoming
 incomings w main a zero = []
 incomings w main a (suc j) = incomingAt main a ∷ incomings w main (a + 4 * w) j
 
+-- so many steps, whatever else they count for
+pub record InSteps (main : List ℕ) (k : ℕ) (x y : Machine) : Type 0 where
+  pub counts : Counts
+  pub number : counts .steps ≡ k
+  pub reached : Reaches main counts x y
+
+pub no-steps : {main : List ℕ} {x : Machine} → InSteps main 0 x x
+no-steps = record { counts = noCounts; number = refl; reached = here }
+
+pub step-first : {main : List ℕ} {k : ℕ} {x z : Machine} {o : Stepped} → done (x .state) ≡ false → stepFrom main x ≡ o → o .answer ≡ Completed false
+    → InSteps main k (o .after) z → InSteps main (suc k) x z
+step-first {main} {k} {x} {z} {o} d e q r =
+    let one = step-one main (x .state) (x .memories) o (sym e) false q in
+    let n = r .number in
+    record { counts = plus (o .counts) (r .counts); number = omega arith; reached = step-by d e q (r .reached) }
+
+pub steps-join : {main : List ℕ} {i j : ℕ} {x y z : Machine} → InSteps main i x y → InSteps main j y z → InSteps main (i + j) x z
+steps-join p q =
+    let m = p .number in
+    let n = q .number in
+    record { counts = plus (p .counts) (q .counts); number = omega arith; reached = reaches-join (p .reached) (q .reached) }
+
 -- what an answer makes of the chain: a step completed, and w words taken
-pub record Takes (b : VifAnswer) (w : ℕ) : Type 0 where
+pub record Takes (b : Bool → VifAnswer) (w : ℕ) : Type 0 where
   pub some : 1 ≤ w
-  pub given : (v : Vif) (q : Path) (used : ℕ) (m′ : Lent) (p : ℕ → Payload) (s : State) (m : Lent)
-      → givenVif Vif1 (leaves b v q used m′) NoTagWords p s m ≡ stepped (Completed false) (withPending (withUnit Vif1 s v q used) NoTagWords (p w)) m′
+  pub given : (closed : Bool) (v : Vif) (q : Path) (used : ℕ) (m′ : Lent) (p : ℕ → Payload) (s : State) (m : Lent)
+      → givenVif Vif1 (leaves (b closed) v q used m′) NoTagWords p s m
+      ≡ stepped (Completed false) (countsIn (b closed)) (withPending (withUnit Vif1 s v q used) NoTagWords (p w)) m′
 
 pub word-takes : Takes aWord 1
-word-takes = record { some = omega arith; given = λ v q used m′ p s m. refl }
+word-takes = record { some = omega arith; given = λ closed v q used m′ p s m. refl }
 
 pub quadword-takes : Takes aQuadword 4
-quadword-takes = record { some = omega arith; given = λ v q used m′ p s m. refl }
+quadword-takes = record { some = omega arith; given = λ closed v q used m′ p s m. refl }
 
-module _ (main : List ℕ) (s : State) (channel : s .channel ≡ 1) {b : VifAnswer} {w : ℕ} (t : Takes b w) where
+module _ (main : List ℕ) (s : State) (channel : s .channel ≡ 1) {b : Bool → VifAnswer} {w : ℕ} (t : Takes b w) where
   -- one step
-  taken-step : (x y : Fed) (a n : ℕ) → vifStep Vif1 (x .unit) (x .path2) (incomingAt main a) (x .used) (x .memories) ≡ leaves b (y .unit) (y .path2) (y .used) (y .memories)
+  taken-step : (closed : Bool) (x y : Fed) (a n : ℕ)
+      → vifStep Vif1 (x .unit) (x .path2) (incomingAt main a) (x .used) (x .memories) ≡ leaves (b closed) (y .unit) (y .path2) (y .used) (y .memories)
       → stepFrom main (feeding s x (PayloadWords a (w + n)))
-      ≡ stepped (Completed false) (feeding s y (pending (a + 4 * w) n) .state) (y .memories)
-  taken-step x y a n e =
+      ≡ stepped (Completed false) (countsIn (b closed)) (feeding s y (pending (a + 4 * w) n) .state) (y .memories)
+  taken-step closed x y a n e =
       let h : 1 ≤ w = t .some in
       fed-step main s (λ z. omega arith) x a (w + n) (λ z. omega arith)
       ∙ rw (channel-vif1 (s .channel) (λ z. omega arith), e)
-      (t .given (y .unit) (y .path2) (y .used) (y .memories) (payloadAfter a (w + n)) _ (x .memories) ∙ rw (payload-next a n w))
+      (t .given closed (y .unit) (y .path2) (y .used) (y .memories) (payloadAfter a (w + n)) _ (x .memories) ∙ rw (payload-next a n w))
 
   -- steps of VIF1 are steps of the chain
   pub feeds-reach : (j a n : ℕ) {x y : Fed} → Feeds Vif1 b x (incomings w main a j) y
-      → Reaches main j (feeding s x (pending a (w * j + n))) (feeding s y (pending (a + 4 * (w * j)) n))
+      → InSteps main j (feeding s x (pending a (w * j + n))) (feeding s y (pending (a + 4 * (w * j)) n))
   unfolding incomings
   feeds-reach zero a n none =
       let e : w * 0 + n ≡ n = rw mul-zero (zero-add n) in
       let f : a + 4 * (w * 0) ≡ a = rw mul-zero (omega arith) in
-      rw (e, f) here
-  feeds-reach (suc j) a n (more {x} {y} {z} e f) =
+      rw (e, f) no-steps
+  feeds-reach (suc j) a n (more {x} {y} {z} closed e f) =
       let h : 1 ≤ w = t .some in
       let c : w * suc j + n ≡ w + (w * j + n) = omega arith in
       let g : a + 4 * (w * suc j) ≡ a + 4 * w + 4 * (w * j) = omega arith in
       rw (c, g, pending-some a (w + (w * j + n)) (omega arith))
-      (step-by (pending-going _ a (w + (w * j + n)) refl (λ z. omega arith)) (taken-step x y a (w * j + n) e) refl (feeds-reach j (a + 4 * w) n f))
+      (step-first (pending-going _ a (w + (w * j + n)) refl (λ z. omega arith)) (taken-step closed x y a (w * j + n) e) refl (feeds-reach j (a + 4 * w) n f))

@@ -3,9 +3,11 @@ use mathlib.Core.Path.{_≡_, refl}
 use lib.ListN.{drop}
 use Rattle.fields.specs.Fields.{if, bits, quadword}
 use Rattle.gif.specs.Log.{logged, lacksRoom, logRefused}
-use Rattle.gif.specs.Packed.{packedWrites}
-use Rattle.gif.specs.Tag.{formatOf, nregOf, quadwordsOf as gifQuadwordsOf, tagOf, takenOf, descriptorAt, placeAfter, placeAtTag, tagWrites}
-use Rattle.gif.specs.Step.{commit, tagStep, packedWith, gifStep}
+use Rattle.gif.specs.Packed.{packedWrites, packedQ}
+use Rattle.gif.specs.Tag.{formatOf, nregOf, quadwordsOf as gifQuadwordsOf, tagOf, takenOf, descriptorAt, placeAfter, placeAtTag, tagCloses, dataCloses, tagWrites}
+use Rattle.gif.specs.Reglist.{reglistWrite, reglistRefused, reglistWrites}
+use Rattle.fields.specs.Counts.{oneIf}
+use Rattle.gif.specs.Step.{commit, tagStep, packedWith, reglistStep, imageStep, gifStep}
 use Rattle.unpack.specs.Formats.{namedIn}
 use Rattle.unpack.specs.Mask.{rowOfCycle, codeAt, maskOf}
 use Rattle.unpack.specs.Payload.{vectorBits, payloadWords, wholeVectors}
@@ -34,13 +36,13 @@ use Rattle.sheet.specs.Sizes.{sheetSteps}
 use Rattle.sheet.specs.Layout.{laidOut, chainOf}
 use Rattle.sheet.specs.Build.{buildOf}
 use Rattle.conformance.specs.Demand.{recordsOf}
-use Rattle.conformance.specs.Points.{AllHold, runIn, runOfWords, builtFrom, sizeOf, chainBytes, wordsAt, chainWords, runOfSheet, stepsFor, loggedIn, quadwordIn, instructionIn, allZero, partsWritten, quadwordsFrom, instructionsFrom, dueIn, rowIn, answerIn, runOfVif0, answersTo, programStart, startedIn, tagTransferred, runOn7, left0, left1, runFrom, second, third, playedFrom0, tagUpload, uploadAcrossTags, resumed, points, requestPoints}
+use Rattle.conformance.specs.Points.{AllHold, runIn, runOfWords, builtFrom, sizeOf, chainBytes, wordsAt, chainWords, runOfSheet, stepsFor, loggedIn, quadwordIn, instructionIn, allZero, partsWritten, quadwordsFrom, instructionsFrom, dueIn, rowIn, answerIn, runOfVif0, answersTo, programStart, startedIn, tagTransferred, runOn7, left0, left1, runFrom, second, third, playedFrom0, tagUpload, uploadAcrossTags, resumed, drawn, drawnBy, packetsIn, points, requestPoints}
 use Rattle.conformance.specs.Play.{playRefusal, playOf}
 
 -- ---- the definitions that the table computes through
 
 gifOpen : Unit {0}
-unfolding logged lacksRoom logRefused packedWrites formatOf nregOf gifQuadwordsOf tagOf takenOf descriptorAt placeAfter placeAtTag tagWrites commit tagStep packedWith gifStep
+unfolding oneIf logged lacksRoom logRefused packedWrites packedQ formatOf nregOf gifQuadwordsOf tagOf takenOf descriptorAt placeAfter placeAtTag tagCloses dataCloses tagWrites reglistWrite reglistRefused reglistWrites commit tagStep packedWith reglistStep imageStep gifStep
 gifOpen = tt
 
 unpackOpen : Unit {0}
@@ -60,7 +62,7 @@ unfolding zerosAt padsZero marked kindOf rowRefusal recordRefusal readingAt reco
 sheetOpen = tt
 
 benchOpen : Unit {0}
-unfolding recordsOf runIn runOfWords builtFrom sizeOf chainBytes wordsAt chainWords runOfSheet stepsFor loggedIn quadwordIn instructionIn allZero partsWritten quadwordsFrom instructionsFrom dueIn rowIn answerIn runOfVif0 answersTo startedIn tagTransferred runOn7 runFrom second third playRefusal playOf playedFrom0 tagUpload uploadAcrossTags resumed
+unfolding recordsOf runIn runOfWords builtFrom sizeOf chainBytes wordsAt chainWords runOfSheet stepsFor loggedIn quadwordIn instructionIn allZero partsWritten quadwordsFrom instructionsFrom dueIn rowIn answerIn runOfVif0 answersTo startedIn tagTransferred runOn7 runFrom second third playRefusal playOf playedFrom0 tagUpload uploadAcrossTags resumed drawn drawnBy packetsIn
 benchOpen = tt
 
 opened : Unit {0}
@@ -125,10 +127,15 @@ requestsOpened : Unit {0}
 unfolding opened requestPoints
 requestsOpened = tt
 
+-- request 1
+packets : AllHold (drop 38 requestPoints)
+unfolding requestsOpened
+packets = (refl, (refl, (refl, (refl, (refl, (refl, (refl, tt)))))))
+
 -- request 5
 uploads : AllHold (drop 29 requestPoints)
 unfolding requestsOpened tagsAfter wordsInRange upTo
-uploads = (refl, (refl, (refl, (refl, (refl, (refl, (refl, (refl, (refl, tt)))))))))
+uploads = (refl, (refl, (refl, (refl, (refl, (refl, (refl, (refl, (refl, packets)))))))))
 
 -- request 10
 vif0 : AllHold (drop 16 requestPoints)

@@ -1,6 +1,6 @@
 -- What the chain does with each record's part: from an idle VIF1 at its tag, the record's steps lead to an idle VIF1 at the next tag with its meaning done.
 use mathlib.Core.Path.{_≡_, refl, sym, ap, _∙_}
-use mathlib.Core.Bool.{false}
+use mathlib.Core.Bool.{Bool, false}
 use mathlib.Core.List.{List, [], _∷_, _++_, append-assoc}
 use Prim.Native.Nat.{ℕ, zero, suc, _+_, _*_, _-_, _/_, _%_, _^_, _<_, _≤_}
 use native.Mathlib.Nat.{add-zero, zero-add}
@@ -33,10 +33,8 @@ use Rattle.fields.specs.Memory.{wordAt, longAt, quadwordAt}
 use Rattle.chain.specs.Setters.{withTag}
 use Rattle.vif.specs.Words.{incomingAt}
 use Rattle.chain.specs.Step.{Machine, machine}
-use Rattle.chain.specs.Stops.{Reaches}
-use Rattle.chain.proofs.Theorems.{reaches-join}
 use Rattle.chain.specs.Range.{unitOf}
-use Rattle.chain.proofs.BurstLaws.{step-by, feeding}
+use Rattle.chain.proofs.BurstLaws.{feeding}
 use Rattle.chain.proofs.UnitLaws.{channel-vif1}
 use Rattle.sheet.specs.Records.{recordOf, bytesAt, number}
 use Rattle.sheet.specs.declared.Kind.{Kind}
@@ -48,7 +46,7 @@ use Rattle.sheet.specs.Results.{numbersOf}
 use Rattle.sheet.proofs.LayoutLaws.{words-length as bytes-length}
 use Rattle.sheet.proofs.MeaningLaws.{entries-count}
 use Rattle.conformance.proofs.WordLaws.{Octets, wordsOf, words-small, words-length, wordsFrom, words-join, placed-next, word-number, words-read, words-placed}
-use Rattle.conformance.proofs.FeedLaws.{pending, incomings, word-takes, quadword-takes, feeds-reach}
+use Rattle.conformance.proofs.FeedLaws.{pending, incomings, InSteps, step-first, steps-join, word-takes, quadword-takes, feeds-reach}
 use Rattle.conformance.proofs.TagLaws.{IdleAt, idle-going, cnt-step}
 use Rattle.conformance.proofs.MeaningLaws.{vectors-same, instructions-same, bodyQuadword, bodyQuadwords, quadwords-length, entries-same, number-join}
 
@@ -94,7 +92,7 @@ incoming-quadwords main (suc k) a h =
 pub record Arrived (main : List ℕ) (k b : ℕ) (s : State) (m : Lent) (mem code : List ℕ) (es : List Entry) : Type 0 where
   pub state : State
   pub log : List ℕ
-  pub reached : Reaches main k (machine s m) (machine state (lent mem code log))
+  pub reached : InSteps main k (machine s m) (machine state (lent mem code log))
   pub idle : IdleAt b state
   pub used : state .used ≡ s .used + length es
   pub logged : log ≡ sets (m .log) (2 * s .used) (numbersOf es)
@@ -112,11 +110,11 @@ module _ (main : List ℕ) (a : ℕ) (s : State) (m : Lent) (i : IdleAt a s) (q 
   fed-vif1 : unitOf (s .channel) ≡ Vif1
   fed-vif1 = let c = i .channel in channel-vif1 (s .channel) (λ z. omega arith)
 
-  after-tag : {k : ℕ} {z : Machine} → Reaches main k (feeding tagged unitFed (pending (a + 16) (4 * q))) z → Reaches main (suc k) (machine s m) z
-  after-tag r = step-by (idle-going main a s m i) (cnt-step main a s m i q some few tag room) refl (rw fed-vif1 at r)
+  after-tag : {k : ℕ} {z : Machine} → InSteps main k (feeding tagged unitFed (pending (a + 16) (4 * q))) z → InSteps main (suc k) (machine s m) z
+  after-tag r = step-first (idle-going main a s m i) (cnt-step main a s m i q some few tag room) refl (rw fed-vif1 at r)
 
   -- a payload of words
-  pub words-reach : {y : Fed} → Feeds Vif1 aWord unitFed (incomings 1 main (a + 16) (4 * q)) y → Reaches main (1 + 4 * q) (machine s m) (feeding tagged y NoPayload)
+  pub words-reach : {y : Fed} → Feeds Vif1 aWord unitFed (incomings 1 main (a + 16) (4 * q)) y → InSteps main (1 + 4 * q) (machine s m) (feeding tagged y NoPayload)
   words-reach f =
       let e : 1 * (4 * q) + 0 ≡ 4 * q = omega arith in
       let g : 1 + 4 * q ≡ suc (4 * q) = omega arith in
@@ -124,7 +122,7 @@ module _ (main : List ℕ) (a : ℕ) (s : State) (m : Lent) (i : IdleAt a s) (q 
 
   -- four words, and then quadwords
   pub quadwords-reach : {x y : Fed} (k : ℕ) → q ≡ 1 + k → Feeds Vif1 aWord unitFed (incomings 1 main (a + 16) 4) x → Feeds Vif1 aQuadword x (incomings 4 main (a + 32) k) y
-      → Reaches main (5 + k) (machine s m) (feeding tagged y NoPayload)
+      → InSteps main (5 + k) (machine s m) (feeding tagged y NoPayload)
   quadwords-reach k h f g =
       let e : 1 * 4 + 4 * k ≡ 4 * q = omega arith in
       let c : a + 16 + 4 * (1 * 4) ≡ a + 32 = omega arith in
@@ -132,7 +130,7 @@ module _ (main : List ℕ) (a : ℕ) (s : State) (m : Lent) (i : IdleAt a s) (q 
       let n : 5 + k ≡ suc (4 + k) = omega arith in
       rw n
       (after-tag
-      (reaches-join (rw (e, c) at (feeds-reach main tagged (i .channel) word-takes 4 (a + 16) (4 * k) f))
+      (steps-join (rw (e, c) at (feeds-reach main tagged (i .channel) word-takes 4 (a + 16) (4 * k) f))
       (rw d at (feeds-reach main tagged (i .channel) quadword-takes k (a + 32) 0 g))))
 
   -- afterwards VIF1 is idle at the next tag
@@ -256,14 +254,14 @@ gif-tag-placed main a n ys few e =
     let low : n + 32768 + 268435456 * 2 ^ 32 ≡ n + 2 ^ 15 + 2 ^ 60 = omega arith in
     rw (c, f, g, h, k, low)
 
-feeds-from : {b : VifAnswer} {x x′ y : Fed} {ns : List Incoming} → x ≡ x′ → Feeds Vif1 b x′ ns y → Feeds Vif1 b x ns y
+feeds-from : {b : Bool → VifAnswer} {x x′ y : Fed} {ns : List Incoming} → x ≡ x′ → Feeds Vif1 b x′ ns y → Feeds Vif1 b x ns y
 feeds-from e f = rw e f
 
 module _ (main : List ℕ) (a : ℕ) (s : State) (m : Lent) (i : IdleAt a s) where
   -- where a record's steps led
   arrived : {k q b : ℕ} {mem code : List ℕ} {es : List Entry} (some : 1 ≤ q) (few : q < 65536) (tag : longAt main a ≡ 268435456 + q)
       (room : a + 16 + 16 * q ≤ length main) (y : Fed)
-      → Reaches main k (machine s m) (feeding (tagged main a s m i q some few tag room) y NoPayload)
+      → InSteps main k (machine s m) (feeding (tagged main a s m i q some few tag room) y NoPayload)
       → y .unit .waiting ≡ Nothing → length (y .unit .row) ≡ 4 → y .path2 .place ≡ Idle → b ≡ a + 16 + 16 * q
       → y .memories .mem ≡ mem → y .memories .code ≡ code
       → y .used ≡ s .used + length es → y .memories .log ≡ sets (m .log) (2 * s .used) (numbersOf es)

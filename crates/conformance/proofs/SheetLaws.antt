@@ -18,9 +18,6 @@ use Rattle.chain.specs.declared.State.{State}
 use Rattle.chain.specs.Setters.{withTag}
 use Rattle.chain.specs.Step.{machine}
 use Rattle.chain.specs.Run.{done}
-use Rattle.chain.specs.Stops.{Reaches, here}
-use Rattle.chain.proofs.Theorems.{reaches-join}
-use Rattle.chain.proofs.BurstLaws.{step-by}
 use Rattle.sheet.specs.declared.Kind.{Kind}
 use Rattle.sheet.specs.declared.Kind.the-variants.{Data, Code, Gs, Start}
 use Rattle.sheet.specs.Records.{Record, recordOf, countFits, addressFits, bodyLength}
@@ -34,6 +31,7 @@ use Rattle.sheet.proofs.MeaningLaws.{row-count}
 use Rattle.sheet.proofs.LayoutLaws.{laid-length}
 use Rattle.conformance.proofs.WordLaws.{Octets, one-byte, octets-left, octets-right, placed-next}
 use Rattle.conformance.proofs.TagLaws.{IdleAt, idle-going, end-step}
+use Rattle.conformance.proofs.FeedLaws.{InSteps, no-steps, step-first, steps-join}
 use Rattle.conformance.proofs.RecordLaws.{Arrived, placed-inside, tag-placed, data-record, code-record, gs-record, start-record}
 
 -- ---- one record, whatever its kind
@@ -68,7 +66,7 @@ given s m = fed (m .mem) (m .code) (m .log) (s .used)
 -- where a sheet's steps lead
 pub record Ended (main : List ℕ) (k : ℕ) (s : State) (m : Lent) (o : Fed) : Type 0 where
   pub state : State
-  pub reached : Reaches main k (machine s m) (machine state (lent (o .mem) (o .code) (o .log)))
+  pub reached : InSteps main k (machine s m) (machine state (lent (o .mem) (o .code) (o .log)))
   pub done : done state ≡ true
   pub used : state .used ≡ o .used
 
@@ -79,7 +77,7 @@ ended-as e q r = rw (← q, ← r) e
 -- steps before
 ended-after : {main : List ℕ} {j k b : ℕ} {s : State} {m : Lent} {mem code : List ℕ} {es : List Entry} {o : Fed} (x : Arrived main j b s m mem code es)
     → Ended main k (x .state) (lent mem code (x .log)) o → Ended main (j + k) s m o
-ended-after x e = record { state = e .state; reached = reaches-join (x .reached) (e .reached); done = e .done; used = e .used }
+ended-after x e = record { state = e .state; reached = steps-join (x .reached) (e .reached); done = e .done; used = e .used }
 
 -- the end tag
 end-arrives : (main : List ℕ) (a : ℕ) (s : State) (m : Lent) → IdleAt a s → (rest : List ℕ) → drop a main ≡ endTag ++ rest → Ended main 1 s m (given s m)
@@ -87,7 +85,7 @@ unfolding done
 end-arrives main a s m i rest e =
     record {
       state = withTag s a true (s .stack) NoTagWords NoPayload;
-      reached = step-by (idle-going main a s m i) (end-step main a s m i (tag-placed main a 7 0 rest (omega arith) (omega arith) e) (placed-inside main a endTag rest e (omega arith))) refl here;
+      reached = step-first (idle-going main a s m i) (end-step main a s m i (tag-placed main a 7 0 rest (omega arith) (omega arith) e) (placed-inside main a endTag rest e (omega arith))) refl no-steps;
       done = refl;
       used = refl;
     }

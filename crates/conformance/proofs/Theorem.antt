@@ -8,6 +8,8 @@ use native.Mathlib.Omega.{arith}
 use lib.ListN.{length, take, drop, length-append, length-drop}
 use lib.Seq.{take-at, drop-at}
 use lib.Dec.{ltb}
+use Rattle.fields.specs.declared.Counts.{Counts}
+use Rattle.fields.proofs.CountLaws.{plus-none}
 use Rattle.fields.specs.Fields.{if}
 use Rattle.fields.proofs.ChoiceLaws.{if-ind-by}
 use Rattle.gif.proofs.RangeLaws.{log-fits}
@@ -19,9 +21,9 @@ use Rattle.chain.specs.declared.State.{State}
 use Rattle.chain.specs.Range.{entryRefusal, stateInRange, startInRange}
 use Rattle.chain.specs.Start.{startedFrom, startOf}
 use Rattle.chain.specs.Step.{machine}
-use Rattle.chain.specs.Run.{Ran, ran, done, stepsOf, runOf}
+use Rattle.chain.specs.Run.{Ran, ran, counted, done, stepsOf, runOf}
 use Rattle.chain.proofs.ReadyLaws.{facts-of}
-use Rattle.chain.proofs.RunLaws.{plus, run-done}
+use Rattle.chain.proofs.RunLaws.{run-done}
 use Rattle.chain.proofs.Theorems.{run-from}
 use Rattle.sheet.specs.declared.BuildAnswer.the-variants.{Built}
 use Rattle.sheet.specs.Records.{Record}
@@ -99,14 +101,16 @@ run-entered main allowance s m h = rw h
 
 -- a machine that ends within the allowance
 run-ends : (main : List ℕ) (k allowance : ℕ) (s : State) (m : Lent) (o : Fed) (e : Ended main k s m o) → k ≤ allowance
-    → stepsOf main allowance s m ≡ ran Done (e .state) k (lent (o .mem) (o .code) (o .log))
+    → stepsOf main allowance s m ≡ ran Done (e .state) (e .reached .counts) (lent (o .mem) (o .code) (o .log))
 run-ends main k allowance s m o e h =
     let n = allowance - k in
-    let c : allowance ≡ k + n = omega arith in
+    let d = e .reached .counts in
+    let j = e .reached .number in
+    let c : allowance ≡ d .steps + n = omega arith in
     rw c
-    (run-from (e .reached) n
-    ∙ ap (plus k) (run-done main (e .state) (lent (o .mem) (o .code) (o .log)) n (e .done))
-    ∙ rw (add-zero k))
+    (run-from (e .reached .reached) n
+    ∙ ap (counted d) (run-done main (e .state) (lent (o .mem) (o .code) (o .log)) n (e .done))
+    ∙ ap (λ (x : Counts). ran Done (e .state) x (lent (o .mem) (o .code) (o .log))) (plus-none d))
 
 -- what a sheet's records make of the memories, the log and the entries used is its meaning
 fed-means : (rs : List Record) (mem code log : List ℕ) (used : ℕ) → 2 * used ≤ length log → 2 * (used + sheetEntries rs) ≤ length log
@@ -182,7 +186,7 @@ module _ (sheet output main : List ℕ) (a size allowance : ℕ) (s : State) (m 
       rw (← fed-means rs (m .mem) (m .code) (m .log) (s .used) holds room)
       (sheet-ends main (w .1) (rw (w .0) at (octets sheet (t .bytes))) a begun m idle-begun (p .aligned) room (p .rest) placed)
 
-  run-is : runFrom main a allowance s m ≡ ran Done (ends .state) (sheetSteps rs) (lent (means .mem) (means .code) (logWith (means .entries) (m .log)))
+  run-is : runFrom main a allowance s m ≡ ran Done (ends .state) (ends .reached .counts) (lent (means .mem) (means .code) (logWith (means .entries) (m .log)))
   run-is =
       let k : sheetSteps rs ≤ allowance = rw records-same at (p .allowed) in
       rw begun-same (run-entered main allowance begun m passed ∙ run-ends main (sheetSteps rs) allowance begun m (fedPlain means (m .log)) ends k)
@@ -195,7 +199,7 @@ module _ (sheet output main : List ℕ) (a size allowance : ℕ) (s : State) (m 
   demand-3 =
       record {
         done = ap (λ (r : Ran). r .answer) run-is;
-        steps = rw records-same (ap (λ (r : Ran). r .steps) run-is);
+        steps = rw records-same (ap (λ (r : Ran). r .counts .steps) run-is ∙ ends .reached .number);
         mem = rw records-same (ap (λ (r : Ran). r .after .memories .mem) run-is);
         code = rw records-same (ap (λ (r : Ran). r .after .memories .code) run-is);
         used = rw records-same used-is;

@@ -71,7 +71,7 @@ runFrom main a allowance s m = runOf main allowance (startOf s 1 a false .state)
 pub record Conclusion (sheet main : List ℕ) (a allowance : ℕ) (s : State) (m : Lent) : Type 0 where
   -- the run ends with done in exactly the sheet's steps
   pub done : runFrom main a allowance s m .answer ≡ Done
-  pub steps : runFrom main a allowance s m .steps ≡ stepsMeant sheet
+  pub steps : runFrom main a allowance s m .counts .steps ≡ stepsMeant sheet
   -- and leaves exactly the sheet's plain meaning: both memories
   pub mem : runFrom main a allowance s m .after .memories .mem ≡ meansFrom sheet s m .mem
   pub code : runFrom main a allowance s m .after .memories .code ≡ meansFrom sheet s m .code

@@ -3,6 +3,7 @@ use Prim.Native.Nat.{ℕ}
 use mathlib.Core.List.{List, _++_}
 use lib.ListN.{length, take, drop}
 use lib.Dec.{ltb}
+use Rattle.fields.specs.Counts.{none}
 use Rattle.fields.specs.Fields.{if}
 use Rattle.fields.specs.Refusals.{mainLength}
 use Rattle.memories.specs.declared.VifUnit.the-variants.{Vif1}
@@ -18,7 +19,7 @@ unfoldable pub memoriesRefusal : List ℕ → Lent → ℕ → ℕ
 memoriesRefusal main m used = if (mainRefused (length main)) mainLength (lengthsRefusal Vif1 m used)
 
 abbrev pub refusedWith : ℕ → ℕ → State → PlayResult
-refusedWith n offset s = record { answer = Refused n offset; state = s; steps = 0 }
+refusedWith n offset s = record { answer = Refused n offset; state = s; counts = none }
 
 -- an address, or the end of a memory where it lies beyond
 unfoldable pub placeOf : ℕ → ℕ → ℕ

@@ -5,6 +5,8 @@ use mathlib.Core.List.{List, _++_}
 use mathlib.Core.Path.{_≡_}
 use lib.ListN.{length, take, drop}
 use lib.Dec.{eqb}
+use Rattle.fields.specs.declared.Counts.{Counts}
+use Rattle.fields.specs.Counts.{none}
 use Rattle.fields.specs.Fields.{if}
 use Rattle.fields.specs.Refusals.{mainLength, outOfRange}
 use Rattle.gif.specs.declared.Place.the-variants.{Idle}
@@ -32,24 +34,24 @@ playRefusal main m s a =
     (if (not (stateInRange s && startInRange 1 a false)) outOfRange
     0))
 
--- what is left: the answer, the state, the step count, main memory and the other memories
+-- what is left: the answer, the state, the counts over the completed steps, main memory and the other memories
 pub record Played : Type 0 where
   pub answer : PlayAnswer
   pub state : State
-  pub steps : ℕ
+  pub counts : Counts
   pub main : List ℕ
   pub memories : Lent
 
-abbrev pub played : PlayAnswer → State → ℕ → List ℕ → Lent → Played
-played a s k main m = record { answer = a; state = s; steps = k; main = main; memories = m }
+abbrev pub played : PlayAnswer → State → Counts → List ℕ → Lent → Played
+played a s c main m = record { answer = a; state = s; counts = c; main = main; memories = m }
 
 -- a refusal changes nothing
 abbrev pub playRefused : ℕ → ℕ → State → List ℕ → Lent → Played
-playRefused n offset s main m = played (Refused n offset) s 0 main m
+playRefused n offset s main m = played (Refused n offset) s none main m
 
 -- the run on what the builder and the start left
 abbrev pub playRan : Ran → List ℕ → Played
-playRan r main = played (Ended (r .answer)) (r .after .state) (r .steps) main (r .after .memories)
+playRan r main = played (Ended (r .answer)) (r .after .state) (r .counts) main (r .after .memories)
 
 -- by the builder's answer; its output is main memory from the address on
 abbrev pub playBuilt : BuildAnswer → List ℕ → List ℕ → ℕ → State → Lent → ℕ → Played
@@ -89,7 +91,7 @@ pub record PlayPremises (sheet main : List ℕ) (a allowance : ℕ) (s : State) 
 pub record PlayConclusion (sheet main : List ℕ) (a : ℕ) (s : State) (m : Lent) (r : Played) : Type 0 where
   -- "the run ends with done in exactly that many steps"
   pub done : r .answer ≡ Ended Done
-  pub steps : r .steps ≡ stepsMeant sheet
+  pub steps : r .counts .steps ≡ stepsMeant sheet
   -- main memory has the builder's output from the address on
   pub main-memory : r .main ≡ take a main ++ buildOf sheet (drop a main) .output
   -- both memories "equal what the sheet's plain meaning makes of those the run was lent"

@@ -82,7 +82,7 @@ runOfSheet sheet = runIn (builtFrom sheet .output)
 
 -- the number of the run's answer, the steps of the run, and the sheet's steps
 unfoldable pub stepsFor : List ℕ → List ℕ
-stepsFor sheet = numberOf (runOfSheet sheet .answer) ∷ runOfSheet sheet .steps ∷ stepsMeant sheet ∷ []
+stepsFor sheet = numberOf (runOfSheet sheet .answer) ∷ runOfSheet sheet .counts .steps ∷ stepsMeant sheet ∷ []
 
 -- ---- what a run left
 
@@ -406,6 +406,22 @@ abbrev pub resumedAnswers : VifUnit → ℕ → List ℕ
 resumedAnswers which due =
     answerIn (resumed which due 0) ++ answerIn (resumed which due 1) ++ answerIn (resumed which due 2) ++ answerIn (resumed which due 3)
 
+-- n quadwords given to path 3 from reset
+unfoldable pub drawn : ℕ → List ℕ → Ran
+drawn n words = runFrom resetState 2 (blank .log) n words
+
+-- n quadwords given to path 2 by a code, DIRECT or DIRECTHL
+unfoldable pub drawnBy : ℕ → ℕ → List ℕ → Ran
+drawnBy code n words = runOfWords (1 + n) (0 ∷ 0 ∷ 0 ∷ (code + n) ∷ words)
+
+-- the answer, the steps and the packets closed
+unfoldable pub packetsIn : Ran → List ℕ
+packetsIn r = numberOf (r .answer) ∷ r .counts .steps ∷ r .counts .packets ∷ []
+
+-- a GIF tag with EOP, NLOOP 1 and one descriptor, and a quadword of data
+abbrev pub packetOf : ℕ → List ℕ
+packetOf descriptor = 0x00008001 ∷ 0x10000000 ∷ descriptor ∷ 0 ∷ 7 ∷ 0 ∷ 0x42 ∷ 0 ∷ []
+
 unfoldable pub requestPoints : List Point
 requestPoints =
     -- request 2: "in MODE 2 a field's ROW is replaced only where that field's mask code is 0." Only X has code 0: 10 + 1, then 11 + 2.
@@ -417,7 +433,7 @@ requestPoints =
     ∷ point (quadwordIn (runOfWords 4 rowUnmasked) 0) (11 ∷ 21 ∷ 31 ∷ 41 ∷ [])
     ∷ point (quadwordIn (runOfWords 4 rowUnmasked) 1) (13 ∷ 23 ∷ 33 ∷ 43 ∷ [])
     -- request 3: "With CL 0 there is no payload and all writes belong to the code's own step.": the interrupt mark is met there, in step 10, the tag's being the first
-    ∷ point (answerIn (runOfWords 3 unfed) ++ dueIn (runOfWords 3 unfed) ++ (runOfWords 3 unfed .steps ∷ [])) (91 ∷ 0 ∷ 10 ∷ [])
+    ∷ point (answerIn (runOfWords 3 unfed) ++ dueIn (runOfWords 3 unfed) ++ (runOfWords 3 unfed .counts .steps ∷ [])) (91 ∷ 0 ∷ 10 ∷ [])
     ∷ point (quadwordIn (runOfWords 3 unfed) 1 ++ quadwordIn (runOfWords 3 unfed) 3) (7 ∷ 8 ∷ 9 ∷ 10 ∷ 7 ∷ 8 ∷ 9 ∷ 10 ∷ [])
     -- a fill under MODE 2 with code 1 gets ROW as the vector before it left it
     ∷ point (quadwordIn (runOfWords 3 fillOfRow) 0 ++ quadwordIn (runOfWords 3 fillOfRow) 1) (11 ∷ 21 ∷ 31 ∷ 41 ∷ 11 ∷ 21 ∷ 31 ∷ 41 ∷ [])
@@ -453,12 +469,12 @@ requestPoints =
     ∷ point (answerIn second ++ loggedIn second) (0 ∷ 256 ∷ 9 ∷ 256 ∷ 2 ∷ [])
     ∷ point (answerIn third ++ loggedIn third ++ startedIn third) (0 ∷ 256 ∷ 9 ∷ 256 ∷ 2 ∷ 0x42 ∷ 7 ∷ 5 ∷ 0 ∷ 0 ∷ 0 ∷ [])
     -- "its entry tests are made with VIF1's sizes, whatever channel the state held before the start"
-    ∷ point (playNumber (playedFrom0 startSheet .answer) ∷ playedFrom0 startSheet .steps ∷ playedFrom0 startSheet .state .used ∷ []) (0 ∷ 6 ∷ 2 ∷ [])
+    ∷ point (playNumber (playedFrom0 startSheet .answer) ∷ playedFrom0 startSheet .counts .steps ∷ playedFrom0 startSheet .state .used ∷ []) (0 ∷ 6 ∷ 2 ∷ [])
     -- request 5: "The first payload word of an MPG must be word 0 or 2 of its quadword.": after an MPG in word 0, 1, 2 and 3, of either unit
     ∷ point (uploadAnswers runOfWords) (25 ∷ 0 ∷ 25 ∷ 0 ∷ [])
     ∷ point (uploadAnswers runOfVif0) (25 ∷ 0 ∷ 25 ∷ 0 ∷ [])
     -- the code's own step is taken, its first word is not: after the tag, two NOPs and MPG both words are due and nothing is stored
-    ∷ point (runOfWords 2 (uploadAfter 2) .steps ∷ dueIn (runOfWords 2 (uploadAfter 2)) ++ instructionsFrom (runOfWords 2 (uploadAfter 2)) 0) (4 ∷ 2 ∷ [])
+    ∷ point (runOfWords 2 (uploadAfter 2) .counts .steps ∷ dueIn (runOfWords 2 (uploadAfter 2)) ++ instructionsFrom (runOfWords 2 (uploadAfter 2)) 0) (4 ∷ 2 ∷ [])
     ∷ point (instructionIn (runOfWords 2 (uploadAfter 1)) 4) (1 ∷ 0 ∷ 0 ∷ 0 ∷ 2 ∷ 0 ∷ 0 ∷ 0 ∷ [])
     -- words 2 and 3 of a tag are words 2 and 3 of a quadword
     ∷ point (answerIn (tagUpload 0x4a010004 0) ++ dueIn (tagUpload 0x4a010004 0)) (25 ∷ 2 ∷ [])
@@ -468,4 +484,16 @@ requestPoints =
     ∷ point (resumedAnswers Vif1 1 ++ resumedAnswers Vif0 1) (0 ∷ 0 ∷ 0 ∷ 0 ∷ 0 ∷ 0 ∷ 0 ∷ 0 ∷ [])
     -- a saved state with both words due is in range, and the step is refused
     ∷ point (resumedAnswers Vif1 2 ++ resumedAnswers Vif0 2) (0 ∷ 25 ∷ 0 ∷ 25 ∷ 0 ∷ 25 ∷ 0 ∷ 25 ∷ [])
+    -- request 1: a packet is closed by "a tag with EOP and NLOOP 0", and by no tag without EOP; the DMA tags are steps too
+    ∷ point (packetsIn (drawn 1 (0x00008000 ∷ 0 ∷ 0 ∷ 0 ∷ [])) ++ packetsIn (drawn 1 (0 ∷ 0 ∷ 0 ∷ 0 ∷ []))) (0 ∷ 3 ∷ 1 ∷ 0 ∷ 3 ∷ 0 ∷ [])
+    -- by "the last data quadword of a tag with EOP": A+D, and without EOP; PACKED F
+    ∷ point (packetsIn (drawn 2 (packetOf 0xe)) ++ packetsIn (drawn 2 (0x00000001 ∷ drop 1 (packetOf 0xe)))) (0 ∷ 4 ∷ 1 ∷ 0 ∷ 4 ∷ 0 ∷ [])
+    ∷ point (packetsIn (drawn 2 (packetOf 0xf))) (0 ∷ 4 ∷ 1 ∷ [])
+    -- REGLIST with a dropped half; IMAGE of two quadwords
+    ∷ point (packetsIn (drawn 3 (0x00008001 ∷ 0x34000000 ∷ 0x00000111 ∷ replicate 9 0))) (0 ∷ 5 ∷ 1 ∷ [])
+    ∷ point (packetsIn (drawn 3 (0x00008002 ∷ 0x08000000 ∷ replicate 10 0))) (0 ∷ 5 ∷ 1 ∷ [])
+    -- a refused quadword closes none; those closed before it count
+    ∷ point (packetsIn (drawn 2 (packetOf 0xb)) ++ packetsIn (drawn 3 (0x00008000 ∷ 0 ∷ 0 ∷ 0 ∷ packetOf 0xb))) (30 ∷ 2 ∷ 0 ∷ 30 ∷ 3 ∷ 1 ∷ [])
+    -- path 2, by DIRECT and by DIRECTHL
+    ∷ point (packetsIn (drawnBy 0x50000000 2 (packetOf 0xe)) ++ packetsIn (drawnBy 0x51000000 2 (packetOf 0xe))) (0 ∷ 8 ∷ 1 ∷ 0 ∷ 8 ∷ 1 ∷ [])
     ∷ []

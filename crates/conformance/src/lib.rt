@@ -12,5 +12,5 @@ pub enum PlayAnswer {
 pub struct PlayResult {
     pub answer: PlayAnswer,
     pub state: chain::State,
-    pub steps: u64,
+    pub counts: fields::Counts,
 }

@@ -4,6 +4,7 @@ use super::PlayResult;
 use chain::StartAnswer;
 use chain::State;
 use fields::refusals;
+use fields::steps_alone;
 use memories::VifUnit;
 use memories::lengths_refusal;
 use sheet::BuildAnswer;
@@ -34,10 +35,11 @@ fn length_refusal(main: &[u8], data: &[u32], code: &[u8], log: &[u64], used: u64
 fn refused(number: u32, offset: usize, state: State) -> PlayResult
     ensures { λ r. ⌜ r ≡ refusedWith number offset state ⌝ }
 {
+    let counts = steps_alone(0);
     PlayResult {
         answer: PlayAnswer::Refused { number, offset },
         state,
-        steps: 0,
+        counts,
     }
 }
 
@@ -67,7 +69,7 @@ pub fn build_and_run(
     state: State,
     allowance: u64,
 ) -> PlayResult
-    ensures { λ r. ⌜ played (r .answer) (r .state) (r .steps) (now (main .exit)) (lent (now («data» .exit)) (now (code .exit)) (now (log .exit)))
+    ensures { λ r. ⌜ played (r .answer) (r .state) (r .counts) (now (main .exit)) (lent (now («data» .exit)) (now (code .exit)) (now (log .exit)))
         ≡ playOf (now (sheet .entry)) (now (main .entry)) address state
         (lent (now («data» .entry)) (now (code .entry)) (now (log .entry))) allowance ⌝ }
 {
@@ -86,10 +88,11 @@ pub fn build_and_run(
                 let r = chain::run(main, data, code, log, begun, allowance);
                 let answer = r.answer;
                 let left = r.state;
+                let counts = r.counts;
                 PlayResult {
                     answer: PlayAnswer::Ended(answer),
                     state: left,
-                    steps: r.steps,
+                    counts,
                 }
             }
         },

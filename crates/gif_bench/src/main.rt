@@ -35,7 +35,7 @@ fn read_quads(bytes: &[u8], quads: &mut [u64]) {
 
 fn one_more(answer: GifAnswer) -> u32 {
     match answer {
-        GifAnswer::Taken => 0,
+        GifAnswer::Taken(_) => 0,
         GifAnswer::Refused(_) => 1,
     }
 }

@@ -34,7 +34,7 @@ fn block_of(header: &[u8]) -> [u32; PATH_WORDS] {
 
 fn number_of(answer: GifAnswer) -> u32 {
     match answer {
-        GifAnswer::Taken => 0,
+        GifAnswer::Taken(closed) => if closed { 512 } else { 0 },
         GifAnswer::Refused(n) => n,
     }
 }

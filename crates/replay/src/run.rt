@@ -98,7 +98,8 @@ fn run_chain(
     let answer = r.answer;
     let left = r.state;
     let a = emit(out, s.at, answer_number(answer));
-    let b = emit_long(out, a, r.steps);
+    let n = emit_long(out, a, r.counts.steps);
+    let b = emit_long(out, n, r.counts.packets);
     let at = tell_state(out, b, case, left);
     Running { at, state: left }
 }

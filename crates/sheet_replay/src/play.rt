@@ -49,7 +49,8 @@ fn play(
     let left = r.state;
     let shown = shown_block(block, left);
     let a = tell_head(out, at, play_head(answer));
-    let b = emit_long(out, a, r.steps);
+    let n = emit_long(out, a, r.counts.steps);
+    let b = emit_long(out, n, r.counts.packets);
     emit_all(out, b, &shown)
 }
 

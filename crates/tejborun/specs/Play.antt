@@ -29,9 +29,10 @@ pub record Left : Type 0 where
 abbrev pub left : ℕ → List ℕ → Lent → List ℕ → List ℕ → Left
 left n main m block result = record { answer = n; main = main; memories = m; block = block; result = result }
 
+-- the steps, the offset and the packets closed
 abbrev pub playLeft : Played → Bool → List ℕ → List ℕ → Left
 playLeft x known block result =
-    left (playNumber (x .answer)) (x .main) (x .memories) (writtenBack known (x .state) block) (written (x .steps ∷ playOffset (x .answer) ∷ []) result)
+    left (playNumber (x .answer)) (x .main) (x .memories) (writtenBack known (x .state) block) (written (x .counts .steps ∷ playOffset (x .answer) ∷ x .counts .packets ∷ []) result)
 
 -- on what was read from the block
 abbrev pub playOn : ReadState → List ℕ → List ℕ → ℕ → Lent → List ℕ → ℕ → List ℕ → Left
@@ -40,5 +41,5 @@ playOn read sheet main address m block allowance result =
 
 unfoldable pub playCall : List ℕ → List ℕ → ℕ → Lent → List ℕ → ℕ → List ℕ → Left
 playCall sheet main address m block allowance result =
-    if (wrongBlock block || ltb (length result) 2) (left short main m block result)
+    if (wrongBlock block || ltb (length result) 3) (left short main m block result)
     (playOn (stateInBlock block) sheet main address m block allowance result)

@@ -52,9 +52,10 @@ pub record Left : Type 0 where
 abbrev pub left : ℕ → Lent → List ℕ → List ℕ → Left
 left n m block result = record { answer = n; memories = m; block = block; result = result }
 
+-- the steps and the packets closed
 abbrev pub runLeft : Ran → Bool → List ℕ → List ℕ → Left
 runLeft x known block result =
-    left (numberOf (x .answer)) (x .after .memories) (writtenBack known (x .after .state) block) (written (x .steps ∷ []) result)
+    left (numberOf (x .answer)) (x .after .memories) (writtenBack known (x .after .state) block) (written (x .counts .steps ∷ x .counts .packets ∷ []) result)
 
 -- a run on what was read from the block
 abbrev pub runOn : ReadState → List ℕ → Lent → List ℕ → ℕ → List ℕ → Left
@@ -62,5 +63,5 @@ runOn read main m block allowance result = runLeft (runOf main allowance (read .
 
 unfoldable pub runCall : List ℕ → Lent → List ℕ → ℕ → List ℕ → Left
 runCall main m block allowance result =
-    if (wrongBlock block || ltb (length result) 1) (left short m block result)
+    if (wrongBlock block || ltb (length result) 2) (left short m block result)
     (runOn (stateInBlock block) main m block allowance result)

@@ -1,6 +1,6 @@
 // A sheet's chain built in main memory, started and run.
 use super::blocks::put_back;
-use super::results::put_two;
+use super::results::put_three;
 use super::runs::run_number;
 use conformance::PlayAnswer;
 use state_block::STATE_WORDS;
@@ -45,7 +45,7 @@ pub extern "C" fn tejborun_build_and_run(
     if block.len() != STATE_WORDS {
         return 60;
     }
-    if result.len() < 2 {
+    if result.len() < 3 {
         return 60;
     }
     let read = state_in_block(block);
@@ -55,6 +55,11 @@ pub extern "C" fn tejborun_build_and_run(
     let answer = r.answer;
     let state = r.state;
     put_back(block, known, state);
-    put_two(result, r.steps, play_offset(answer));
+    put_three(
+        result,
+        r.counts.steps,
+        play_offset(answer),
+        r.counts.packets,
+    );
     play_number(answer)
 }

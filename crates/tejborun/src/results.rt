@@ -5,19 +5,21 @@ ghost use Prim.Native.Nat.{_≤_};
 ghost use lib.ListN.{length};
 ghost use Rattle.tejborun.specs.Buffers.{written};
 
-pub(crate) fn put_one(result: &mut [u64], a: u64)
-    requires { ⌜ 1 ≤ length (now result) ⌝ }
-    ensures { λ _. ⌜ now (result .exit) ≡ written (a ∷ []) (now (result .entry)) ⌝ }
-{
-    result[0] = a;
-}
-
 pub(crate) fn put_two(result: &mut [u64], a: u64, b: u64)
     requires { ⌜ 2 ≤ length (now result) ⌝ }
     ensures { λ _. ⌜ now (result .exit) ≡ written (a ∷ b ∷ []) (now (result .entry)) ⌝ }
 {
     result[0] = a;
     result[1] = b;
+}
+
+pub(crate) fn put_three(result: &mut [u64], a: u64, b: u64, c: u64)
+    requires { ⌜ 3 ≤ length (now result) ⌝ }
+    ensures { λ _. ⌜ now (result .exit) ≡ written (a ∷ b ∷ c ∷ []) (now (result .entry)) ⌝ }
+{
+    result[0] = a;
+    result[1] = b;
+    result[2] = c;
 }
 
 pub(crate) fn put_ten(

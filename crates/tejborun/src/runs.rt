@@ -1,7 +1,7 @@
 // Calls on a state block: reset, start and run.
 use super::blocks::put_back;
 use super::blocks::put_state;
-use super::results::put_one;
+use super::results::put_two;
 use chain::Answer;
 use chain::StartAnswer;
 use state_block::STATE_WORDS;
@@ -78,7 +78,7 @@ pub extern "C" fn tejborun_run(
     if block.len() != STATE_WORDS {
         return 60;
     }
-    if result.len() < 1 {
+    if result.len() < 2 {
         return 60;
     }
     let read = state_in_block(block);
@@ -88,6 +88,6 @@ pub extern "C" fn tejborun_run(
     let answer = r.answer;
     let state = r.state;
     put_back(block, known, state);
-    put_one(result, r.steps);
+    put_two(result, r.counts.steps, r.counts.packets);
     run_number(answer)
 }

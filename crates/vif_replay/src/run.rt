@@ -36,7 +36,9 @@ fn incoming(input: &[u64], i: u32, number: u32) -> Incoming {
 fn answer_word(answer: VifAnswer) -> u32 {
     match answer {
         VifAnswer::Word(interrupt) => told(0, interrupt),
-        VifAnswer::Quadword(interrupt) => told(1, interrupt),
+        VifAnswer::Quadword { interrupt, closed } => {
+            std::num::wrapping_add_u32(told(1, interrupt), closing(closed))
+        }
         VifAnswer::Refused(n) => std::num::wrapping_add_u32(65536, n),
     }
 }
@@ -48,11 +50,15 @@ fn told(kind: u32, interrupt: bool) -> u32 {
     kind
 }
 
+fn closing(closed: bool) -> u32 {
+    if closed { 512 } else { 0 }
+}
+
 // The words that a call took; a refused one is passed over.
 fn passed(answer: VifAnswer) -> u32 {
     match answer {
         VifAnswer::Word(_) => 1,
-        VifAnswer::Quadword(_) => 4,
+        VifAnswer::Quadword { .. } => 4,
         VifAnswer::Refused(_) => 1,
     }
 }

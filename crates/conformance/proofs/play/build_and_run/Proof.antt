@@ -24,7 +24,7 @@ returns-3 c =
 
 returns-4 : tie.Need-returns-4
 returns-4 c =
-    let u = c .before .before .before .before .before .before .before in
+    let u = c .before .before .before .before .before .before .before .before in
     let y = u .before .before .before .before .before .before in
     let b = y .before .before .before .before in
     let t = b .before .before in
