@@ -80,21 +80,21 @@ module _ (block : List ℕ) (h : length block ≡ stateSize) (unknown : stateInB
       (if-ind (λ (x : Blocked). x ≡ blocked 5 block) (ltb 1 tte) refl (rw (none, out)))
 
   -- a run answers its entry refusal and counts no step
-  pub none-run : (main : List ℕ) (m : Lent) (allowance : ℕ) (result : List ℕ) → 1 ≤ length result
+  pub none-run : (main : List ℕ) (m : Lent) (allowance : ℕ) (result : List ℕ) → 2 ≤ length result
       → {n : ℕ}
       → n ≡ entryRefusal main m standIn
-      → (runCall main m block allowance result ≡ leftByRun n m block (written (0 ∷ []) result)) × OneToFive n
+      → (runCall main m block allowance result ≡ leftByRun n m block (written (0 ∷ 0 ∷ []) result)) × OneToFive n
   unfolding runCall runOf writtenBack if
   none-run main m allowance result l e =
       let f = entry-refused main m standIn out in
-      (rw (eq-eqb (length block) stateSize h, le-ltb (length result) 1 l, none, ne-eqb _ 0 (not-zero f), ← e), rw e f)
+      (rw (eq-eqb (length block) stateSize h, le-ltb (length result) 2 l, none, ne-eqb _ 0 (not-zero f), ← e), rw e f)
 
   -- building and running answers the refusal before the sheet's
-  pub none-played : (sheet main : List ℕ) (address : ℕ) (m : Lent) (allowance : ℕ) (result : List ℕ) → 2 ≤ length result
+  pub none-played : (sheet main : List ℕ) (address : ℕ) (m : Lent) (allowance : ℕ) (result : List ℕ) → 3 ≤ length result
       → {n : ℕ}
       → n ≡ playRefusal main m standIn address
-      → (playCall sheet main address m block allowance result ≡ leftByPlay n main m block (written (0 ∷ 0 ∷ []) result)) × OneToFive n
+      → (playCall sheet main address m block allowance result ≡ leftByPlay n main m block (written (0 ∷ 0 ∷ 0 ∷ []) result)) × OneToFive n
   unfolding playCall playOf writtenBack if
   none-played sheet main address m allowance result l e =
       let f = play-refused main m standIn out address in
-      (rw (eq-eqb (length block) stateSize h, le-ltb (length result) 2 l, none, ne-eqb _ 0 (not-zero f), ← e), rw e f)
+      (rw (eq-eqb (length block) stateSize h, le-ltb (length result) 3 l, none, ne-eqb _ 0 (not-zero f), ← e), rw e f)

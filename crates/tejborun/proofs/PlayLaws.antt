@@ -19,11 +19,11 @@ module _ (sheet main : List ℕ) (address : ℕ) (m : Lent) (block : List ℕ) (
   play-no-block h = rw (ne-eqb (length block) stateSize h)
 
   module _ (h : length block ≡ stateSize) where
-    pub play-short : length result < 2 → left short main m block result ≡ playCall sheet main address m block allowance result
+    pub play-short : length result < 3 → left short main m block result ≡ playCall sheet main address m block allowance result
     unfolding playCall if
-    play-short l = rw (eq-eqb (length block) stateSize h, lt-ltb (length result) 2 l)
+    play-short l = rw (eq-eqb (length block) stateSize h, lt-ltb (length result) 3 l)
 
-    pub play-done : 2 ≤ length result → {read : ReadState} → read ≡ stateInBlock block
+    pub play-done : 3 ≤ length result → {read : ReadState} → read ≡ stateInBlock block
         → {x : Played}
         → x ≡ playOf sheet main address (read .state) m allowance
         → {after : List ℕ}
@@ -31,9 +31,9 @@ module _ (sheet main : List ℕ) (address : ℕ) (m : Lent) (block : List ℕ) (
         → {offset : ℕ}
         → offset ≡ playOffset (x .answer)
         → {numbers : List ℕ}
-        → numbers ≡ written (x .steps ∷ offset ∷ []) result
+        → numbers ≡ written (x .counts .steps ∷ offset ∷ x .counts .packets ∷ []) result
         → {n : ℕ}
         → n ≡ playNumber (x .answer)
         → left n (x .main) (x .memories) after numbers ≡ playCall sheet main address m block allowance result
     unfolding playCall if
-    play-done l e q b o w k = rw (eq-eqb (length block) stateSize h, le-ltb (length result) 2 l, ← e, ← q, b, w, o, k)
+    play-done l e q b o w k = rw (eq-eqb (length block) stateSize h, le-ltb (length result) 3 l, ← e, ← q, b, w, o, k)

@@ -53,19 +53,19 @@ module _ (main : List ℕ) (m : Lent) (block : List ℕ) (allowance : ℕ) (resu
   run-no-block h = rw (ne-eqb (length block) stateSize h)
 
   module _ (h : length block ≡ stateSize) where
-    pub run-short : length result < 1 → left short m block result ≡ runCall main m block allowance result
+    pub run-short : length result < 2 → left short m block result ≡ runCall main m block allowance result
     unfolding runCall if
-    run-short l = rw (eq-eqb (length block) stateSize h, lt-ltb (length result) 1 l)
+    run-short l = rw (eq-eqb (length block) stateSize h, lt-ltb (length result) 2 l)
 
-    pub run-done : 1 ≤ length result → {read : ReadState} → read ≡ stateInBlock block
+    pub run-done : 2 ≤ length result → {read : ReadState} → read ≡ stateInBlock block
         → {x : RunResult} {m′ : Lent}
         → leftBy x m′ ≡ runOf main allowance (read .state) m
         → {after : List ℕ}
         → after ≡ writtenBack (read .known) (x .state) block
         → {numbers : List ℕ}
-        → numbers ≡ written (x .steps ∷ []) result
+        → numbers ≡ written (x .counts .steps ∷ x .counts .packets ∷ []) result
         → {n : ℕ}
         → n ≡ numberOf (x .answer)
         → left n m′ after numbers ≡ runCall main m block allowance result
     unfolding runCall if
-    run-done l e q b w k = rw (eq-eqb (length block) stateSize h, le-ltb (length result) 1 l, ← e, ← q, b, w, k)
+    run-done l e q b w k = rw (eq-eqb (length block) stateSize h, le-ltb (length result) 2 l, ← e, ← q, b, w, k)
