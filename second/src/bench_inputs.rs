@@ -4,7 +4,7 @@ use crate::capture_generate::tag;
 use crate::chain::{CALL, CNT, END, NEXT, REF, RET};
 use crate::chain_time::MOST_QUADWORDS;
 use crate::gif::Tag;
-use crate::gif_generate::tag_quadword;
+use crate::gif_generate::{tag_quadword, EOP};
 use crate::random::Random;
 use crate::unpack_counts::all_formats;
 use crate::vif::{ADDRESSES, MPG_ADDRESSES};
@@ -23,8 +23,6 @@ const MASKED: u32 = 0x10;
 const S_8: u32 = UNPACK | 0x2;
 const V3_16: u32 = UNPACK | 0x9;
 const V4_32: u32 = UNPACK | 0xC;
-/// EOP in the first word of a GIF tag.
-const EOP: u128 = 1 << 15;
 
 /// Words of payload of an input that caches are to hold.
 const SMALL_WORDS: usize = 8_192;

@@ -1,7 +1,7 @@
 //! Capture files and their results.
 
 use crate::capture_counts::Counts;
-use crate::chain::{self, Memories, State, Step};
+use crate::chain::{self, Memories, State, Step, Stop};
 use crate::compare;
 use crate::filled::{self, UnitMemories};
 use crate::memory::cases::{
@@ -23,6 +23,8 @@ const STATE_AT: usize = 12;
 pub const HEADER: usize = STATE_AT + STATE_WORDS;
 /// The words of a call.
 const CALL: usize = 4;
+/// The words of a run's result before the state block.
+const RUN_HEAD: usize = 5;
 
 #[derive(Clone, Copy, PartialEq, Eq, Debug)]
 pub enum Call {
@@ -130,18 +132,17 @@ impl Standing {
         }
     }
 
-    /// Makes a run; hands back the answer and the step count.
     pub fn run(
         &mut self,
         allowance: u64,
         watch: impl FnMut(&State, &State, Result<Step, u32>),
-    ) -> (u32, u64) {
+    ) -> Stop {
         let (model, used) = (self.model(), self.used());
         match self.lend() {
             (Some(state), mut memories) => chain::run(state, &mut memories, allowance, watch),
             (None, memories) => {
                 let refusal = chain::check_lengths(model, &memories, used).err();
-                (refusal.unwrap_or(refusals::RANGE), 0)
+                Stop::at_entry(refusal.unwrap_or(refusals::RANGE))
             }
         }
     }
@@ -295,8 +296,8 @@ pub fn ends_within(file: &[u8], most: u64) -> bool {
                     standing.start(channel, tadr, tte);
                 }
                 Call::Run { allowance } => {
-                    let (answer, _) = standing.run(allowance.min(most), |_, _, _| {});
-                    if answer == chain::ALLOWANCE_USED && allowance > most {
+                    let stop = standing.run(allowance.min(most), |_, _, _| {});
+                    if stop.answer == chain::ALLOWANCE_USED && allowance > most {
                         return false;
                     }
                 }
@@ -362,10 +363,11 @@ fn run_case(case: &Case, index: usize, results: &mut Results, counts: &mut Count
                 let watch = |old: &State, new: &State, tried| {
                     counts.note_step(old, new, tried, log_length);
                 };
-                let (answer, steps) = standing.run(allowance, watch);
-                counts.note_run(&before, allowance, answer, steps, &standing);
-                put_word(out, answer);
-                put_number(out, steps);
+                let stop = standing.run(allowance, watch);
+                counts.note_run(&before, allowance, &stop, &standing);
+                put_word(out, stop.answer);
+                put_number(out, stop.steps);
+                put_number(out, stop.packets);
                 put_block(out, &standing);
                 if case.whole {
                     write_memories(out, &standing);
@@ -418,7 +420,7 @@ pub fn describe_result(bytes: &[u8], call: &Call, case: &Case) -> String {
     let have = bytes.len() / WORD;
     let head = match call {
         Call::Start { .. } => 1,
-        Call::Run { .. } => 3,
+        Call::Run { .. } => RUN_HEAD,
     };
     if have < head + STATE_WORDS {
         let end = bytes.len().min(80);
@@ -426,12 +428,13 @@ pub fn describe_result(bytes: &[u8], call: &Call, case: &Case) -> String {
         return format!("cut after {} bytes: {}", bytes.len(), text.escape_debug());
     }
     let mut text = format!("answer {}", word(bytes, 0));
-    if head == 3 {
-        text.push_str(&format!(", {} steps", number(bytes, 1)));
+    if head == RUN_HEAD {
+        let (steps, packets) = (number(bytes, 1), number(bytes, 3));
+        text.push_str(&format!(", {steps} steps, {packets} packets closed"));
     }
     let block = std::array::from_fn(|i| word(bytes, head + i));
     text.push_str(&format!("\n    {}", describe_state(&block)));
-    if head == 3 && !case.whole {
+    if head == RUN_HEAD && !case.whole {
         let (changes, sums_at) = describe_changes(bytes, head + STATE_WORDS);
         text.push_str(&changes);
         for (i, name) in ["data", "code", "log"].iter().enumerate() {
@@ -468,14 +471,16 @@ pub fn describe_case(case: &Case, last: usize) -> String {
     for (i, call) in case.calls[..=last].iter().enumerate() {
         let mut steps: Vec<String> = Vec::new();
         let answer = match *call {
-            Call::Start { channel, tadr, tte } => standing.start(channel, tadr, tte),
+            Call::Start { channel, tadr, tte } => standing.start(channel, tadr, tte).to_string(),
             Call::Run { allowance } => {
                 let watch = |old: &State, _: &State, tried| {
                     if i == last {
                         steps.push(format!("\n      {:X?}: {tried:X?}", old.next()));
                     }
                 };
-                standing.run(allowance, watch).0
+                let stop = standing.run(allowance, watch);
+                let (steps, packets) = (stop.steps, stop.packets);
+                format!("{}, {steps} steps, {packets} packets closed", stop.answer)
             }
         };
         if i + 12 > last {
@@ -522,10 +527,13 @@ mod tests {
                 Call::Start { channel, tadr, tte } => {
                     assert_eq!(standing.start(channel, tadr, tte), 0);
                 }
-                Call::Run { allowance } => runs.push(standing.run(allowance, |_, _, _| {})),
+                Call::Run { allowance } => {
+                    let stop = standing.run(allowance, |_, _, _| {});
+                    runs.push((stop.answer, stop.steps, stop.packets));
+                }
             }
         }
-        assert_eq!(runs, [(0, 9), (0, 9), (0, 3), (0, 9)]);
+        assert_eq!(runs, [(0, 9, 0), (0, 9, 0), (0, 3, 1), (0, 9, 0)]);
         let log = [256, 5, 256, 5, 0x42, 7 | 8 << 32, 256, 5];
         assert_eq!(standing.log, log);
         let quadword = |model: Model, at: usize| {
@@ -559,10 +567,11 @@ mod tests {
             case.state[chain_word::ENDED] = 2;
             case.state[chain_word::CHANNEL] = channel;
             let given = Standing::new(&case).run(1, |_, _, _| {});
-            assert_eq!(given, (answer, 0));
+            assert_eq!(given, Stop::at_entry(answer));
             case.data_length = 1_024;
             let given = Standing::new(&case).run(1, |_, _, _| {});
-            assert_eq!(given, (if channel == 0 { answer } else { 2 }, 0));
+            let answer = if channel == 0 { answer } else { 2 };
+            assert_eq!(given, Stop::at_entry(answer));
         }
     }
 

@@ -9,14 +9,17 @@ use crate::compare::{describe_ends, first_difference, report, Program};
 use crate::memory::cases::{
     MOST_CODE, MOST_DATA, MOST_LOG, MOST_MAIN, MOST_VIF0_CODE, MOST_VIF0_DATA,
 };
+use crate::packet_points;
 use crate::random::Random;
 use crate::words::{word, WORD};
 
 /// Damaged files with longer runs are left out.
 const MOST_STEPS: u64 = 1_000_000;
 
-/// Compares on the cases of each seed and on damaged files made from them.
+/// Compares on the cases of each seed, which have the points worked by hand among them, and on
+/// damaged files made from them.
 pub fn compare(program: &Program, seeds: &[u64], runs: u64) -> Result<(), String> {
+    let points = packet_points::check()? as u64;
     let mut counts = Counts::default();
     let mut damaged_files = 0;
     for &seed in seeds {
@@ -30,6 +33,7 @@ pub fn compare(program: &Program, seeds: &[u64], runs: u64) -> Result<(), String
     }
     let mut rows = counts.rows();
     rows.push(("damaged files".to_string(), damaged_files));
+    rows.push(("points about packets".to_string(), points));
     report(&rows)
 }
 
@@ -157,5 +161,33 @@ fn spoil_case(made: &mut Vec<(String, Vec<u8>)>, file: &[u8], start: usize, inde
         }
         spoil("last call of kind 0", HEADER + 4 * (calls - 1), 0);
         spoil("last call of kind 3", HEADER + 4 * (calls - 1), 3);
+    }
+}
+
+#[cfg(test)]
+mod tests {
+    use super::*;
+    use crate::words::number;
+
+    #[test]
+    fn packets_are_told() {
+        let mut file = Vec::new();
+        let cases = packet_points::in_captures();
+        cases.iter().for_each(|case| case.write(&mut file));
+        let own = capture_cases::results(&file, &mut Counts::default());
+        // A run that closes two packets.
+        let packets = |offset: usize| number(&own.bytes[offset..], 3);
+        let mut starts = own.starts.iter().map(|start| start.offset);
+        let start = starts.find(|&offset| packets(offset) == 2).unwrap();
+        let steps = number(&own.bytes[start..], 1);
+        let mut theirs = own.bytes.clone();
+        let at = start + 3 * WORD;
+        theirs[at] = 5;
+        let told = explain(&file, &own, &theirs, at);
+        assert!(told.contains(", word 3 of the result"), "{told}");
+        for (whose, packets) in [("program", 5), ("ours", 2)] {
+            let line = format!("{whose}: answer 0, {steps} steps, {packets} packets closed\n");
+            assert!(told.contains(&line), "{told}");
+        }
     }
 }

@@ -1,7 +1,8 @@
 //! What captures reached.
 
 use crate::capture_cases::{Case, Standing};
-use crate::chain::{self, Next, State, Step, Tag};
+use crate::capture_packet_counts::{self, Given};
+use crate::chain::{self, Next, State, Step, Stop, Tag};
 use crate::compare::named_rows;
 use crate::gif::{self, Path, Place};
 use crate::log;
@@ -77,6 +78,7 @@ pub struct Counts {
     stepped: bool,
     /// The channels on which the case has done a step.
     channels: [bool; 3],
+    packets: capture_packet_counts::Counts,
 }
 
 impl Counts {
@@ -100,6 +102,7 @@ impl Counts {
         self.main.clone_from(&case.main);
         self.main_length = case.main_length as usize;
         self.channels = [false; 3];
+        self.packets.begin_case();
         self.add(if case.whole {
             "cases that show whole memories"
         } else {
@@ -125,19 +128,25 @@ impl Counts {
     pub fn begin_run(&mut self, standing: &Standing) {
         self.begun = standing.state;
         self.stepped = false;
+        self.packets.begin_run();
     }
 
     fn main_word(&self, address: u32) -> u32 {
         self.main.get(address as usize / 4).copied().unwrap_or(0)
     }
 
-    fn tag_at(&self, tadr: u32) -> Tag {
-        let (low, high) = (self.main_word(tadr), self.main_word(tadr + 4));
-        Tag::decode(low as u128 | (high as u128) << 32)
+    fn quadword(&self, address: u32) -> u128 {
+        (0..4).fold(0, |all, i| {
+            all | (self.main_word(address + 4 * i) as u128) << (32 * i)
+        })
     }
 
     /// Notes a step that was tried.
     pub fn note_step(&mut self, old: &State, new: &State, tried: Result<Step, u32>, log: usize) {
+        if let Some(given) = Given::new(old) {
+            let quadword = self.quadword(given.address);
+            self.packets.note_quadword(&given, quadword, tried);
+        }
         let Ok(step) = tried else {
             return;
         };
@@ -165,7 +174,7 @@ impl Counts {
                 let number = old.payload.map_or(0, |pending| pending.address / 4 % 4);
                 self.words[old.channel as usize][number as usize] += 1;
             }
-            Step::Path3 => self.path3_quadwords += 1,
+            Step::Path3 { .. } => self.path3_quadwords += 1,
         }
         if new.used > old.used && log::is_full(log, new.used) {
             self.add("log exactly full after a write");
@@ -354,21 +363,20 @@ impl Counts {
         self.add_if("tags read inside a GIF tag, path 3", path3);
     }
 
-    pub fn note_run(
-        &mut self,
-        before: &StateBlock,
-        allowance: u64,
-        answer: u32,
-        steps: u64,
-        now: &Standing,
-    ) {
+    pub fn note_run(&mut self, before: &StateBlock, allowance: u64, stop: &Stop, now: &Standing) {
         self.runs += 1;
         let wrong = wrong_at_entry(before, now);
+        let closes_next = now.state.is_some_and(|state| self.closes_next(&state));
         self.note_lent(before, wrong.first().copied(), now);
         if let Some(&first) = wrong.first() {
             self.note_entry(before, &wrong, first, allowance, now);
+            if closes_next {
+                self.packets.note_entry(first);
+            }
             return;
         }
+        self.packets.note_run(stop, closes_next);
+        let (answer, steps) = (stop.answer, stop.steps);
         self.note_steps(allowance, steps);
         self.note_upload_due(before, allowance);
         let state = now.state.as_ref().expect("only an existing state is run");
@@ -388,6 +396,11 @@ impl Counts {
                 self.note_refused_step(state, refusal);
             }
         }
+    }
+
+    /// Whether the next step closes a packet where it is taken.
+    fn closes_next(&self, state: &State) -> bool {
+        Given::new(state).is_some_and(|given| given.closes(self.quadword(given.address)))
     }
 
     /// Notes a run that begins between an MPG and its first word.
@@ -569,7 +582,7 @@ impl Counts {
     }
 
     fn note_refused_tag(&mut self, state: &State, refusal: u32) {
-        let tag = self.tag_at(state.tadr);
+        let tag = Tag::decode(self.quadword(state.tadr));
         let id = IDS[tag.id as usize];
         let full = tag.id == chain::CALL && state.depth == chain::STACK;
         let bytes = 16 * tag.qwc as u64;
@@ -679,6 +692,7 @@ impl Counts {
             self.note_refused_start(before, &start_fields(channel, tadr, tte));
             return;
         }
+        self.packets.note_start();
         let old = read_state(before).expect("a start on no state is refused");
         self.add(&format!("start on channel {channel}, TTE {tte}"));
         let name = format!(
@@ -762,6 +776,7 @@ impl Counts {
         }
         row("quadwords taken inside DIRECT", self.direct_quadwords);
         row("quadwords taken by path 3", self.path3_quadwords);
+        rows.extend(self.packets.rows(&ENTRY));
         rows.extend(named_rows(&self.by_name, names()));
         rows
     }

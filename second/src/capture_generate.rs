@@ -1,6 +1,7 @@
 //! Captures from a seed.
 
 use crate::capture_cases::{Call, Case, Standing};
+use crate::capture_packet_cases;
 use crate::capture_points;
 use crate::chain::{self, Next, Pending, State, Tag};
 use crate::gif::{self, Format, Path, Place};
@@ -12,6 +13,7 @@ use crate::log;
 use crate::memory;
 use crate::memory::cases::{MOST_CODE, MOST_DATA, MOST_MAIN, MOST_VIF0_CODE, MOST_VIF0_DATA};
 use crate::model::{Model, ONLY_VIF1};
+use crate::packet_points;
 use crate::random::Random;
 use crate::refusals;
 use crate::state_block::{
@@ -32,7 +34,7 @@ use crate::vif_unpack::Cycle;
 
 const CHANNELS: [u32; 3] = [0, 1, 2];
 const FILL: u64 = 0x0123_4567_89AB_CDEF;
-const NO_LIMIT: u64 = u64::MAX;
+pub const NO_LIMIT: u64 = u64::MAX;
 
 /// A capture file: the fixed cases, and cases by chance with about `runs` runs.
 pub fn generate(seed: u64, runs: u64) -> Vec<u8> {
@@ -40,6 +42,7 @@ pub fn generate(seed: u64, runs: u64) -> Vec<u8> {
     let mut file = Vec::new();
     let mut cases = fixed_cases();
     cases.extend(vif_points::all().iter().map(capture_points::case));
+    cases.extend(packet_points::in_captures());
     add_edge_cases(&mut random, &mut cases);
     cases.iter().for_each(|case| case.write(&mut file));
     let mut made = 0;
@@ -67,11 +70,16 @@ pub fn tag(id: u32, qwc: u32, addr: u32) -> [u32; 4] {
     [low, high, 0, 0]
 }
 
-fn run(allowance: u64) -> Call {
+/// A tag and the payload behind it.
+pub fn tagged(id: u32, payload: &[u32]) -> Vec<u32> {
+    [&tag(id, payload.len() as u32 / 4, 0)[..], payload].concat()
+}
+
+pub fn run(allowance: u64) -> Call {
     Call::Run { allowance }
 }
 
-fn start(channel: u32, tadr: u32, tte: u32) -> Call {
+pub fn start(channel: u32, tadr: u32, tte: u32) -> Call {
     Call::Start { channel, tadr, tte }
 }
 
@@ -94,7 +102,7 @@ pub fn plain_case(state: &State, main: &[u32], entries: u64, calls: &[Call]) -> 
     }
 }
 
-fn split(quadword: u128) -> [u32; 4] {
+pub fn split(quadword: u128) -> [u32; 4] {
     std::array::from_fn(|i| (quadword >> (32 * i)) as u32)
 }
 
@@ -235,6 +243,7 @@ fn add_edge_cases(random: &mut Random, cases: &mut Vec<Case>) {
     add_interrupt_cases(random, cases);
     add_refusal_cases(random, cases);
     add_upload_cases(random, cases);
+    cases.extend(capture_packet_cases::all());
     add_zero_memory_cases(cases);
     for _ in 0..4 {
         cases.push(deep_case(random));

@@ -62,7 +62,7 @@ mod tests {
             let mut answer = DONE;
             for call in &case.calls {
                 if let Call::Run { allowance } = *call {
-                    answer = standing.run(allowance, |_, _, _| {}).0;
+                    answer = standing.run(allowance, |_, _, _| {}).answer;
                 }
             }
             let words = point.case();

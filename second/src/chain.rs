@@ -83,7 +83,9 @@ pub enum Step {
     TagWord(Taken),
     Payload(Taken),
     /// A quadword of payload on channel 2.
-    Path3,
+    Path3 {
+        closed: bool,
+    },
 }
 
 impl Step {
@@ -91,7 +93,36 @@ impl Step {
     pub fn interrupt(&self) -> bool {
         match self {
             Step::TagWord(taken) | Step::Payload(taken) => taken.interrupt,
-            Step::Tag(_) | Step::Path3 => false,
+            Step::Tag(_) | Step::Path3 { .. } => false,
+        }
+    }
+
+    /// Whether the step's quadword closed a packet.
+    pub fn closed(&self) -> bool {
+        match self {
+            Step::TagWord(taken) | Step::Payload(taken) => taken.closed,
+            Step::Path3 { closed } => *closed,
+            Step::Tag(_) => false,
+        }
+    }
+}
+
+/// How a run stopped.
+#[derive(Clone, Copy, PartialEq, Eq, Debug)]
+pub struct Stop {
+    pub answer: u32,
+    /// The steps completed, and the packets that they closed.
+    pub steps: u64,
+    pub packets: u64,
+}
+
+impl Stop {
+    /// A refusal at entry.
+    pub fn at_entry(refusal: u32) -> Stop {
+        Stop {
+            answer: refusal,
+            steps: 0,
+            packets: 0,
         }
     }
 }
@@ -196,37 +227,42 @@ pub fn start(state: &mut State, channel: u32, tadr: u32, tte: bool) -> Result<()
     Ok(())
 }
 
-/// Runs the chain; hands back the answer and the number of steps completed.
-/// Each step tried is shown to `watch` with the state before it.
+/// Runs the chain. Each step tried is shown to `watch` with the state before it.
 pub fn run(
     state: &mut State,
     memories: &mut Memories,
     allowance: u64,
     mut watch: impl FnMut(&State, &State, Result<Step, u32>),
-) -> (u32, u64) {
+) -> Stop {
     if let Err(refusal) = check_entry(state, memories) {
-        return (refusal, 0);
+        return Stop::at_entry(refusal);
     }
-    let mut steps = 0;
-    loop {
+    let (mut steps, mut packets) = (0, 0);
+    let answer = loop {
         if state.is_done() {
-            return (DONE, steps);
+            break DONE;
         }
         if steps == allowance {
-            return (ALLOWANCE_USED, steps);
+            break ALLOWANCE_USED;
         }
         let before = *state;
         let tried = step(state, memories);
         watch(&before, state, tried);
         match tried {
-            Err(refusal) => return (refusal, steps),
+            Err(refusal) => break refusal,
             Ok(step) => {
                 steps += 1;
+                packets += step.closed() as u64;
                 if step.interrupt() {
-                    return (INTERRUPT, steps);
+                    break INTERRUPT;
                 }
             }
         }
+    };
+    Stop {
+        answer,
+        steps,
+        packets,
     }
 }
 
@@ -313,8 +349,8 @@ pub fn step(state: &mut State, memories: &mut Memories) -> Result<Step, u32> {
         Next::Tag => take_tag(state, memories.main).map(Step::Tag),
         Next::TagWord(address) => take_tag_word(state, memories, address).map(Step::TagWord),
         Next::Payload(pending) if state.channel == 2 => {
-            take_path3(state, memories, pending)?;
-            Ok(Step::Path3)
+            let closed = take_path3(state, memories, pending)?;
+            Ok(Step::Path3 { closed })
         }
         Next::Payload(pending) => take_payload(state, memories, pending).map(Step::Payload),
     }
@@ -437,12 +473,12 @@ fn give(state: &mut State, memories: &mut Memories, given: Given) -> Result<Take
     )
 }
 
-/// A quadword of payload to path 3.
-fn take_path3(state: &mut State, memories: &mut Memories, pending: Pending) -> Result<(), u32> {
+/// A quadword of payload to path 3; hands back whether it closed a packet.
+fn take_path3(state: &mut State, memories: &mut Memories, pending: Pending) -> Result<bool, u32> {
     let quadword = quadword_at(memories.main, pending.address);
-    gif::take(&mut state.path3, &mut state.used, memories.log, quadword)?;
+    let closed = gif::take(&mut state.path3, &mut state.used, memories.log, quadword)?;
     state.payload = rest(pending, 4);
-    Ok(())
+    Ok(closed)
 }
 
 /// What is pending after so many words were taken.
@@ -490,7 +526,7 @@ mod tests {
             }
         }
 
-        fn run(&mut self, allowance: u64) -> (u32, u64) {
+        fn stop(&mut self, allowance: u64) -> Stop {
             let mut memories = Memories {
                 main: &self.main,
                 data: &mut self.data,
@@ -498,6 +534,13 @@ mod tests {
                 log: &mut self.log,
             };
             run(&mut self.state, &mut memories, allowance, |_, _, _| {})
+        }
+
+        /// The answer and the steps of a run that closes no packet.
+        fn run(&mut self, allowance: u64) -> (u32, u64) {
+            let stop = self.stop(allowance);
+            assert_eq!(stop.packets, 0);
+            (stop.answer, stop.steps)
         }
     }
 
@@ -617,6 +660,46 @@ mod tests {
         for channel in 0..3 {
             let fits = [0, 4, 8, 12].map(|address| pending(channel, address));
             assert_eq!(fits, [true, channel != 2, channel != 2, channel != 2]);
+        }
+    }
+
+    /// A packet of one A+D write, a packet without data and a tag without EOP, on both paths.
+    #[test]
+    fn packets_of_a_run() {
+        let quadwords = [
+            [0x8001, 0x1000_0000, 0xE, 0],
+            [1, 0, 2, 0],
+            [0x8000, 0, 0, 0],
+            [0, 0, 0, 0],
+        ];
+        let direct = |command: u32| [0, 0, 0, command << 24 | 4];
+        for (channel, head) in [
+            (1, vec![direct(0x50)]),
+            (1, vec![direct(0x51)]),
+            (2, Vec::new()),
+        ] {
+            let payload = [&head[..], &quadwords].concat();
+            let tag = [END << 28 | payload.len() as u32, 0, 0, 0];
+            let main = [&[tag][..], &payload].concat().concat();
+            let before = 1 + 4 * head.len() as u64;
+            for (cut, closed) in [(0, 0), (1, 0), (2, 1), (3, 2), (4, 2)] {
+                let mut bench = Bench::on(channel, &main, 2);
+                let answer = if cut == 4 { DONE } else { ALLOWANCE_USED };
+                let stop = |answer, steps, packets| Stop {
+                    answer,
+                    steps,
+                    packets,
+                };
+                let first = bench.stop(before + cut);
+                assert_eq!(first, stop(answer, before + cut, closed));
+                let second = bench.stop(u64::MAX);
+                assert_eq!(second, stop(DONE, 4 - cut, 2 - closed));
+            }
+            // Without room the first packet is not closed.
+            let mut bench = Bench::on(channel, &main, 0);
+            assert_eq!(bench.run(u64::MAX), (31, before + 1));
+            bench.log.push(0);
+            assert_eq!(bench.run(u64::MAX), (4, 0));
         }
     }
 

@@ -50,9 +50,9 @@ pub fn result(input: &[u8]) -> Option<Vec<u8>> {
     for _ in 0..rounds {
         state.used = 0;
         chain::start(&mut state, channel, 0, false).expect("the state is in range");
-        let (answer, steps) = chain::run(&mut state, &mut memories, u64::MAX, |_, _, _| {});
-        all_steps = all_steps.wrapping_add(steps);
-        not_done = not_done.wrapping_add((answer != chain::DONE) as u32);
+        let stop = chain::run(&mut state, &mut memories, u64::MAX, |_, _, _| {});
+        all_steps = all_steps.wrapping_add(stop.steps);
+        not_done = not_done.wrapping_add((stop.answer != chain::DONE) as u32);
     }
 
     let mut out = Vec::new();

@@ -114,8 +114,10 @@ pub fn path_in_range(path: &Path) -> bool {
     }
 }
 
-/// Gives a quadword to the path. A refusal hands back its number and changes nothing.
-pub fn take(path: &mut Path, used: &mut u64, log: &mut [u64], quadword: u128) -> Result<(), u32> {
+/// Gives a quadword to the path; hands back whether it closed a packet: as the last data quadword
+/// of a tag with EOP, or as such a tag without data. A refusal hands back its number and changes
+/// nothing.
+pub fn take(path: &mut Path, used: &mut u64, log: &mut [u64], quadword: u128) -> Result<bool, u32> {
     if !log::in_range(log.len(), *used) {
         return Err(refusals::LOG);
     }
@@ -127,10 +129,11 @@ pub fn take(path: &mut Path, used: &mut u64, log: &mut [u64], quadword: u128) ->
             log::append(log, used, &tag_writes(quadword))?;
             path.q = TAG_Q;
             let tag = Tag::decode(quadword);
-            if tag.nloop > 0 {
-                let due = tag.all_data() as u32;
-                path.place = Place::Data { tag, due };
+            if tag.nloop == 0 {
+                return Ok(tag.eop);
             }
+            let due = tag.all_data() as u32;
+            path.place = Place::Data { tag, due };
         }
         Place::Data { tag, due } => {
             let (q, writes) = data_writes(path.q, tag, *due, quadword)?;
@@ -138,11 +141,13 @@ pub fn take(path: &mut Path, used: &mut u64, log: &mut [u64], quadword: u128) ->
             path.q = q;
             *due -= 1;
             if *due == 0 {
+                let eop = tag.eop;
                 path.place = Place::Idle;
+                return Ok(eop);
             }
         }
     }
-    Ok(())
+    Ok(false)
 }
 
 /// The writes of a tag's own step.
@@ -238,70 +243,73 @@ mod tests {
         nloop | flg << 58 | nreg << 60 | descriptors << 64
     }
 
+    const EOP: u128 = 1 << 15;
+    const PRE: u128 = 1 << 46;
+
+    /// A path with its log.
+    struct Bench {
+        path: Path,
+        used: u64,
+        log: Vec<u64>,
+    }
+
+    impl Bench {
+        fn new(log: &[u64]) -> Bench {
+            Bench {
+                path: IDLE,
+                used: 0,
+                log: log.to_vec(),
+            }
+        }
+
+        fn give(&mut self, quadword: u128) -> Result<bool, u32> {
+            take(&mut self.path, &mut self.used, &mut self.log, quadword)
+        }
+    }
+
     #[test]
     fn reglist_of_three() {
-        let (mut path, mut used, mut log) = (IDLE, 0, [0; 8]);
+        let mut bench = Bench::new(&[0; 8]);
+        assert_eq!(bench.give(tag(1, 1, 3, 0xB321)), Ok(false));
+        assert_eq!(bench.give(7 | 8 << 64), Ok(false));
+        assert_eq!(bench.give(9 | 10 << 64), Ok(false));
         assert_eq!(
-            take(&mut path, &mut used, &mut log, tag(1, 1, 3, 0xB321)),
-            Ok(())
+            (bench.used, &bench.log[..]),
+            (3, &[1, 7, 2, 8, 3, 9, 0, 0][..])
         );
-        assert_eq!(take(&mut path, &mut used, &mut log, 7 | 8 << 64), Ok(()));
-        assert_eq!(take(&mut path, &mut used, &mut log, 9 | 10 << 64), Ok(()));
-        assert_eq!((used, log), (3, [1, 7, 2, 8, 3, 9, 0, 0]));
-        assert_eq!(
-            path,
-            Path {
-                q: TAG_Q,
-                place: Place::Idle
-            }
-        );
+        assert_eq!((bench.path.q, bench.path.place), (TAG_Q, Place::Idle));
     }
 
     #[test]
     fn image_with_one_entry_free() {
-        let (mut path, mut used, mut log) = (IDLE, 1, [5; 4]);
+        let mut bench = Bench::new(&[5; 4]);
+        bench.used = 1;
+        assert_eq!(bench.give(tag(1, 2, 0, 0)), Ok(false));
+        let before = bench.path;
+        assert_eq!(bench.give(1), Err(31));
         assert_eq!(
-            take(&mut path, &mut used, &mut log, tag(1, 2, 0, 0)),
-            Ok(())
+            (bench.path, bench.used, &bench.log[..]),
+            (before, 1, &[5; 4][..])
         );
-        let before = path;
-        assert_eq!(take(&mut path, &mut used, &mut log, 1), Err(31));
-        assert_eq!((path, used, log), (before, 1, [5; 4]));
     }
 
     #[test]
     fn sheet_tag_with_one_write() {
-        let (mut path, mut used, mut log) = (IDLE, 0, [0; 2]);
+        let mut bench = Bench::new(&[0; 2]);
         let sheet_tag = 0x0000_0000_0000_000E_1000_0000_0000_8001;
-        assert_eq!(take(&mut path, &mut used, &mut log, sheet_tag), Ok(()));
-        assert_eq!(
-            take(&mut path, &mut used, &mut log, 0x1234 | 0x47 << 64),
-            Ok(())
-        );
-        assert_eq!((path.place, used, log), (Place::Idle, 1, [0x47, 0x1234]));
+        assert_eq!(bench.give(sheet_tag), Ok(false));
+        assert_eq!(bench.give(0x1234 | 0x47 << 64), Ok(true));
+        assert_eq!((bench.path.place, bench.used), (Place::Idle, 1));
+        assert_eq!(bench.log, [0x47, 0x1234]);
     }
 
     #[test]
     fn tag_without_data_sets_q_only() {
-        let (mut path, mut used, mut log) = (IDLE, 0, [0; 0]);
-        assert_eq!(
-            take(&mut path, &mut used, &mut log, tag(0, 0, 1, 0) | 1 << 46),
-            Ok(())
-        );
-        assert_eq!(
-            (path, used),
-            (
-                Path {
-                    q: TAG_Q,
-                    place: Place::Idle
-                },
-                0
-            )
-        );
-        assert_eq!(
-            take(&mut path, &mut used, &mut log, tag(1, 0, 1, 0) | 1 << 46),
-            Err(31)
-        );
+        let mut bench = Bench::new(&[]);
+        assert_eq!(bench.give(tag(0, 0, 1, 0) | PRE), Ok(false));
+        assert_eq!((bench.path.q, bench.path.place), (TAG_Q, Place::Idle));
+        assert_eq!(bench.used, 0);
+        assert_eq!(bench.give(tag(1, 0, 1, 0) | PRE), Err(31));
     }
 
     #[test]
@@ -309,15 +317,67 @@ mod tests {
         let held = Tag {
             format: Format::Reglist,
             nloop: 1,
-            eop: false,
+            eop: true,
             nreg: 2,
             descriptors: 0xB0,
         };
-        let mut path = Path {
-            q: 0,
-            place: Place::Data { tag: held, due: 1 },
-        };
-        assert_eq!(take(&mut path, &mut 0, &mut [], 0), Err(30));
-        assert_eq!(take(&mut path, &mut (1 << 63), &mut [], 0), Err(4));
+        let mut bench = Bench::new(&[]);
+        bench.path.place = Place::Data { tag: held, due: 1 };
+        assert_eq!(bench.give(0), Err(30));
+        bench.used = 1 << 63;
+        assert_eq!(bench.give(0), Err(4));
+    }
+
+    /// The last data quadword closes a packet, where the tag has EOP; each format, with and
+    /// without a dropped half, and descriptors that write nothing.
+    #[test]
+    fn packet_closed_by_data() {
+        for (tag, data) in [
+            (tag(2, 0, 1, 0x5), 2),
+            (tag(1, 0, 2, 0xE1), 2),
+            (tag(1, 0, 2, 0xF1), 2),
+            (tag(2, 1, 2, 0x21), 2),
+            (tag(1, 1, 3, 0x321), 2),
+            (tag(1, 1, 2, 0xFE), 1),
+            (tag(3, 2, 1, 0), 3),
+            (tag(1, 3, 0, 0), 1),
+        ] {
+            for eop in [false, true] {
+                let mut bench = Bench::new(&[0; 16]);
+                let tag = if eop { tag | EOP } else { tag };
+                let mut closed = vec![bench.give(tag)];
+                closed.extend((0..data).map(|_| bench.give(7)));
+                let mut wanted = vec![Ok(false); 1 + data];
+                wanted[data] = Ok(eop);
+                assert_eq!(closed, wanted, "{tag:X}");
+                assert_eq!(bench.path.place, Place::Idle);
+            }
+        }
+    }
+
+    #[test]
+    fn packet_closed_by_a_tag_without_data() {
+        for flg in 0..4 {
+            let mut bench = Bench::new(&[]);
+            assert_eq!(bench.give(tag(0, flg, 1, 0xE) | PRE), Ok(false));
+            assert_eq!(bench.give(tag(0, flg, 1, 0xE) | PRE | EOP), Ok(true));
+        }
+    }
+
+    /// What is refused closes nothing, and the packet stays open.
+    #[test]
+    fn refused_quadwords_close_nothing() {
+        let mut bench = Bench::new(&[0; 2]);
+        assert_eq!(bench.give(tag(2, 0, 1, 0xE) | EOP), Ok(false));
+        assert_eq!(bench.give(7), Ok(false));
+        assert_eq!(bench.give(7), Err(31));
+        bench.log.push(0);
+        assert_eq!(bench.give(7), Err(4));
+        bench.log.push(0);
+        assert_eq!(bench.give(7), Ok(true));
+        let mut bench = Bench::new(&[0; 4]);
+        assert_eq!(bench.give(tag(1, 1, 2, 0xB1) | EOP), Ok(false));
+        assert_eq!(bench.give(7), Err(30));
+        assert_eq!(bench.used, 0);
     }
 }

@@ -19,6 +19,8 @@ pub const HEADER: usize = (PATH_AT + PATH_WORDS) * WORD;
 const RESULT_PATH_AT: usize = 3;
 const CHANGES_AT: usize = RESULT_PATH_AT + PATH_WORDS;
 const FILL_STEP: u64 = 0x9E37_79B9_7F4A_7C15;
+/// Answered where a packet was closed.
+pub const CLOSED: u32 = 512;
 
 #[derive(Clone)]
 pub struct Case {
@@ -71,14 +73,13 @@ impl Standing {
         }
     }
 
-    /// Gives a quadword; answers 0 or the refusal.
-    pub fn take(&mut self, quadword: u128) -> u32 {
-        let taken = match &mut self.path {
+    /// Gives a quadword; hands back whether it closed a packet, or the refusal.
+    pub fn take(&mut self, quadword: u128) -> Result<bool, u32> {
+        match &mut self.path {
             Some(path) => gif::take(path, &mut self.used, &mut self.log, quadword),
             None if !log::in_range(self.log.len(), self.used) => Err(refusals::LOG),
             None => Err(refusals::RANGE),
-        };
-        taken.err().unwrap_or(0)
+        }
     }
 
     pub fn block(&self) -> PathBlock {
@@ -184,20 +185,28 @@ fn run_case(case: &Case, index: usize, results: &mut Results, counts: &mut Count
         });
         let path_before = standing.path;
         let used_before = standing.used;
-        let answer = standing.take(quadword);
+        let taken = standing.take(quadword);
         let changes = changes(&log_before, &standing.log);
-        write_result(&mut results.bytes, answer, &standing, &changes);
+        write_result(&mut results.bytes, answer(taken), &standing, &changes);
         counts.note(
             path_before.as_ref(),
             used_before,
             quadword,
-            answer,
+            taken,
             &standing,
             changes.len(),
         );
         for &(at, value) in &changes {
             log_before[at] = value;
         }
+    }
+}
+
+/// The word that a result gives for a quadword.
+fn answer(taken: Result<bool, u32>) -> u32 {
+    match taken {
+        Ok(closed) => closed as u32 * CLOSED,
+        Err(refusal) => refusal,
     }
 }
 
@@ -230,6 +239,15 @@ fn changes(before: &[u64], after: &[u64]) -> Vec<(usize, u64)> {
     found
 }
 
+fn describe_answer(answer: u32) -> String {
+    let closed = if answer == CLOSED {
+        ", packet closed"
+    } else {
+        ""
+    };
+    format!("answer {answer}{closed}")
+}
+
 /// The result that starts at the head of the bytes, in words to read.
 pub fn describe_result(bytes: &[u8]) -> String {
     if bytes.len() < (CHANGES_AT + 1) * WORD {
@@ -242,8 +260,8 @@ pub fn describe_result(bytes: &[u8]) -> String {
     let block = std::array::from_fn(|i| word(bytes, RESULT_PATH_AT + i));
     let count = word(bytes, CHANGES_AT);
     let mut text = format!(
-        "answer {}, entries used {}\n    {}\n    {} numbers changed",
-        word(bytes, 0),
+        "{}, entries used {}\n    {}\n    {} numbers changed",
+        describe_answer(word(bytes, 0)),
         number(bytes, 1),
         describe_path(&block),
         count
@@ -290,4 +308,45 @@ pub fn describe_case(bytes: &[u8], last: usize) -> String {
         text.push('\n');
     }
     text
+}
+
+#[cfg(test)]
+mod tests {
+    use super::*;
+    use crate::state_block::IDLE_PATH;
+
+    fn own(case: &Case) -> Vec<u8> {
+        let mut file = Vec::new();
+        case.write(&mut file);
+        results(&file, &mut Counts::default()).bytes
+    }
+
+    /// A tag with EOP and NLOOP 0, one with an A+D write, the write, and one that has no room.
+    #[test]
+    fn words_of_results() {
+        let tag = 0x0000_0000_0000_000E_1000_0000_0000_8001;
+        let case = Case {
+            log_length: log::length(1),
+            used: 0,
+            fill: 0,
+            block: IDLE_PATH,
+            quadwords: vec![0x8000, tag, 7 | 0x42 << 64, tag, 8],
+        };
+        let given = own(&case);
+        let idle = [0x3F80_0000, 0, 0, 0, 0, 0, 0, 0, 0];
+        let held = [0x3F80_0000, 1, 0, 1, 1, 1, 0xE, 0, 1];
+        let one = |answer: u32, used: u32, path: [u32; 9], changes: &[u32]| {
+            [&[answer, used, 0][..], &path, changes].concat()
+        };
+        let expected = [
+            one(512, 0, idle, &[0]),
+            one(0, 0, held, &[0]),
+            one(512, 1, idle, &[2, 0, 0x42, 0, 1, 7, 0]),
+            one(0, 1, held, &[0]),
+            one(31, 1, held, &[0]),
+        ];
+        let words: Vec<u32> = (0..given.len() / WORD).map(|at| word(&given, at)).collect();
+        assert_eq!(words, expected.concat());
+        assert!(describe_result(&given).starts_with("answer 512, packet closed, entries"));
+    }
 }

@@ -5,10 +5,13 @@ use crate::gif_cases::{self, case_starts, describe_case, describe_result, Result
 use crate::gif_counts::Counts;
 use crate::gif_generate::generate;
 use crate::memory::cases::MOST_LOG;
+use crate::packet_points;
 use crate::random::Random;
 
-/// Compares on the cases of each seed and on damaged files made from them.
+/// Compares on the cases of each seed, which have the points worked by hand among them, and on
+/// damaged files made from them.
 pub fn compare(program: &Program, seeds: &[u64], quadwords: u64) -> Result<(), String> {
+    let points = packet_points::check()? as u64;
     let mut counts = Counts::default();
     let mut damaged_files = 0;
     for &seed in seeds {
@@ -22,6 +25,7 @@ pub fn compare(program: &Program, seeds: &[u64], quadwords: u64) -> Result<(), S
     }
     let mut rows = counts.rows();
     rows.push(("damaged files".to_string(), damaged_files));
+    rows.push(("points about packets".to_string(), points));
     report(&rows)
 }
 

@@ -3,6 +3,7 @@
 use crate::gif::{self, bits, Format, Path, Place, Tag};
 use crate::gif_cases::Standing;
 use crate::log;
+use crate::packet_counts;
 use crate::refusals;
 
 #[derive(Default)]
@@ -48,33 +49,36 @@ pub struct Counts {
     exactly_full: u64,
     taken_while_full: u64,
     unchanged: u64,
+    packets: packet_counts::Counts,
 }
 
 impl Counts {
-    /// Notes one quadword: what stood before it, its answer, and what stands now.
+    /// Notes one quadword: what stood before it, how it was taken, and what stands now.
     pub fn note(
         &mut self,
         before: Option<&Path>,
         used: u64,
         quadword: u128,
-        answer: u32,
+        taken: Result<bool, u32>,
         now: &Standing,
         changed: usize,
     ) {
         self.quadwords += 1;
-        match answer {
-            refusals::LOG => self.note_log(before, used, now.log.len()),
-            refusals::RANGE => self.note_range(before),
+        match taken {
+            Err(refusals::LOG) => self.note_log(before, used, now.log.len()),
+            Err(refusals::RANGE) => self.note_range(before),
             _ => {
                 let path = before.expect("only an existing path is stepped");
+                self.packets.note(path, quadword, taken);
+                let refusal = taken.err();
                 match &path.place {
-                    Place::Idle => self.note_tag(quadword, answer),
+                    Place::Idle => self.note_tag(quadword, refusal),
                     Place::Data { tag, due } => {
                         let free = log::room(now.log.len(), used);
-                        self.note_data(tag, *due, quadword, answer, free);
+                        self.note_data(tag, *due, quadword, refusal, free);
                     }
                 }
-                if answer == 0 {
+                if refusal.is_none() {
                     self.note_writes(used, now, changed);
                 }
             }
@@ -115,8 +119,8 @@ impl Counts {
         }
     }
 
-    fn note_tag(&mut self, quadword: u128, answer: u32) {
-        if answer != 0 {
+    fn note_tag(&mut self, quadword: u128, refusal: Option<u32>) {
+        if refusal.is_some() {
             self.refused_room_tag += 1;
             return;
         }
@@ -138,26 +142,26 @@ impl Counts {
         }
     }
 
-    fn note_data(&mut self, tag: &Tag, due: u32, quadword: u128, answer: u32, free: u64) {
-        if answer == refusals::DESCRIPTOR && free == 0 {
+    fn note_data(&mut self, tag: &Tag, due: u32, quadword: u128, refusal: Option<u32>, free: u64) {
+        if refusal == Some(refusals::DESCRIPTOR) && free == 0 {
             self.refused_b_and_full += 1;
         }
-        if answer == refusals::ROOM && free == 1 {
+        if refusal == Some(refusals::ROOM) && free == 1 {
             self.refused_room_one_free += 1;
         }
         match tag.format {
-            Format::Packed => self.note_packed(tag.packed_descriptor(due), quadword, answer),
-            Format::Reglist => self.note_reglist(tag, tag.reglist_descriptors(due), answer),
-            Format::Image if answer == 0 => self.image += 1,
+            Format::Packed => self.note_packed(tag.packed_descriptor(due), quadword, refusal),
+            Format::Reglist => self.note_reglist(tag, tag.reglist_descriptors(due), refusal),
+            Format::Image if refusal.is_none() => self.image += 1,
             Format::Image => self.refused_room_image += 1,
         }
-        if answer == 0 && due == 1 {
+        if refusal.is_none() && due == 1 {
             self.completed[tag.format as usize] += 1;
         }
     }
 
-    fn note_packed(&mut self, descriptor: u8, quadword: u128, answer: u32) {
-        if answer == refusals::ROOM {
+    fn note_packed(&mut self, descriptor: u8, quadword: u128, refusal: Option<u32>) {
+        if refusal == Some(refusals::ROOM) {
             self.refused_room_packed += 1;
             return;
         }
@@ -169,12 +173,12 @@ impl Counts {
         }
     }
 
-    fn note_reglist(&mut self, tag: &Tag, halves: (u8, Option<u8>), answer: u32) {
-        if answer == refusals::ROOM {
+    fn note_reglist(&mut self, tag: &Tag, halves: (u8, Option<u8>), refusal: Option<u32>) {
+        if refusal == Some(refusals::ROOM) {
             self.refused_room_reglist += 1;
             return;
         }
-        if answer == refusals::DESCRIPTOR {
+        if refusal == Some(refusals::DESCRIPTOR) {
             self.reglist[0xB] += 1;
             if halves.0 == 0xB {
                 self.refused_b_first += 1;
@@ -269,6 +273,7 @@ impl Counts {
         row("log exactly full after a write", self.exactly_full);
         row("taken without a write, log full", self.taken_while_full);
         row("numbers written with the value held", self.unchanged);
+        rows.extend(self.packets.rows("GIF"));
         rows
     }
 }

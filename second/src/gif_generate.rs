@@ -4,8 +4,13 @@ use crate::gif::{Format, Path, Place, Tag};
 use crate::gif_cases::{fill_number, Case, Standing};
 use crate::log;
 use crate::memory::cases::MOST_LOG;
+use crate::packet_points;
 use crate::random::Random;
 use crate::state_block::{descriptors, path_word, write_path, PathBlock, IDLE_PATH};
+
+/// Bits of a tag.
+pub const EOP: u128 = 1 << 15;
+pub const PRE: u128 = 1 << 46;
 
 /// A case file of about `quadwords` quadwords.
 pub fn generate(seed: u64, quadwords: u64) -> Vec<u8> {
@@ -13,7 +18,8 @@ pub fn generate(seed: u64, quadwords: u64) -> Vec<u8> {
     let mut file = Vec::new();
     let mut made = 0;
     let edges = edge_cases(&mut random);
-    for case in fixed_cases().iter().chain(&edges) {
+    let points = packet_points::in_gif_cases();
+    for case in fixed_cases().iter().chain(&points).chain(&edges) {
         made += case.quadwords.len() as u64;
         case.write(&mut file);
     }
@@ -39,7 +45,7 @@ fn fixed_cases() -> Vec<Case> {
         quadwords: quadwords.to_vec(),
     };
     let halves = |low: u128, high: u128| low | high << 64;
-    let pre = 1u128 << 46 | 0x5A5 << 47;
+    let pre = PRE | 0x5A5 << 47;
     vec![
         // REGLIST, NREG 3, NLOOP 1: two quadwords, three writes.
         case(
@@ -199,7 +205,7 @@ fn fill_case(random: &mut Random, case: &mut Case, wanted: u64) {
         };
         case.quadwords.push(quadword);
         left -= 1;
-        if standing.take(quadword) != 0 {
+        if standing.take(quadword).is_err() {
             left = left.min(random.below(3));
         }
     }

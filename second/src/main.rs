@@ -8,6 +8,8 @@ mod capture_cases;
 mod capture_compare;
 mod capture_counts;
 mod capture_generate;
+mod capture_packet_cases;
+mod capture_packet_counts;
 mod capture_points;
 mod chain;
 mod chain_time;
@@ -22,6 +24,8 @@ mod gif_time;
 mod log;
 mod memory;
 mod model;
+mod packet_counts;
+mod packet_points;
 mod random;
 mod refusals;
 mod sheet;
@@ -43,6 +47,7 @@ mod vif_counts;
 mod vif_generate;
 mod vif_points;
 mod vif_unpack;
+mod way;
 mod words;
 
 use std::io::{Read, Write};
@@ -52,16 +57,17 @@ const USAGE: &str = "\
 usage:
   second gif [--counts] < CASES > RESULTS
   second generate-gif SEED QUADWORDS > CASES
+  second points-gif packets > CASES
   second compare-gif PROGRAM SEED[,SEED..] QUADWORDS
   second bench-gif PROGRAM
   second time-gif < INPUT > RESULT
   second vif [--counts] < CASES > RESULTS
   second generate-vif SEED WORDS > CASES
-  second points-vif mask|filling|vif0|upload > CASES
+  second points-vif mask|filling|vif0|upload|packets > CASES
   second compare-vif PROGRAM SEED[,SEED..] WORDS
   second capture [--counts] < CASES > RESULTS
   second generate-capture SEED RUNS > CASES
-  second points-capture mask|filling|vif0|upload > CASES
+  second points-capture mask|filling|vif0|upload|packets > CASES
   second compare-capture PROGRAM SEED[,SEED..] RUNS
   second bench-chain PROGRAM
   second time-chain < INPUT > RESULT
@@ -105,6 +111,12 @@ fn gif_command(arguments: &[&str]) -> Option<Result<(), String>> {
             seed.parse().ok()?,
             quadwords.parse().ok()?,
         )),
+        ["points-gif", "packets"] => {
+            let mut file = Vec::new();
+            let cases = packet_points::in_gif_cases();
+            cases.iter().for_each(|case| case.write(&mut file));
+            write(&file)
+        }
         ["compare-gif", program, seeds, quadwords] => {
             let program = compare::Program::parse(program);
             gif_compare::compare(&program, &compare::seeds(seeds)?, quadwords.parse().ok()?)
@@ -126,9 +138,8 @@ fn vif_command(arguments: &[&str]) -> Option<Result<(), String>> {
         )),
         ["points-vif", name] => {
             let mut file = Vec::new();
-            for point in vif_points::named(name)? {
-                point.case().write(&mut file);
-            }
+            let cases = vif_point_cases(name)?;
+            cases.iter().for_each(|case| case.write(&mut file));
             write(&file)
         }
         ["compare-vif", program, seeds, words] => {
@@ -150,9 +161,8 @@ fn capture_command(arguments: &[&str]) -> Option<Result<(), String>> {
         )),
         ["points-capture", name] => {
             let mut file = Vec::new();
-            for point in vif_points::named(name)? {
-                capture_points::case(&point).write(&mut file);
-            }
+            let cases = capture_point_cases(name)?;
+            cases.iter().for_each(|case| case.write(&mut file));
             write(&file)
         }
         ["compare-capture", program, seeds, runs] => {
@@ -183,6 +193,24 @@ fn sheet_command(arguments: &[&str]) -> Option<Result<(), String>> {
         _ => return None,
     };
     Some(done)
+}
+
+/// The points under a name; none for another name.
+fn vif_point_cases(name: &str) -> Option<Vec<vif_cases::Case>> {
+    if name == "packets" {
+        return Some(packet_points::in_vif_cases());
+    }
+    let points = vif_points::named(name)?;
+    Some(points.iter().map(|point| point.case()).collect())
+}
+
+/// The same as captures.
+fn capture_point_cases(name: &str) -> Option<Vec<capture_cases::Case>> {
+    if name == "packets" {
+        return Some(packet_points::in_captures());
+    }
+    let points = vif_points::named(name)?;
+    Some(points.iter().map(capture_points::case).collect())
 }
 
 fn gif_results(with_counts: bool) -> Result<(), String> {

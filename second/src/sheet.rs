@@ -242,6 +242,19 @@ pub fn steps(sheet: &[u8]) -> Result<u64, Refusal> {
     Ok(all + 1)
 }
 
+/// The packets that the chain has closed after so many steps, with so many log entries written:
+/// the GS records that end within both.
+pub fn packets(sheet: &[u8], most_steps: u64, most_entries: u64) -> Result<u64, Refusal> {
+    let (mut steps, mut entries, mut packets) = (0, 0, 0);
+    for record in records(sheet)? {
+        steps += record.steps();
+        entries += record.entries();
+        let ended = steps <= most_steps && entries <= most_entries;
+        packets += (record.kind == Kind::Gs && ended) as u64;
+    }
+    Ok(packets)
+}
+
 /// The log entries of the sheet.
 pub fn entries(sheet: &[u8]) -> Result<u64, Refusal> {
     Ok(records(sheet)?.iter().map(Record::entries).sum())
@@ -299,7 +312,7 @@ fn gs_entry(bytes: &[u8]) -> Entry {
 mod tests {
     use super::record_bytes as record;
     use super::*;
-    use crate::chain::{self, Memories, State};
+    use crate::chain::{self, Memories, State, Stop};
     use crate::log;
     use crate::memory::MOST_MAIN;
     use crate::random::Random;
@@ -342,7 +355,14 @@ mod tests {
             log: &mut log,
         };
         let done = chain::run(&mut state, &mut memories, u64::MAX, |_, _, _| {});
-        assert_eq!(done, (chain::DONE, steps(sheet).unwrap()));
+        let records = records(sheet).unwrap();
+        let gs = records.iter().filter(|record| record.kind == Kind::Gs);
+        let whole = Stop {
+            answer: chain::DONE,
+            steps: steps(sheet).unwrap(),
+            packets: gs.count() as u64,
+        };
+        assert_eq!(done, whole);
         let (mut plain_data, mut plain_code, _) = machine();
         meaning(sheet, &mut plain_data, &mut plain_code, &mut entries).unwrap();
         let mut meant = vec![9; log::numbers(state.used)];

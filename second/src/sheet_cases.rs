@@ -134,6 +134,7 @@ pub struct Ran {
     /// Refused before the run, or the run's answer.
     pub answer: Result<u32, Refusal>,
     pub steps: u64,
+    pub packets: u64,
     pub state: StateBlock,
     pub memories: Filled,
     pub main: Vec<u8>,
@@ -171,6 +172,7 @@ impl Outcome {
 
         put_answer(out, self.ran.answer.map(|answer| (answer, 0)));
         put_number(out, self.ran.steps);
+        put_number(out, self.ran.packets);
         self.ran.state.iter().for_each(|&w| put_word(out, w));
         self.ran.memories.write(out);
         put_bytes(out, &self.ran.main);
@@ -220,6 +222,7 @@ fn build_and_run(case: &Case) -> Ran {
     let mut ran = Ran {
         answer: Ok(chain::DONE),
         steps: 0,
+        packets: 0,
         state: read_state(&case.state).map_or(case.state, |state| write_state(&state)),
         memories: Filled::new(case),
         main: case.main(),
@@ -228,10 +231,10 @@ fn build_and_run(case: &Case) -> Ran {
         Err(refusal) => ran.answer = Err(refusal),
         Ok(mut state) => {
             let mut memories = lend(&mut ran.memories, &ran.main);
-            let (answer, steps) =
-                chain::run(&mut state, &mut memories, case.allowance, |_, _, _| {});
-            ran.answer = Ok(answer);
-            ran.steps = steps;
+            let stop = chain::run(&mut state, &mut memories, case.allowance, |_, _, _| {});
+            ran.answer = Ok(stop.answer);
+            ran.steps = stop.steps;
+            ran.packets = stop.packets;
             ran.state = write_state(&state);
         }
     }
@@ -347,7 +350,11 @@ pub fn layout(case: &Case) -> [Vec<(&'static str, usize)>; 4] {
     let head = [("answer", 1), ("offset", 1)];
     let with = |pieces: &[(&'static str, usize)]| [&head[..], pieces].concat();
     let meaning = [&[("entries used", 2)][..], &memories].concat();
-    let run = [("step count", 2), ("state block", STATE_WORDS)];
+    let run = [
+        ("step count", 2),
+        ("packets closed", 2),
+        ("state block", STATE_WORDS),
+    ];
     let run = [&run[..], &memories].concat();
     let main = [("main memory", words(case.main_length))];
     [
@@ -387,7 +394,8 @@ pub fn describe_case(case: &Case) -> String {
     let shown = &case.sheet[..case.sheet.len().min(96)];
     format!(
         "    S {}, O {}, M {}, address {:X}, D {}, C {}, L {}, fill {:016X}, allowance {}\n    {}\n    \
-         our answers: {:?} (exported {}); {:?}; {:?}; {:?} after {} steps\n    sheet: {shown:02X?}{}",
+         our answers: {:?} (exported {}); {:?}; {:?}; {:?} after {} steps, {} packets closed\n    \
+         sheet: {shown:02X?}{}",
         case.sheet.len(),
         case.output_length,
         case.main_length,
@@ -404,6 +412,7 @@ pub fn describe_case(case: &Case) -> String {
         outcome.meant.answer,
         outcome.ran.answer,
         outcome.ran.steps,
+        outcome.ran.packets,
         if shown.len() < case.sheet.len() { " .." } else { "" },
     )
 }
@@ -482,10 +491,10 @@ mod tests {
             (number(&given, log_at), number(&given, log_at + 2)),
             (256, 5)
         );
-        // Build and run: answer, offset, steps, channel, TADR, TTE, ended.
+        // Build and run: answer, offset, steps, packets, channel, TADR, TTE, ended.
         let run = log_at + 2 * log::ENTRY;
-        let head: Vec<u32> = (run..run + 8).map(|at| word(&given, at)).collect();
-        assert_eq!(head, [0, 0, 6, 0, 1, 64, 0, 1]);
+        let head: Vec<u32> = (run..run + 10).map(|at| word(&given, at)).collect();
+        assert_eq!(head, [0, 0, 6, 0, 0, 0, 1, 64, 0, 1]);
         let main = words - 32;
         assert_eq!(given[WORD * main], fill(4, 0) as u8);
         assert_eq!(word(&given, main + 8), 0x1000_0001);

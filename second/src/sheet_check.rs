@@ -63,7 +63,13 @@ fn clean(state: &State) -> bool {
 pub fn broken(case: &Case, outcome: &Outcome) -> Option<String> {
     let steps = outcome.steps.unwrap_or(0);
     let given = (outcome.ran.answer, outcome.ran.steps);
-    match foretold(case)? {
+    let end = foretold(case)?;
+    let packets = packets(case);
+    if outcome.ran.packets != packets {
+        let closed = outcome.ran.packets;
+        return Some(format!("{closed} packets closed, not {packets}"));
+    }
+    match end {
         End::Whole if given != (Ok(chain::DONE), steps) => {
             Some(format!("{given:?} is not done in {steps} steps"))
         }
@@ -76,6 +82,12 @@ pub fn broken(case: &Case, outcome: &Outcome) -> Option<String> {
         }
         End::Cut | End::Full => None,
     }
+}
+
+/// The packets that the run has to close, where its end is foretold.
+pub fn packets(case: &Case) -> u64 {
+    let room = log::room(case.log_length as usize, case.used());
+    sheet::packets(&case.sheet, case.allowance, room).unwrap_or(0)
 }
 
 /// What a whole run left that is not what the sheet means.
@@ -154,10 +166,11 @@ mod tests {
 
     #[test]
     fn shams_are_found() {
-        let shams: [fn(&mut Outcome); 8] = [
+        let shams: [fn(&mut Outcome); 9] = [
             |o| o.ran.answer = Ok(chain::INTERRUPT),
             |o| o.ran.answer = Err((47, 0)),
             |o| o.ran.steps += 1,
+            |o| o.ran.packets ^= 1,
             |o| o.ran.memories.data[100] ^= 1,
             |o| o.ran.memories.code[100] ^= 1,
             |o| o.ran.memories.log[7] ^= 1,

@@ -202,6 +202,7 @@ mod tests {
     use super::*;
     use crate::compare::zeros;
     use crate::sheet_cases::results;
+    use crate::words::number;
 
     fn own(file: &[u8]) -> Results {
         results(file, &mut Counts::default())
@@ -251,12 +252,21 @@ mod tests {
         let words = |pieces: &[(&str, usize)]| pieces.iter().map(|p| p.1).sum::<usize>();
         // The second word of the state block.
         let first_three: usize = parts[..3].iter().map(|part| words(part)).sum();
-        let at = start + WORD * (first_three + 4 + 1);
+        let run = start + WORD * first_three;
+        let at = run + WORD * (6 + 1);
         let mut theirs = given.bytes.clone();
         theirs[at] ^= 1;
         let told = explain(&file, &given, &theirs, at, 250);
-        let head = "case 253: part 4 (build and run), word 5 of the part, state block word 1: ";
+        let head = "case 253: part 4 (build and run), word 7 of the part, state block word 1: ";
         assert!(told.starts_with(head), "{told}");
+        let told = explain(&file, &given, &theirs, run + WORD * 4, 250);
+        let head = "case 253: part 4 (build and run), word 4 of the part, packets closed word 0: ";
+        assert!(told.starts_with(head), "{told}");
+        let (steps, packets) = (
+            number(&given.bytes[run..], 2),
+            number(&given.bytes[run..], 4),
+        );
+        assert!(told.contains(&format!("after {steps} steps, {packets} packets closed")));
         let told = explain(&file, &given, &given.bytes[..start], start, 0);
         assert!(
             told.starts_with("case 3: part 1 (the builder), word 0"),

@@ -355,12 +355,36 @@ impl Counts {
         }
         let held = state.path2.place != Place::Idle;
         self.add_if("runs with path 2 inside a tag", held);
+        let packets = outcome.ran.packets;
+        let other = held && packets > 0;
+        self.add_if("runs with path 2 inside a tag that close packets", other);
         match foretold(case) {
             Some(End::Whole) => self.note_whole(case, &state, outcome),
-            Some(End::Cut) => self.add("runs cut by the allowance, all else well"),
-            Some(End::Full) => self.note_full(case),
+            Some(End::Cut) => self.note_cut(case),
+            Some(End::Full) => self.note_full(case, packets),
             None => {}
         }
+    }
+
+    /// Notes a run that is cut by its allowance and all else well.
+    fn note_cut(&mut self, case: &Case) {
+        self.add("runs cut by the allowance, all else well");
+        let after = |steps| sheet::packets(&case.sheet, steps, u64::MAX).unwrap_or(0);
+        let given = case.allowance;
+        let closed = after(given);
+        let rows = [
+            ("runs cut before any packet is closed", closed == 0),
+            ("runs cut after several packets", closed > 1),
+            (
+                "runs cut with the step that closes a packet",
+                given > 0 && after(given - 1) < closed,
+            ),
+            (
+                "runs cut one step before a packet is closed",
+                after(given + 1) > closed,
+            ),
+        ];
+        rows.iter().for_each(|&(name, is)| self.add_if(name, is));
     }
 
     fn note_place(&mut self, case: &Case) {
@@ -413,8 +437,12 @@ impl Counts {
         let entries = sheet::entries(&case.sheet).unwrap_or(0);
         let room = log::room(case.log_length as usize, case.used());
         let full = entries > 0 && room == entries;
+        let packets = outcome.ran.packets;
         let rows = [
             ("in all", true),
+            ("that close no packet", packets == 0),
+            ("that close one packet", packets == 1),
+            ("that close several packets", packets > 1),
             ("with entries used before", state.used > 0),
             ("with no entry", entries == 0),
             ("with the log full afterwards", full),
@@ -457,7 +485,8 @@ impl Counts {
         }
     }
 
-    fn note_full(&mut self, case: &Case) {
+    fn note_full(&mut self, case: &Case, packets: u64) {
+        self.add_if("log short after packets", packets > 0);
         let entries = sheet::entries(&case.sheet).unwrap_or(0);
         let room = log::room(case.log_length as usize, case.used());
         self.add_if("log short by one entry", room + 1 == entries);
@@ -683,6 +712,7 @@ const NAMES: &[&str] = &[
     "log too long",
     "log of 131,072 numbers",
     "log below twice the entries used",
+    "log short after packets",
     "log short by one entry",
     "log short by more",
     "entries used from 2^63",
@@ -738,10 +768,18 @@ const NAMES: &[&str] = &[
     "allowance enough, its low word not",
     "runs from a block with words that mean nothing",
     "runs with path 2 inside a tag",
+    "runs with path 2 inside a tag that close packets",
     "runs with a code waiting: done",
     "runs that take MPG's first word",
     "runs cut by the allowance, all else well",
+    "runs cut before any packet is closed",
+    "runs cut after several packets",
+    "runs cut with the step that closes a packet",
+    "runs cut one step before a packet is closed",
     "whole runs in all",
+    "whole runs that close no packet",
+    "whole runs that close one packet",
+    "whole runs that close several packets",
     "whole runs from the reset state",
     "whole runs from channel 0",
     "whole runs from channel 0 with TTE on",

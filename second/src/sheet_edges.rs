@@ -54,6 +54,7 @@ pub fn edge_cases(random: &mut Random) -> Vec<Case> {
     edges.add_waiting_codes();
     edges.add_bodies_as_codes();
     edges.add_uploads();
+    edges.add_packets();
     edges.add_places();
     edges.add_allowances();
     edges.shuffled()
@@ -524,7 +525,7 @@ impl Edges<'_> {
             let path = random_held_block(self.random);
             put_part(&mut case.state, PATH2, &path);
             if with_b {
-                put_part(&mut case.state, PATH2, &write_path(&held_at_b()));
+                put_part(&mut case.state, PATH2, &write_path(&held(0xB, 3)));
             }
             self.cases.push(case);
         }
@@ -596,6 +597,32 @@ impl Edges<'_> {
         }
     }
 
+    /// Three GS records among others: runs cut round the steps that close their packets, a log
+    /// that is full after some of them, and path 2 inside a tag with EOP.
+    fn add_packets(&mut self) {
+        let records = [(GS, 2), (DATA, 1), (GS, 1), (START, 0), (GS, 3)];
+        let sheet: Vec<u8> = records
+            .iter()
+            .flat_map(|&(kind, n)| good_record(self.random, kind, n))
+            .collect();
+        // The packets are closed with the steps 8, 24 and 38.
+        for allowance in [7, 8, 23, 24, 37] {
+            let mut case = case_around(self.random, sheet.clone());
+            case.allowance = allowance;
+            self.cases.push(case);
+        }
+        for room in [2, 5] {
+            let mut case = case_around(self.random, sheet.clone());
+            case.log_length = log::length(case.used() + room);
+            self.cases.push(case);
+        }
+        for due in [1, 2] {
+            let mut case = case_around(self.random, sheet.clone());
+            put_part(&mut case.state, PATH2, &write_path(&held(0xE, due)));
+            self.cases.push(case);
+        }
+    }
+
     /// Addresses in main memory, right and wrong.
     fn add_places(&mut self) {
         for _ in 0..2 {
@@ -662,18 +689,18 @@ fn strow_waits() -> State {
     }
 }
 
-/// A path whose next data meets descriptor B.
-fn held_at_b() -> Path {
+/// A path with so many data quadwords due of a tag with EOP and one descriptor.
+fn held(descriptor: u64, due: u32) -> Path {
     let tag = Tag {
         format: Format::Packed,
         nloop: 4,
         eop: true,
         nreg: 1,
-        descriptors: 0xB,
+        descriptors: descriptor,
     };
     Path {
         q: 7,
-        place: Place::Data { tag, due: 3 },
+        place: Place::Data { tag, due },
     }
 }
 

@@ -21,6 +21,7 @@ pub struct Point {
     sheet: &'static [u8],
     chain: &'static [u32],
     steps: u64,
+    packets: u64,
     /// The words of data memory that change.
     data: &'static [(usize, u32)],
     /// The words of code memory that change, by their byte address divided by 4.
@@ -49,6 +50,7 @@ fn empty() -> Point {
         sheet: &[],
         chain: &[0x7000_0000, 0, 0, 0],
         steps: 1,
+        packets: 0,
         data: &[],
         code: &[],
         log: &[],
@@ -67,6 +69,7 @@ fn start_at_5() -> Point {
             0x7000_0000, 0, 0, 0,
         ],
         steps: 6,
+        packets: 0,
         data: &[],
         code: &[],
         log: &[[256, 5]],
@@ -94,6 +97,7 @@ fn data_at_1023() -> Point {
             0x7000_0000, 0, 0, 0,
         ],
         steps: 14,
+        packets: 0,
         data: &[
             (4_092, 0x0403_0201), (4_093, 0x0807_0605),
             (4_094, 0x0C0B_0A09), (4_095, 0x100F_0E0D),
@@ -123,6 +127,7 @@ fn one_gs_write() -> Point {
             0x7000_0000, 0, 0, 0,
         ],
         steps: 8,
+        packets: 1,
         data: &[],
         code: &[],
         log: &[[0x47, 0x8807_0605_0403_0201]],
@@ -147,6 +152,7 @@ fn code_at_2047() -> Point {
             0x7000_0000, 0, 0, 0,
         ],
         steps: 10,
+        packets: 0,
         data: &[],
         code: &[
             (4_094, 0x0403_0201), (4_095, 0x0807_0605),
@@ -193,6 +199,7 @@ impl Point {
 
         put_number(&mut out, 0);
         put_number(&mut out, self.steps);
+        put_number(&mut out, self.packets);
         let mut state = [0; STATE_WORDS];
         state[chain_word::CHANNEL] = 1;
         state[chain_word::TADR] = ADDRESS + length - 16;

@@ -132,6 +132,8 @@ pub struct Taken {
     pub quadword: bool,
     /// This completed a code with its bit 31 set.
     pub interrupt: bool,
+    /// The quadword closed a packet on path 2.
+    pub closed: bool,
 }
 
 #[derive(Clone, Copy, PartialEq, Eq, Debug)]
@@ -256,20 +258,24 @@ pub fn take(
         return Ok(Taken {
             quadword: false,
             interrupt: unit.waiting.is_none() && word >> 31 == 1,
+            closed: false,
         });
     };
     let direct = matches!(waiting.payload, Payload::Direct | Payload::Directhl);
+    let mut taken = Taken {
+        quadword: direct,
+        interrupt: false,
+        closed: false,
+    };
     match given {
-        Given::Quadword(quadword) if direct => gif::take(path, used, log, quadword)?,
+        Given::Quadword(quadword) if direct => {
+            taken.closed = gif::take(path, used, log, quadword)?;
+        }
         Given::Word { .. } if direct => return Err(refusals::PLACE),
         _ if waiting.is_upload() && given.number() % 2 == 1 => return Err(refusals::ALIGNMENT),
         _ => waiting.take_word(unit.model, registers, given.word(), data, code),
     }
     waiting.due -= 1;
-    let mut taken = Taken {
-        quadword: direct,
-        interrupt: false,
-    };
     if waiting.due == 0 {
         taken.interrupt = waiting.interrupt;
         unit.waiting = None;
@@ -534,6 +540,7 @@ mod tests {
     /// A unit with its memories, fed legal words that are all taken.
     struct Bench {
         unit: Unit,
+        path: gif::Path,
         data: Vec<u32>,
         code: Vec<u8>,
         log: Vec<u64>,
@@ -550,6 +557,10 @@ mod tests {
         fn of(model: Model) -> Bench {
             Bench {
                 unit: Unit::reset(model),
+                path: gif::Path {
+                    q: 0,
+                    place: gif::Place::Idle,
+                },
                 data: vec![0; model.sizes().data_words()],
                 code: vec![0; model.sizes().code_bytes()],
                 log: vec![0; 8],
@@ -560,25 +571,24 @@ mod tests {
 
         /// Gives a word; after a refusal the next has the same number.
         fn give(&mut self, word: u32) -> Result<Taken, u32> {
-            let mut path = gif::Path {
-                q: 0,
-                place: gif::Place::Idle,
-            };
-            let given = match self.number {
+            let taken = self.take(match self.number {
                 0 => Given::Quadword(word as u128),
                 number => Given::Word { number, word },
-            };
-            let taken = take(
+            })?;
+            self.number = (self.number + 1) % 4;
+            Ok(taken)
+        }
+
+        fn take(&mut self, given: Given) -> Result<Taken, u32> {
+            take(
                 &mut self.unit,
-                &mut path,
+                &mut self.path,
                 given,
                 &mut self.data,
                 &mut self.code,
                 &mut self.log,
                 &mut self.used,
-            )?;
-            self.number = (self.number + 1) % 4;
-            Ok(taken)
+            )
         }
 
         fn run(&mut self, words: &[u32]) {
@@ -802,6 +812,27 @@ mod tests {
         bench.run(&[0, 0x4A02_07FF, 1, 2, 3, 4]);
         assert_eq!(bench.code[16_376..], [1, 0, 0, 0, 2, 0, 0, 0]);
         assert_eq!(bench.code[..8], [3, 0, 0, 0, 4, 0, 0, 0]);
+    }
+
+    /// Packets inside DIRECT and DIRECTHL, of which the last comes with the code's interrupt.
+    #[test]
+    fn packets_on_path_2() {
+        for command in [0xD0, 0xD1] {
+            let mut bench = Bench::new();
+            let code = bench.give(command << 24 | 4).unwrap();
+            assert!(!code.closed && !code.quadword);
+            let mut give = |quadword| {
+                let taken = bench.take(Given::Quadword(quadword)).unwrap();
+                assert!(taken.quadword);
+                (taken.closed, taken.interrupt)
+            };
+            let tag = 0x0000_0000_0000_000E_1000_0000_0000_8001;
+            assert_eq!(give(tag), (false, false));
+            assert_eq!(give(7), (true, false));
+            // NLOOP 0 without EOP and with it.
+            assert_eq!(give(0), (false, false));
+            assert_eq!(give(0x8000), (true, true));
+        }
     }
 
     /// The first word of MPG's payload comes as each word of a quadword.

@@ -3,6 +3,7 @@
 use crate::compare;
 use crate::filled::{self, UnitMemories};
 use crate::gif::Path;
+use crate::gif_cases::CLOSED;
 use crate::memory::cases::{MOST_CODE, MOST_DATA, MOST_LOG};
 use crate::model::Model;
 use crate::refusals;
@@ -128,7 +129,10 @@ impl Standing {
             None => Err(self.refusal()),
         };
         match taken {
-            Ok(taken) => taken.quadword as u32 + taken.interrupt as u32 * INTERRUPT,
+            Ok(taken) => {
+                let added = taken.interrupt as u32 * INTERRUPT + taken.closed as u32 * CLOSED;
+                taken.quadword as u32 + added
+            }
             Err(refusal) => REFUSED + refusal,
         }
     }
@@ -446,14 +450,16 @@ pub fn describe_changes(bytes: &[u8], mut at: usize) -> (String, Option<usize>) 
 }
 
 fn describe_answer(answer: u32) -> String {
-    match answer {
-        0 => "word".to_string(),
-        1 => "quadword".to_string(),
-        INTERRUPT => "word+interrupt".to_string(),
-        257 => "quadword+interrupt".to_string(),
-        65_537..=65_600 => format!("refused-{}", answer - REFUSED),
-        _ => format!("{answer:08X}"),
+    if let 65_537..=65_600 = answer {
+        return format!("refused-{}", answer - REFUSED);
     }
+    if answer & !(1 | INTERRUPT | CLOSED) != 0 {
+        return format!("{answer:08X}");
+    }
+    let taken = ["word", "quadword"][answer as usize & 1];
+    let added = [(INTERRUPT, "+interrupt"), (CLOSED, "+closed")];
+    let added = added.iter().filter(|(bit, _)| answer & bit != 0);
+    added.fold(taken.to_string(), |text, (_, name)| text + name)
 }
 
 /// The head of a case and its words from `first` to before `end`.
@@ -485,4 +491,30 @@ pub fn describe_case(case: &Case, first: usize, end: usize) -> String {
         text.push_str(&format!(" {:08X}", case.words[at]));
     }
     text
+}
+
+#[cfg(test)]
+mod tests {
+    use super::*;
+    use crate::state_block::RESET_UNIT;
+    use crate::vif_generate::plain_case;
+
+    /// A code with its bit 31 set takes three tags without data; the first has no EOP.
+    #[test]
+    fn answers_of_direct() {
+        for command in [0xD0, 0xD1] {
+            let mut case = plain_case(Model::Vif1, RESET_UNIT, 0, 3);
+            let tags = [0, 0x8000, 0x8000].map(|low| [low, 0x1000_0000, 0xE, 0]);
+            case.words = [&[command << 24 | 3], &tags.concat()[..]].concat();
+            case.groups = vec![4];
+            let mut file = Vec::new();
+            case.write(&mut file);
+            let given = results(&file, &mut Counts::default()).bytes;
+            let answers: Vec<u32> = (0..4).map(|at| word(&given, at)).collect();
+            assert_eq!(answers, [0, 1, 513, 769]);
+            let told = describe_group(&given, 4);
+            let head = "answers word quadword quadword+closed quadword+interrupt+closed\n";
+            assert!(told.starts_with(head), "{told}");
+        }
+    }
 }

@@ -2,6 +2,7 @@
 
 use crate::compare::{describe_ends, first_difference, report, Program};
 use crate::memory::cases::{MOST_CODE, MOST_DATA, MOST_LOG};
+use crate::packet_points;
 use crate::random::Random;
 use crate::vif_cases::{
     self, case_starts, describe_case, describe_group, first_case, Results, GROUPS, HEADER, MODEL,
@@ -15,7 +16,7 @@ use crate::words::{word, WORD};
 /// Compares on the cases of each seed, which have the points worked by hand among them, and on
 /// damaged files made from them.
 pub fn compare(program: &Program, seeds: &[u64], words: u64) -> Result<(), String> {
-    let points = vif_points::check()? as u64;
+    let points = (vif_points::check()? + packet_points::check()?) as u64;
     let mut counts = Counts::default();
     let mut damaged_files = 0;
     for &seed in seeds {

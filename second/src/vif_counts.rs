@@ -2,8 +2,10 @@
 
 use crate::compare::named_rows;
 use crate::gif::{self, Path, Place};
+use crate::gif_cases::CLOSED;
 use crate::log;
 use crate::model::{Model, ONLY_VIF1};
+use crate::packet_counts;
 use crate::refusals;
 use crate::state_block::{
     self, limit, read_path, read_unit, unit_word, waiting_name, waiting_number, write_unit,
@@ -15,6 +17,7 @@ use crate::vif::{
 };
 use crate::vif_cases::{Case, Standing, INTERRUPT, REFUSED};
 use crate::vif_unpack::{Cycle, Format};
+use crate::way::Way;
 use std::collections::HashMap;
 
 /// One call: what stood before it, its answer, and what stands now.
@@ -30,6 +33,16 @@ pub struct Call<'a> {
     pub restored: bool,
     /// The case's first call.
     pub first: bool,
+}
+
+impl Call<'_> {
+    /// Whether a packet was closed, or the refusal.
+    fn taken(&self) -> Result<bool, u32> {
+        match self.answer.checked_sub(REFUSED) {
+            Some(refusal) => Err(refusal),
+            None => Ok(self.answer & CLOSED != 0),
+        }
+    }
 }
 
 /// The codes by `kind`: CMD, the lowest for UNPACK, and name.
@@ -137,6 +150,8 @@ pub struct UnitCounts {
     payload_words: [u64; 7],
     completed: [u64; 7],
     unpack: unpack_counts::Counts,
+    /// By DIRECT and by DIRECTHL.
+    packets: [packet_counts::Counts; 2],
 }
 
 impl UnitCounts {
@@ -155,6 +170,7 @@ impl UnitCounts {
             payload_words: [0; 7],
             completed: [0; 7],
             unpack: unpack_counts::Counts::default(),
+            packets: Default::default(),
         }
     }
 
@@ -252,7 +268,10 @@ impl UnitCounts {
                 self.add_if("refused 25 with bit 31 set", waiting.interrupt);
                 self.note_upload(call);
             }
-            (Some(_), Some(refusal)) => self.note_direct_refused(path, call, refusal),
+            (Some(waiting), Some(refusal)) => {
+                self.note_packet(waiting, path, call);
+                self.note_direct_refused(path, call, refusal);
+            }
         }
     }
 
@@ -493,7 +512,10 @@ impl UnitCounts {
         }
         match &waiting.payload {
             Payload::Mpg(mpg) => self.note_instructions(mpg, waiting, call),
-            Payload::Direct | Payload::Directhl => self.note_direct(path, last, call),
+            Payload::Direct | Payload::Directhl => {
+                self.note_packet(waiting, path, call);
+                self.note_direct(path, last, call);
+            }
             Payload::Unpack(unpack) => {
                 let high = unpack.address >= self.model.sizes().quadwords && call.restored;
                 self.add_if("UNPACK from a block, its address above the end", high);
@@ -544,6 +566,26 @@ impl UnitCounts {
         self.add_if("DIRECT completed between GIF tags", last && !inside);
     }
 
+    /// Notes what a quadword given inside DIRECT or DIRECTHL is to its packet.
+    fn note_packet(&mut self, waiting: &Waiting, path: &Path, call: &Call) {
+        let Given::Quadword(quadword) = call.given else {
+            return;
+        };
+        let Some(way) = Way::of_payload(&waiting.payload) else {
+            return;
+        };
+        self.packets[way as usize].note(path, quadword, call.taken());
+        if call.taken() != Ok(true) {
+            return;
+        }
+        let interrupt = call.answer & INTERRUPT != 0;
+        self.add_if("packets closed with an interrupt", interrupt);
+        self.add_if("packets closed before the code's end", waiting.due > 1);
+        self.add_if("packets closed at a case's start", call.first);
+        let later = call.restored && !call.first;
+        self.add_if("packets closed at a later group's start", later);
+    }
+
     /// Every count by name.
     pub fn rows(&self) -> Vec<(String, u64)> {
         let mut rows: Vec<(String, u64)> = Vec::new();
@@ -574,6 +616,11 @@ impl UnitCounts {
             row(&format!("payloads completed, {kind}"), self.completed[i]);
         }
         rows.extend(self.unpack.rows());
+        if self.model.has(DIRECT) {
+            for way in [Way::Direct, Way::Directhl] {
+                rows.extend(self.packets[way as usize].rows(way.name()));
+            }
+        }
         rows.extend(named_rows(&self.by_name, names(self.model)));
         rows
     }
@@ -853,6 +900,10 @@ const VIF1_NAMES: &[&str] = &[
     "DIRECT quadwords, tags",
     "DIRECT completed inside a GIF tag",
     "DIRECT completed between GIF tags",
+    "packets closed with an interrupt",
+    "packets closed before the code's end",
+    "packets closed at a case's start",
+    "packets closed at a later group's start",
     "UNPACK with TOPS added",
     "UNPACK, address + TOPS from 1,024 up",
     "UNPACK without TOPS",

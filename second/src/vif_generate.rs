@@ -1,18 +1,19 @@
 //! VIF cases from a seed.
 
-use crate::gif::Place;
+use crate::gif::{Path, Place, Tag};
 use crate::gif_generate::{
     edge_logs, random_block as random_gif_block, random_held_block, random_log,
-    random_no_path_block, random_out_of_range_block, random_tag, tag_quadword,
+    random_no_path_block, random_out_of_range_block, random_tag, tag_quadword, EOP, PRE,
 };
 use crate::log;
 use crate::memory::cases::{MOST_CODE, MOST_DATA};
 use crate::model::{Model, MODELS, ONLY_VIF1};
+use crate::packet_points;
 use crate::random::Random;
 use crate::refusals;
 use crate::state_block::{
-    self, first_unused, limit, path_word, unit_word, write_unit, PathBlock, UnitBlock, IDLE_PATH,
-    RESET_UNIT, UNIT_WORDS,
+    self, first_unused, limit, path_word, unit_word, write_path, write_unit, PathBlock, UnitBlock,
+    IDLE_PATH, RESET_UNIT, UNIT_WORDS,
 };
 use crate::unpack_counts::all_formats;
 use crate::vif::{
@@ -36,6 +37,7 @@ pub fn generate(seed: u64, words: u64) -> Vec<u8> {
         cases.extend(fixed_cases(model));
     }
     cases.extend(vif_points::all().iter().map(|point| point.case()));
+    cases.extend(packet_points::in_vif_cases());
     for model in MODELS {
         add_edge_cases(&mut random, model, &mut cases);
     }
@@ -365,6 +367,7 @@ fn add_edge_cases(random: &mut Random, model: Model, cases: &mut Vec<Case>) {
     add_upload_cases(random, model, cases);
     if model == Model::Vif1 {
         add_direct_cases(random, cases);
+        add_packet_cases(random, cases);
     }
     add_call_cases(random, model, cases);
 }
@@ -914,9 +917,8 @@ fn add_direct_cases(random: &mut Random, cases: &mut Vec<Case>) {
             }
         }
         // PRE, PACKED, REGLIST and IMAGE without room, and descriptor B.
-        let pre = 1u128 << 46;
         let tags = [
-            tag_quadword(1, 0, 1, 0xE) | pre,
+            tag_quadword(1, 0, 1, 0xE) | PRE,
             tag_quadword(1, 0, 1, 0xE),
             tag_quadword(1, 1, 2, 0x21),
             tag_quadword(1, 2, 1, 0),
@@ -935,6 +937,58 @@ fn add_direct_cases(random: &mut Random, cases: &mut Vec<Case>) {
             }
         }
     }
+}
+
+/// A packet begun in one DIRECT or DIRECTHL and closed in another, each of which may end with an
+/// interrupt; then a packet of which a block holds all but the last quadword.
+fn add_packet_cases(random: &mut Random, cases: &mut Vec<Case>) {
+    for codes in 0..4 {
+        for quadwords in 1..4 {
+            let mut maker = Maker::with(&random_unit(random, Model::Vif1), 4, 3);
+            let mut give = |maker: &mut Maker, command: u32, given: &[u128]| {
+                maker.pad(3);
+                let interrupt = (random.percent(50) as u32) << 31;
+                maker.word(interrupt | code_word(command, 0, given.len() as u32));
+                given.iter().for_each(|&quadword| {
+                    maker.quadword(quadword);
+                });
+            };
+            let packet = [tag_quadword(3, 0, 1, 0xE) | EOP, 1, 2, 3];
+            let (first, second) = packet.split_at(quadwords);
+            give(&mut maker, 0x50 | codes & 1, first);
+            give(&mut maker, 0x50 | codes >> 1, second);
+            let calls = maker.calls;
+            cases.push(maker.finish_cut(calls - quadwords as u32));
+        }
+    }
+    for payload in [Payload::Direct, Payload::Directhl] {
+        for due in 1..=2 {
+            let unit = Unit {
+                waiting: Some(Waiting {
+                    payload,
+                    interrupt: random.percent(50),
+                    due,
+                }),
+                ..random_unit(random, Model::Vif1)
+            };
+            let mut case = plain_case(Model::Vif1, write_unit(&unit), 4, 0);
+            case.path = last_due();
+            let mut maker = Maker::new(case);
+            maker.run_out(random, due);
+            cases.push(maker.finish_in_groups(random));
+        }
+    }
+}
+
+/// A path with the last quadword due of a tag with EOP.
+fn last_due() -> PathBlock {
+    write_path(&Path {
+        q: 0,
+        place: Place::Data {
+            tag: Tag::decode(tag_quadword(7, 2, 1, 0) | EOP),
+            due: 1,
+        },
+    })
 }
 
 /// MSCAL, MSCALF and MSCNT with a log that has room for three more, and MSCNT again.
