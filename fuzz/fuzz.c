@@ -132,7 +132,7 @@ static void only_read(int which) {
 
 enum { ANSWERS = 128 };
 
-static uint64_t calls, answers[ANSWERS], built, longest_chain, longest_sheet, longest_run, completed;
+static uint64_t calls, answers[ANSWERS], built, longest_chain, longest_sheet, longest_run, completed, closed;
 
 /* Coverage that the fuzzer would not see: the archive is not instrumented, so what a call left is shown to it as counters. */
 enum { KINDS = 1 << 14 };
@@ -661,16 +661,21 @@ static void give_main(struct bytes *in, size_t bytes) {
 
 /* ---- The entry points ---- */
 
-static void count_run(uint32_t answer) {
-    if (NUMBERS(RESULT) == 0 || WORDS(BLOCK) != TEJBORUN_BLOCK_WORDS || answer == TEJBORUN_SHORT) return;
-    uint64_t steps;
-    memcpy(&steps, PROVED(RESULT), 8);
+/* The numbers of a result: the steps first, the packets closed last. */
+enum { RUN_RESULT = 2, BUILD_AND_RUN_RESULT = 3 };
+
+static void count_run(uint32_t answer, size_t numbers) {
+    if (NUMBERS(RESULT) < numbers || WORDS(BLOCK) != TEJBORUN_BLOCK_WORDS || answer == TEJBORUN_SHORT) return;
+    const uint64_t *result = PROVED(RESULT);
+    uint64_t steps = result[0], packets = result[numbers - 1];
     const struct tejborun_state *state = PROVED(BLOCK);
     const struct tejborun_chain *chain = &state->chain;
     const struct tejborun_unit *unit = chain->channel == 0 ? &state->vif0 : &state->vif1;
     const struct tejborun_path *path2 = &state->path2, *path3 = &state->path3;
     most(&longest_run, steps);
     completed += steps;
+    closed += packets;
+    show_kind(14, answer, magnitude(packets), chain->channel);
     show_kind(2, answer, magnitude(steps), unit->waiting);
     show_kind(3, answer, chain->channel * 8 + chain->tte * 4 + chain->depth, path2->place + 2 * path3->place);
     show_kind(4, unit->waiting, unit->format, unit->mode);
@@ -796,14 +801,14 @@ static void one_run(struct bytes *in) {
                                    PROVED(BLOCK), WORDS(BLOCK), allowance, PROVED(RESULT), NUMBERS(RESULT));
     agreed(proved, judged_run(m, allowance));
     only_read(MAIN);
-    count_run(proved);
+    count_run(proved, RUN_RESULT);
     keep_all();
 }
 
 /* Up to four runs, each on what the one before left; between them perhaps a start. */
 static void fuzz_run(struct bytes *in) {
     size_t bytes = main_bytes(in);
-    struct lengths n = lengths_of(bytes, log_numbers(in), 1);
+    struct lengths n = lengths_of(bytes, log_numbers(in), RUN_RESULT);
     spoil(in, &n);
     uint8_t calls_of[32];
     for (size_t i = 0; i < sizeof calls_of; i++) calls_of[i] = (uint8_t)take8(in);
@@ -825,7 +830,7 @@ static void fuzz_run(struct bytes *in) {
 
 static void fuzz_build_and_run(struct bytes *in) {
     size_t bytes = main_bytes(in);
-    struct lengths n = lengths_of(bytes, log_numbers(in), 2);
+    struct lengths n = lengths_of(bytes, log_numbers(in), BUILD_AND_RUN_RESULT);
     uint32_t roomy = take8(in), how = take8(in), quadword = take16(in);
     uint64_t allowance = how < 64 ? take16(in) : UINT64_MAX;
     uint32_t address = how < 240 ? 16 * (how % 2 == 0 ? 0 : quadword % 256) : take32(in);
@@ -844,7 +849,7 @@ static void fuzz_build_and_run(struct bytes *in) {
     agreed(proved, judge_build_and_run(JUDGED(SHEET), BYTES(SHEET), JUDGED(MAIN), BYTES(MAIN), address, JUDGED(DATA), WORDS(DATA), JUDGED(CODE), BYTES(CODE),
                                        JUDGED(LOG), NUMBERS(LOG), JUDGED(BLOCK), WORDS(BLOCK), allowance, JUDGED(RESULT), NUMBERS(RESULT)));
     only_read(SHEET);
-    count_run(proved);
+    count_run(proved, BUILD_AND_RUN_RESULT);
 }
 
 /* A change to a buffer, where it has the place. */
@@ -944,7 +949,7 @@ static void print_counters(void) {
         if (answers[i] > 0) fprintf(stderr, " %d: %" PRIu64 ",", i, answers[i]);
     if (built > 0) fprintf(stderr, " (0 is built) longest chain %" PRIu64 " bytes,", longest_chain);
     if (longest_sheet > 0) fprintf(stderr, " longest sheet %" PRIu64 " bytes,", longest_sheet);
-    if (completed > 0) fprintf(stderr, " steps completed %" PRIu64 ",", completed);
+    if (completed > 0) fprintf(stderr, " steps completed %" PRIu64 ", packets closed %" PRIu64 ",", completed, closed);
     if (*entries[ENTRY].longest) fprintf(stderr, " %s %" PRIu64 ",", entries[ENTRY].longest, longest_run);
     fprintf(stderr, " nothing differs\n");
 }

@@ -30,7 +30,7 @@ mod words;
 mod boards;
 
 use boards::Board;
-use chain::{Memories, State};
+use chain::{Memories, State, Stop};
 use model::Model;
 use state_block::{bit, chain_word, read_state, write_state, StateBlock, STATE_WORDS};
 use std::slice::{from_raw_parts, from_raw_parts_mut};
@@ -162,16 +162,15 @@ pub unsafe extern "C" fn judge_start(
     started.err().unwrap_or(0)
 }
 
-/// The answer and the steps completed.
-fn run(memories: &mut Memories, block: &mut StateBlock, allowance: u64) -> (u32, u64) {
+fn run(memories: &mut Memories, block: &mut StateBlock, allowance: u64) -> Stop {
     let Some(mut state) = read_state(block) else {
         let model = Model::of_channel(block[chain_word::CHANNEL]);
         let lengths = chain::check_lengths(model, memories, state_block::used(block));
-        return (lengths.err().unwrap_or(refusals::RANGE), 0);
+        return Stop::at_entry(lengths.err().unwrap_or(refusals::RANGE));
     };
-    let done = chain::run(&mut state, memories, allowance, |_, _, _| {});
+    let stop = chain::run(&mut state, memories, allowance, |_, _, _| {});
     *block = write_state(&state);
-    done
+    stop
 }
 
 #[no_mangle]
@@ -190,7 +189,7 @@ pub unsafe extern "C" fn judge_run(
     result: *mut u64,
     result_numbers: usize,
 ) -> u32 {
-    if result_numbers < 1 {
+    if result_numbers < 2 {
         return SHORT;
     }
     let Some(block) = lent_block(block, block_words) else {
@@ -202,9 +201,9 @@ pub unsafe extern "C" fn judge_run(
         code: lent(code, code_bytes),
         log: lent(log, log_numbers),
     };
-    let (answer, steps) = run(&mut memories, block, allowance);
-    lent(result, result_numbers)[0] = steps;
-    answer
+    let stop = run(&mut memories, block, allowance);
+    lent(result, result_numbers)[..2].copy_from_slice(&[stop.steps, stop.packets]);
+    stop.answer
 }
 
 /// Builds the chain in main memory and starts it in the block, or refuses; a refusal changes
@@ -244,7 +243,7 @@ pub unsafe extern "C" fn judge_build_and_run(
     result: *mut u64,
     result_numbers: usize,
 ) -> u32 {
-    if result_numbers < 2 {
+    if result_numbers < 3 {
         return SHORT;
     }
     let Some(block) = lent_block(block, block_words) else {
@@ -253,7 +252,7 @@ pub unsafe extern "C" fn judge_build_and_run(
     let main = lent(main, main_bytes);
     let (data, code) = (lent(data, data_words), lent(code, code_bytes));
     let log = lent(log, log_numbers);
-    let result = &mut lent(result, result_numbers)[..2];
+    let result = &mut lent(result, result_numbers)[..3];
     result.fill(0);
     let lengths = Memories {
         main,
@@ -279,9 +278,9 @@ pub unsafe extern "C" fn judge_build_and_run(
         code,
         log,
     };
-    let (answer, steps) = run(&mut memories, block, allowance);
-    result[0] = steps;
-    answer
+    let stop = run(&mut memories, block, allowance);
+    (result[0], result[2]) = (stop.steps, stop.packets);
+    stop.answer
 }
 
 #[no_mangle]
