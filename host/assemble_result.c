@@ -5,7 +5,6 @@
 
 #include "assemble.h"
 #include "assemble_board.h"
-#include "numbers.h"
 #include "shapes.h"
 
 /* What the lines have given so far. */
@@ -73,7 +72,7 @@ static int join_parts(const struct text *text, struct parts *parts, struct outpu
     if (!parts->has_head)
         return complain(text->name, "has no line 'result'");
     int status = finish_board_text(text, &parts->memory);
-    struct result result = {.parts = parts->head.parts, .answer = parts->head.answer, .steps = join_words(parts->head.steps), .board = parts->memory.board};
+    struct result result = result_of_head(&parts->head, parts->memory.board);
     result.board.count.of[PART_LOG] = parts->head.log_numbers;
     if (status == STATUS_DONE)
         status = board_fits(text->name, &result.board);

@@ -73,14 +73,14 @@ struct board {
 struct result {
     unsigned parts; /* those that it has; the others are zero */
     uint32_t answer;
-    uint64_t steps;
+    uint64_t steps, packets; /* completed, closed */
     struct board board;
     char sum[SUM_TEXT]; /* of the file that it was read from */
 };
 
 /* The head of a result file; the parts that it has follow. */
 struct result_head {
-    uint32_t mark, answer, steps[2];
+    uint32_t mark, answer, steps[2], packets[2];
     struct tejborun_state state;
     uint32_t log_numbers;
     uint32_t parts;
@@ -123,8 +123,9 @@ uint32_t compare_boards(const struct board *a, const struct board *b, unsigned p
 /* Whether a result file can keep a board of these lengths; complains if not. */
 int board_fits(const char *name, const struct board *board);
 
-/* The head of the file that keeps a result. */
+/* The head of the file that keeps a result, and the result that has a head and a board. */
 struct result_head result_head_of(const struct result *result);
+struct result result_of_head(const struct result_head *head, struct board board);
 
 /* The bytes of a result file; the caller frees them. */
 struct bytes result_bytes(const struct result *result);

@@ -22,6 +22,15 @@ void verdict_words(const struct rack *rack, const struct compared *compared, cha
         snprintf(words, VERDICT_TEXT, "%s%s in %s", text, comparison->verdict == VERDICT_DIFFERENT ? "; compared" : "", parts_words(comparison->parts));
 }
 
+void result_words(const struct result *result, char words[RESULT_TEXT])
+{
+    char packets[PACKETS_TEXT] = "";
+    if (result->packets > 0)
+        packets_words(result->packets, packets);
+    snprintf(words, RESULT_TEXT, "answer %" PRIu32 ", %s; %" PRIu64 " %s%s%s", result->answer, tejborun_message(result->answer), result->steps,
+             plural(result->steps, "step", "steps"), packets[0] != 0 ? "; " : "", packets);
+}
+
 /* Says which parts are lacking. */
 static void complain_of_parts(const struct words_given *given, const struct rack *rack, const struct compared *compared)
 {

@@ -35,6 +35,13 @@ void compare_rack(const struct words_given *given, show_compared *show, struct r
 enum { VERDICT_TEXT = 256 };
 void verdict_words(const struct rack *rack, const struct compared *compared, char words[VERDICT_TEXT]);
 
+/* A result's answer and steps in words, and the packets where it has some: a sheet's meaning and a board's own dumps have none, since nothing was run. */
+enum { RESULT_TEXT = 256 };
+void result_words(const struct result *result, char words[RESULT_TEXT]);
+
+/* Prints that as a line, after the name of the result's file. */
+void show_result(const char *name, const struct result *result);
+
 /* Each prints a board, and after the last one what is to be said of all. Statuses. */
 show_compared show_board, show_row, show_json;
 int show_summary(const struct rack *rack);

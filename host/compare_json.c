@@ -95,7 +95,8 @@ static void begin_json(const struct rack *rack)
 {
     printf("{\n  \"result\": {\"file\": ");
     print_json_text(stdout, rack->name);
-    printf(", \"answer\": %" PRIu32 ", \"steps\": %" PRIu64 "},\n  \"boards\": [\n", rack->result->answer, rack->result->steps);
+    printf(", \"answer\": %" PRIu32 ", \"steps\": %" PRIu64 ", \"packets\": %" PRIu64 "},\n  \"boards\": [\n", rack->result->answer, rack->result->steps,
+           rack->result->packets);
 }
 
 int show_json(void *context, const struct rack *rack, const struct compared *compared)

@@ -1,4 +1,4 @@
-/* A rack of boards beside a result: a row a board, and a summary. */
+/* A rack of boards beside a result: the result's run, a row a board, and a summary. */
 #include <inttypes.h>
 #include <stdio.h>
 
@@ -54,8 +54,10 @@ int show_row(void *context, const struct rack *rack, const struct compared *comp
 {
     (void)context;
     char verdict[VERDICT_TEXT];
-    if (rack->boards == 0)
+    if (rack->boards == 0) {
+        show_result(rack->name, rack->result);
         printf("%-*s  %-*s  %-*s  %s\n", rack->width, "board", VERDICT, "verdict", FIRST, "first difference", "how many");
+    }
     printf("%-*s  ", rack->width, compared->name);
     if (compared->board != NULL && compared->comparison.verdict == VERDICT_DIFFERENT) {
         print_different(rack, compared);

@@ -142,10 +142,11 @@ static void show_lengths(const struct pair *pair)
     print_entry(pair, longer, used[!longer]);
 }
 
-static void show_answer(const char *name, const struct result *result)
+void show_result(const char *name, const struct result *result)
 {
-    printf("%s: answer %" PRIu32 ", %s; %" PRIu64 " %s\n", name, result->answer, tejborun_message(result->answer), result->steps,
-           plural(result->steps, "step", "steps"));
+    char words[RESULT_TEXT];
+    result_words(result, words);
+    printf("%s: %s\n", name, words);
 }
 
 int show_board(void *context, const struct rack *rack, const struct compared *compared)
@@ -157,8 +158,8 @@ int show_board(void *context, const struct rack *rack, const struct compared *co
     const struct pair pair = {{rack->name, compared->name}, {&rack->result->board, &compared->board->board}};
     char verdict[VERDICT_TEXT];
     int status = STATUS_DONE;
-    show_answer(rack->name, rack->result);
-    show_answer(compared->name, compared->board);
+    show_result(rack->name, rack->result);
+    show_result(compared->name, compared->board);
     for (size_t i = 0; i < PARTS; i++)
         if (has_part(comparison, part_order[i]))
             status = worse(status, show_part(&pair, part_order[i], &comparison->found[part_order[i]], rack->all));

@@ -78,6 +78,6 @@ int dump_state(const char *name, const struct bytes *file)
     if (kind != NULL)
         return complain(name, "no state: it begins with the mark of a %s", kind);
     if (file->count == 4 * EARLIER_BLOCK_WORDS)
-        return complain_of_age(name, "state");
+        return complain_before_vif0(name, "state");
     return complain(name, "no state: %zu bytes; a state has %zu", file->count, sizeof state);
 }

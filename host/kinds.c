@@ -22,46 +22,58 @@ bool is_text(const struct bytes *file)
     return file->count > 0;
 }
 
-/* The marks of files from before VIF0. */
+#define WHAT_TO_DO "dump it with the version that wrote it, and assemble the text here"
+
+int complain_before_vif0(const char *name, const char *kind)
+{
+    return complain(name, "a %s from before VIF0: its state has %d words, here it has %u; " WHAT_TO_DO, kind, EARLIER_BLOCK_WORDS, TEJBORUN_BLOCK_WORDS);
+}
+
+static int complain_before_packets(const char *name, const char *kind)
+{
+    return complain(name, "a %s from before packets were counted: it has no number of packets closed; " WHAT_TO_DO, kind);
+}
+
+/* The marks of earlier layouts, and what is said of such a file. */
 static const struct earlier {
     char mark[5];
     const char *kind;
-} earlier[] = {{"TCAP", "capture"}, {"TCA2", "capture"}, {"TRES", "result"}, {"TRE2", "result"}};
+    int (*complain)(const char *name, const char *kind);
+} earlier[] = {
+    {"TCAP", "capture", complain_before_vif0}, {"TCA2", "capture", complain_before_vif0},   {"TRES", "result", complain_before_vif0},
+    {"TRE2", "result", complain_before_vif0},  {"TRE3", "result", complain_before_packets},
+};
 
-/* The kind of a file from before VIF0; null where it is none. */
-static const char *earlier_kind(const struct bytes *file)
+/* The earlier layout of a file; null where it has none. */
+static const struct earlier *earlier_layout(const struct bytes *file)
 {
     for (size_t i = 0; i < sizeof earlier / sizeof earlier[0]; i++)
         if (file->count >= 4 && memcmp(file->at, earlier[i].mark, 4) == 0)
-            return earlier[i].kind;
+            return &earlier[i];
     return NULL;
 }
 
 const char *kind_by_mark(const struct bytes *file)
 {
+    const struct earlier *before = earlier_layout(file);
     if (has_mark(file, capture_heads))
         return "capture";
     if (has_mark(file, result_heads))
         return "result";
     if (file->count >= 2 && file->at[0] == 0x9E && file->at[1] == 0x51)
         return "sheet";
-    return earlier_kind(file);
-}
-
-int complain_of_age(const char *name, const char *kind)
-{
-    return complain(name, "a %s from before VIF0: its state has %d words, here it has %u; dump it with the version that wrote it, and assemble the text here",
-                    kind, EARLIER_BLOCK_WORDS, TEJBORUN_BLOCK_WORDS);
+    return before != NULL ? before->kind : NULL;
 }
 
 int check_mark(const char *name, const struct bytes *file, const struct shape *heads)
 {
-    const char *kind = kind_by_mark(file), *before = earlier_kind(file);
+    const char *kind = kind_by_mark(file);
+    const struct earlier *before = earlier_layout(file);
     uint8_t mark[4];
     if (has_mark(file, heads))
         return STATUS_DONE;
-    if (before != NULL && strcmp(before, heads->name) == 0 && !is_text(file))
-        return complain_of_age(name, before);
+    if (before != NULL && strcmp(before->kind, heads->name) == 0 && !is_text(file))
+        return before->complain(name, before->kind);
     if (is_text(file))
         return complain(name, "no %s, but text; assemble it first: tejborun assemble %s %s -o FILE", heads->name, heads->name, name);
     put_word(mark, heads->fixed);

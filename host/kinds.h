@@ -11,16 +11,16 @@
 /* Whether a file is text: no byte but characters, blanks and line ends. */
 bool is_text(const struct bytes *file);
 
-/* The kind of a file by its mark, also by one from before VIF0; null where it has none. */
+/* The kind of a file by its mark, also by one of an earlier layout; null where it has none. */
 const char *kind_by_mark(const struct bytes *file);
 
-/* Complains where the file begins with the mark of none of the heads: says which mark it has, and what a file from before VIF0 is. A status. */
+/* Complains where the file begins with the mark of none of the heads: says which mark it has, and what a file of an earlier layout is. A status. */
 int check_mark(const char *name, const struct bytes *file, const struct shape *heads);
 
 /* The words of a state block before VIF0 had its part of it. */
 enum { EARLIER_BLOCK_WORDS = TEJBORUN_BLOCK_WORDS - TEJBORUN_UNIT_WORDS };
 
 /* Says that the file is from before VIF0, and what to do; hands back STATUS_BAD. */
-int complain_of_age(const char *name, const char *kind);
+int complain_before_vif0(const char *name, const char *kind);
 
 #endif

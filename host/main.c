@@ -26,14 +26,17 @@ static const struct command commands[] = {
      "Writes what the sheet says a board holds afterwards: its records fed to zero memories and an empty log.\n"},
     {"run", 1, 1, 0, TAKES(OPTION_OUTPUT) | TAKES(OPTION_ALLOWANCE) | TAKES(OPTION_FROM) | TAKES(OPTION_NO_START), false, command_run,
      "run CAPTURE [-o RESULT] [--allowance N] [--from RESULT] [--no-start]",
-     "Makes the calls of a capture and writes what the last one leaves, with the last run's answer and step count.\n"
+     "Makes the calls of a capture, prints the answer, the steps and the packets closed of each run, and writes what the last\n"
+     "call leaves, with these numbers of the last run. A packet is closed by the last data of a GIF tag with EOP, or by a GIF\n"
+     "tag with EOP and NLOOP 0.\n"
      "  --allowance N  the step allowance of each run, in place of the capture's\n"
      "  --from RESULT  begins with the state, memories and log of a result, in place of the capture's zeros; memories that it\n"
      "                 lacks and no run works on are lacking afterwards too\n"
      "  --no-start     leaves the capture's starts out: with --from a run goes on where it stopped\n"
      "A refused run is written too, with what its steps left, and so is one that Ctrl-C stops, as if its allowance were used.\n"},
     {"play", 1, 1, 0, TAKES(OPTION_OUTPUT), false, command_play, "play SHEET [-o RESULT]",
-     "Builds the chain of a test sheet at address 0 and runs it from reset on channel 1, over zero memories and an empty log.\n"},
+     "Builds the chain of a test sheet at address 0 and runs it from reset on channel 1, over zero memories and an empty log.\n"
+     "Prints the answer, the steps and the packets closed, as run does.\n"},
     {"compare", 2, SIZE_MAX, 0, TAKES(OPTION_ALL) | TAKES(OPTION_ONLY) | TAKES(OPTION_UNFINISHED) | TAKES(OPTION_QUIET) | TAKES(OPTION_JSON), false,
      command_compare, "compare RESULT BOARD.. [--only PARTS] [--all] [--unfinished] [--quiet] [--json]",
      "Compares the memories of VIF1 and VIF0 and the log of boards with those of a result, in the parts that both have. Of one\n"
@@ -43,19 +46,21 @@ static const struct command commands[] = {
      "  --unfinished  compares also where RESULT is of a run that did not end with done (0)\n"
      "  --quiet       prints no verdict: the exit status has it\n"
      "  --json        prints JSON\n"
-     "A verdict over some parts names them; equal alone is said of whole results. Answer and step count are shown and not\n"
-     "compared; registers are neither.\n"},
+     "A verdict over some parts names them; equal alone is said of whole results. Answer, step count and packets closed are\n"
+     "shown and not compared; a sheet's meaning and a board's own dumps have no packets. Registers are neither.\n"},
     {"report", 2, SIZE_MAX, 0, TAKES(OPTION_OUTPUT) | TAKES(OPTION_FROM) | TAKES(OPTION_ONLY) | TAKES(OPTION_UNFINISHED), true, command_report,
      "report RESULT BOARD.. -o PAGE [--from RESULT] [--only PARTS] [--unfinished]",
      "Writes the comparison of boards with a result as one HTML page, to be looked at, printed on A4 and kept: verdicts, files with\n"
-     "their SHA-256, the first differences, maps of the memories and a plot of board minus result.\n"
+     "their SHA-256, the answer, steps and packets closed of RESULT, the first differences, maps of the memories and a plot of\n"
+     "board minus result.\n"
      "  --from RESULT  the memories that the transfer began with, zeros otherwise; the maps show what it left as it was\n"
      "  --only PARTS   compares these alone, as compare does\n"
      "  --unfinished   compares also where RESULT is of a run that did not end with done (0)\n"},
     {"import", 0, 0, 0, TAKES(OPTION_OUTPUT) | PART_FILES, true, command_import,
      "import -o RESULT [--data FILE] [--code FILE] [--data0 FILE] [--code0 FILE] [--log FILE]",
      "Makes a result of a board's own dumps, any of the five: the bytes of VIF1's data and code memory (16,384 each), of VIF0's\n"
-     "(--data0, --code0; 4,096 each) and of the log, little-endian. The result says which parts it has.\n"},
+     "(--data0, --code0; 4,096 each) and of the log, little-endian. The result says which parts it has; its answer, steps and\n"
+     "packets closed are 0.\n"},
     {"export", 1, 1, 0, TAKES(OPTION_MAIN) | PART_FILES, false, command_export,
      "export FILE [--main FILE] [--data FILE] [--code FILE] [--data0 FILE] [--code0 FILE] [--log FILE]",
      "Writes the memories and the log of a result as such dumps; of a capture those that it begins with, and its main memory.\n"},

@@ -66,12 +66,10 @@ static void print_file(FILE *page, const char *name, const char *file, const str
     print_row(page, "its SHA-256", result->sum, "sum");
 }
 
-/* An answer and its steps. */
 static void print_answer(FILE *page, const struct result *result)
 {
-    char text[256];
-    snprintf(text, sizeof text, "answer %" PRIu32 ", %s; %" PRIu64 " %s", result->answer, tejborun_message(result->answer), result->steps,
-             plural(result->steps, "step", "steps"));
+    char text[RESULT_TEXT];
+    result_words(result, text);
     print_row(page, "its run", text, "answer");
 }
 

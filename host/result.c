@@ -44,8 +44,16 @@ struct result_head result_head_of(const struct result *result)
 {
     struct result_head head = {.mark = result_heads[0].fixed, .answer = result->answer, .state = result->board.state, .parts = result->parts};
     split_number(result->steps, head.steps);
+    split_number(result->packets, head.packets);
     head.log_numbers = (result->parts & PART_BIT(PART_LOG)) != 0 ? (uint32_t)result->board.count.of[PART_LOG] : 0;
     return head;
+}
+
+struct result result_of_head(const struct result_head *head, struct board board)
+{
+    return (struct result){
+        .parts = head->parts, .answer = head->answer, .steps = join_words(head->steps), .packets = join_words(head->packets), .board = board,
+    };
 }
 
 struct bytes result_bytes(const struct result *result)
@@ -107,7 +115,7 @@ int parse_result(const char *name, const struct bytes *file, struct result *resu
     for (size_t i = 0; i < PARTS; i++)
         if ((head.parts & PART_BIT(part_order[i])) != 0)
             at += get_part(at, &board, part_order[i], board.count.of[part_order[i]]);
-    *result = (struct result){.parts = head.parts, .answer = head.answer, .steps = join_words(head.steps), .board = board};
+    *result = result_of_head(&head, board);
     return STATUS_DONE;
 }
 

@@ -23,10 +23,18 @@ static int status_of(uint32_t answer)
     return answer == TEJBORUN_ALLOWANCE || answer == TEJBORUN_INTERRUPT ? STATUS_STOPPED : STATUS_REFUSED;
 }
 
-static void print_run(uint32_t answer, uint64_t steps)
+/* The steps and the packets of a run, to the line's end. */
+static void print_counts(const struct result *result)
 {
-    say("answer %" PRIu32 ", %s%s; %" PRIu64 " %s\n", answer, status_of(answer) == STATUS_REFUSED ? "refused: " : "", tejborun_message(answer), steps,
-        plural(steps, "step", "steps"));
+    char packets[PACKETS_TEXT];
+    packets_words(result->packets, packets);
+    say("%" PRIu64 " %s; %s\n", result->steps, plural(result->steps, "step", "steps"), packets);
+}
+
+static void print_run(const struct result *result)
+{
+    say("answer %" PRIu32 ", %s%s; ", result->answer, status_of(result->answer) == STATUS_REFUSED ? "refused: " : "", tejborun_message(result->answer));
+    print_counts(result);
 }
 
 static uint32_t make_start(size_t number, const uint32_t *words, struct board *board)
@@ -56,13 +64,14 @@ static void run_slices(uint64_t allowance, struct lent *lent, struct result *res
     enum vif vif = lent_vif(&board->state);
     const size_t *count = board->count.of;
     lent->memories[vif] = true;
-    result->steps = 0;
+    result->steps = result->packets = 0;
     show_progress(0);
     do {
-        uint64_t rest = allowance - result->steps, steps = 0;
+        uint64_t rest = allowance - result->steps, numbers[2] = {0};
         result->answer = tejborun_run(lent->main, lent->main_bytes, board->data[vif], count[data_of(vif)], board->code[vif], count[code_of(vif)], board->log,
-                                      count[PART_LOG], board_block(board), TEJBORUN_BLOCK_WORDS, rest < SLICE ? rest : SLICE, &steps, 1);
-        result->steps += steps;
+                                      count[PART_LOG], board_block(board), TEJBORUN_BLOCK_WORDS, rest < SLICE ? rest : SLICE, numbers, 2);
+        result->steps += numbers[0];
+        result->packets += numbers[1];
         show_progress(result->steps);
     } while (result->answer == TEJBORUN_ALLOWANCE && result->steps < allowance && !is_interrupted());
     end_progress();
@@ -75,10 +84,12 @@ static void make_run(size_t number, uint64_t allowance, struct lent *lent, struc
         say("call %zu, run without limit: ", number);
     else
         say("call %zu, run with allowance %" PRIu64 ": ", number, allowance);
-    if (is_interrupted() && result->answer == TEJBORUN_ALLOWANCE)
-        say("interrupted after %" PRIu64 " %s\n", result->steps, plural(result->steps, "step", "steps"));
-    else
-        print_run(result->answer, result->steps);
+    if (is_interrupted() && result->answer == TEJBORUN_ALLOWANCE) {
+        say("interrupted after ");
+        print_counts(result);
+    } else {
+        print_run(result);
+    }
     if (result->answer == TEJBORUN_BAD_VALUE)
         blame_state(&result->board.state);
 }
@@ -192,19 +203,20 @@ static int play_sheet(const struct words_given *given, const struct bytes *sheet
 {
     static const bool lent[VIFS] = {[VIF1] = true};
     struct board *board = &result->board;
-    uint64_t numbers[2] = {0};
+    uint64_t numbers[3] = {0};
     uint8_t *main = allocate(TEJBORUN_MAIN_BYTES, 1);
     tejborun_reset(board_block(board), TEJBORUN_BLOCK_WORDS);
     result->answer = tejborun_build_and_run(sheet->at, sheet->count, main, TEJBORUN_MAIN_BYTES, 0, board->data[VIF1], board->count.of[PART_DATA],
                                             board->code[VIF1], board->count.of[PART_CODE], board->log, board->count.of[PART_LOG], board_block(board),
-                                            TEJBORUN_BLOCK_WORDS, UINT64_MAX, numbers, 2);
+                                            TEJBORUN_BLOCK_WORDS, UINT64_MAX, numbers, 3);
     free(main);
     if (is_sheet_refusal(result->answer) && is_text(sheet))
         complain(given->word[0], "it is text; assemble it first: tejborun assemble sheet %s -o SHEET", given->word[0]);
     if (is_sheet_refusal(result->answer))
         return sheet_refused(given->word[0], result->answer, numbers[1]);
     result->steps = numbers[0];
-    print_run(result->answer, result->steps);
+    result->packets = numbers[2];
+    print_run(result);
     print_changes(before, board, lent);
     return worse(status_of(result->answer), keep_result(given, result));
 }

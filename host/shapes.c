@@ -163,7 +163,7 @@ const struct shape capture_heads[] = {
 #define RESULT(name, member) MEMBER(struct result_head, name, member, FIELD_SHOWN, NULL)
 
 /* The state block has lines of its own. */
-#define RESULT_FIELDS RESULT("answer", answer), RESULT("steps", steps), RESULT("log-numbers", log_numbers)
+#define RESULT_FIELDS RESULT("answer", answer), RESULT("steps", steps), RESULT("packets", packets), RESULT("log-numbers", log_numbers)
 
 /* The sets of parts by their sums: those of VIF1's memories and the log, alone and with VIF0's. */
 #define WITHOUT_VIF0(more) "data" more, "code" more, "data+code" more, "log" more, "data+log" more, "code+log" more, "data+code+log" more
@@ -175,7 +175,7 @@ static const struct names parts = {PARTS_ALL + 1, parts_texts};
 static const struct field result_head[] = {RESULT_FIELDS};
 static const struct field partial_result_head[] = {RESULT_FIELDS, MEMBER(struct result_head, "parts", parts, FIELD_SHOWN, &parts)};
 
-#define RESULT_MARK UINT32_C(0x33455254)
+#define RESULT_MARK UINT32_C(0x34455254)
 const struct shape result_heads[] = {
     {"result", RESULT_HEAD_WORDS, UINT32_MAX, RESULT_MARK, LIST(result_head)},
     {"result", RESULT_HEAD_WORDS, UINT32_MAX, RESULT_MARK, LIST(partial_result_head)},

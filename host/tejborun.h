@@ -125,13 +125,14 @@ uint32_t tejborun_reset(uint32_t *block, size_t block_words);
 uint32_t tejborun_start(uint32_t *block, size_t block_words, uint32_t channel, uint32_t tadr, uint32_t tte);
 
 /* Runs the chain for at most so many steps. It is lent the memories of the state's channel: VIF0's where the block's channel is 0, VIF1's where it is anything
- * else. Answers 0, 90, 91 or the refusal. result[0]: the steps completed. */
+ * else. Answers 0, 90, 91 or the refusal. result[0]: the steps completed; result[1]: the packets closed, by GIF quadwords among these steps: the last data
+ * quadword of a tag with EOP, or a tag with EOP and NLOOP 0. */
 uint32_t tejborun_run(const uint8_t *main, size_t main_bytes, uint32_t *data, size_t data_words, uint8_t *code, size_t code_bytes, uint64_t *log,
                       size_t log_numbers, uint32_t *block, size_t block_words, uint64_t allowance, uint64_t *result, size_t result_numbers);
 
 /* Builds a sheet's chain at an address in main memory, starts it on channel 1 and runs it; it is lent VIF1's memories, whatever channel the block holds.
  * Answers the run's answer, or, before any memory is changed, 1 to 5 or the builder's refusal. result[0]: the steps completed; result[1]: the offset of the
- * refused record, 0 where there is none. */
+ * refused record, 0 where there is none; result[2]: the packets closed, as of a run. */
 uint32_t tejborun_build_and_run(const uint8_t *sheet, size_t sheet_bytes, uint8_t *main, size_t main_bytes, uint32_t address, uint32_t *data,
                                 size_t data_words, uint8_t *code, size_t code_bytes, uint64_t *log, size_t log_numbers, uint32_t *block,
                                 size_t block_words, uint64_t allowance, uint64_t *result, size_t result_numbers);

@@ -103,14 +103,17 @@ struct lengths {
 
 enum { ENTRIES = 32 }; /* of a log */
 
+/* The numbers that are written: by a sheet's meaning, by a run, and by build and run, the most of a good result. */
+enum { MEANING_NUMBERS = 2, RUN_NUMBERS = 2, BUILD_AND_RUN_NUMBERS = 3 };
+
 static const struct lengths good = {
-    256, TEJBORUN_VIF1_DATA_WORDS, TEJBORUN_VIF1_CODE_BYTES, ENTRIES * TEJBORUN_ENTRY_NUMBERS, TEJBORUN_BLOCK_WORDS, 2, TEJBORUN_VIF0_DATA_WORDS,
-    TEJBORUN_VIF0_CODE_BYTES,
+    256, TEJBORUN_VIF1_DATA_WORDS, TEJBORUN_VIF1_CODE_BYTES, ENTRIES * TEJBORUN_ENTRY_NUMBERS, TEJBORUN_BLOCK_WORDS, BUILD_AND_RUN_NUMBERS,
+    TEJBORUN_VIF0_DATA_WORDS, TEJBORUN_VIF0_CODE_BYTES,
 };
 
 /* Those of a run on channel 0. */
 static const struct lengths good0 = {
-    256, TEJBORUN_VIF0_DATA_WORDS, TEJBORUN_VIF0_CODE_BYTES, ENTRIES * TEJBORUN_ENTRY_NUMBERS, TEJBORUN_BLOCK_WORDS, 2, 0, 0,
+    256, TEJBORUN_VIF0_DATA_WORDS, TEJBORUN_VIF0_CODE_BYTES, ENTRIES * TEJBORUN_ENTRY_NUMBERS, TEJBORUN_BLOCK_WORDS, BUILD_AND_RUN_NUMBERS, 0, 0,
 };
 
 /* A length that is refused, and the answer. */
@@ -184,6 +187,28 @@ static bool all_kept_outside(const struct bench *bench)
     return true;
 }
 
+/* Whether the result's numbers from one on are as they were. */
+static bool kept_from(const struct bench *bench, size_t number)
+{
+    const struct lent *result = &bench->lent[RESULT];
+    size_t at = (size_t)(result->at - result->map) + 8 * number, end = (size_t)(result->at - result->map) + result->bytes;
+    return at >= end || memcmp(result->before + at, result->map + at, end - at) == 0;
+}
+
+/* Whether a run completed so many steps and closed so many packets, and said no more. */
+static bool ran(const struct bench *bench, uint64_t steps, uint64_t packets)
+{
+    const uint64_t *result = numbers(&bench->lent[RESULT]);
+    return result[0] == steps && result[1] == packets && kept_from(bench, RUN_NUMBERS);
+}
+
+/* The same of build and run, with the offset of the refused record. */
+static bool built_and_ran(const struct bench *bench, uint64_t steps, uint64_t offset, uint64_t packets)
+{
+    const uint64_t *result = numbers(&bench->lent[RESULT]);
+    return result[0] == steps && result[1] == offset && result[2] == packets && kept_from(bench, BUILD_AND_RUN_NUMBERS);
+}
+
 static uint32_t call_meaning(struct bench *bench, uint64_t used)
 {
     struct lent *lent = bench->lent;
@@ -229,8 +254,8 @@ static const uint8_t sheet[] = {
     0x9E, 0x51, 3, 2, ADDRESS(0), 9, 0, 0, 0, 0, 0, 0, 0x80, 5, 0, 0, 0, 0, 0, 0, 0, 1, 0, 0, 0, 0, 0, 0, 0, 255, 0, 0, 0, 0, 0, 0, 0,
     0x9E, 0x51, 4, 0, ADDRESS(5),
 };
-/* One number for each record, and one for the end tag. */
-enum { SHEET_STEPS = 13 + 9 + 8 + 5 + 1, SHEET_CHAIN = 16 * (4 + 3 + 5 + 2 + 1), SHEET_ENTRIES = 3 };
+/* One number for each record, and one for the end tag; the GS record is a packet, which its last step closes. */
+enum { GS_END = 13 + 9 + 8, SHEET_STEPS = GS_END + 5 + 1, SHEET_CHAIN = 16 * (4 + 3 + 5 + 2 + 1), SHEET_ENTRIES = 3, SHEET_PACKETS = 1 };
 
 /* Whether the bench holds what the sheet means, its log entries from one on. */
 static bool holds_meaning(const struct bench *bench, size_t from)
@@ -363,9 +388,8 @@ static void try_meaning(const uint8_t *bytes, size_t count, struct lengths lengt
         CHECK(all_unchanged(&bench));
     else
         CHECK(all_kept_outside(&bench) && holds_meaning(&bench, used));
-    if (answer == TEJBORUN_SHORT)
-        CHECK(unchanged(&bench.lent[RESULT]));
-    else
+    CHECK(kept_from(&bench, answer == TEJBORUN_SHORT ? 0 : MEANING_NUMBERS));
+    if (answer != TEJBORUN_SHORT)
         CHECK(numbers(&bench.lent[RESULT])[0] == (answer == TEJBORUN_DONE ? used + SHEET_ENTRIES : used) && numbers(&bench.lent[RESULT])[1] == offset);
     free_bench(&bench);
 }
@@ -475,14 +499,15 @@ static void test_start(bool end)
 static void test_run(bool end)
 {
     struct bench bench;
-    struct lengths one = good;
-    one.result = 1;
-    new_bench(&bench, one, sheet, sizeof sheet, end);
+    struct lengths two = good;
+    two.result = RUN_NUMBERS;
+    new_bench(&bench, two, sheet, sizeof sheet, end);
     CHECK(tejborun_build(sheet, sizeof sheet, bench.lent[MAIN].at, bench.lengths.main) == SHEET_CHAIN);
     remember_all(&bench);
-    CHECK(call_run(&bench, 0) == TEJBORUN_ALLOWANCE && numbers(&bench.lent[RESULT])[0] == 0 && all_unchanged(&bench));
-    CHECK(call_run(&bench, SHEET_STEPS - 1) == TEJBORUN_ALLOWANCE && numbers(&bench.lent[RESULT])[0] == SHEET_STEPS - 1);
-    CHECK(call_run(&bench, UINT64_MAX) == TEJBORUN_DONE && numbers(&bench.lent[RESULT])[0] == 1);
+    CHECK(call_run(&bench, 0) == TEJBORUN_ALLOWANCE && ran(&bench, 0, 0) && all_unchanged(&bench));
+    CHECK(call_run(&bench, GS_END - 1) == TEJBORUN_ALLOWANCE && ran(&bench, GS_END - 1, 0));
+    CHECK(call_run(&bench, SHEET_STEPS - GS_END) == TEJBORUN_ALLOWANCE && ran(&bench, SHEET_STEPS - GS_END, SHEET_PACKETS));
+    CHECK(call_run(&bench, UINT64_MAX) == TEJBORUN_DONE && ran(&bench, 1, 0));
     CHECK(unchanged(&bench.lent[MAIN]) && all_kept_outside(&bench) && holds_meaning(&bench, 0));
     const struct tejborun_chain *chain = &state(&bench.lent[BLOCK])->chain;
     CHECK(chain->used[0] == SHEET_ENTRIES && chain->used[1] == 0 && chain->ended == 1);
@@ -520,7 +545,7 @@ static void test_stops(bool end)
         new_bench(&bench, small, NULL, 0, end);
         memcpy(bench.lent[MAIN].at, stops[i].words, 32);
         remember_all(&bench);
-        CHECK(call_run(&bench, UINT64_MAX) == stops[i].answer && numbers(&bench.lent[RESULT])[0] == stops[i].steps);
+        CHECK(call_run(&bench, UINT64_MAX) == stops[i].answer && ran(&bench, stops[i].steps, 0));
         CHECK(unchanged(&bench.lent[DATA]) && unchanged(&bench.lent[CODE]) && unchanged(&bench.lent[LOG]) && all_kept_outside(&bench));
         free_bench(&bench);
     }
@@ -563,7 +588,7 @@ static void test_vif0_run(bool end)
     remember_all(&bench);
     CHECK(tejborun_start(words(&bench.lent[BLOCK]), TEJBORUN_BLOCK_WORDS, 0, 0, 0) == TEJBORUN_DONE);
     CHECK(call_run(&bench, VIF0_STEPS - 1) == TEJBORUN_ALLOWANCE && call_run(&bench, UINT64_MAX) == TEJBORUN_DONE);
-    CHECK(numbers(&bench.lent[RESULT])[0] == 1 && unchanged(&bench.lent[MAIN]) && all_kept_outside(&bench) && holds_vif0(&bench));
+    CHECK(ran(&bench, 1, 0) && unchanged(&bench.lent[MAIN]) && all_kept_outside(&bench) && holds_vif0(&bench));
     CHECK(held->chain.channel == 0 && held->chain.used[0] == 2 && held->chain.ended == 1);
     CHECK(memcmp(&held->vif0, &expected, sizeof expected) == 0 && memcmp(&held->vif1, &kept, sizeof kept) == 0);
     free_bench(&bench);
@@ -589,7 +614,7 @@ static void test_vif0_stops(bool end)
         memcpy(bench.lent[MAIN].at, chain, sizeof chain);
         words(&bench.lent[BLOCK])[WORD(chain.channel)] = 0;
         remember_all(&bench);
-        CHECK(call_run(&bench, UINT64_MAX) == stops[i].answer && numbers(&bench.lent[RESULT])[0] == 2);
+        CHECK(call_run(&bench, UINT64_MAX) == stops[i].answer && ran(&bench, 2, 0));
         CHECK(unchanged(&bench.lent[DATA]) && unchanged(&bench.lent[CODE]) && unchanged(&bench.lent[LOG]) && all_kept_outside(&bench));
         free_bench(&bench);
     }
@@ -618,8 +643,91 @@ static void test_gif_stops(bool end)
         remember_all(&bench);
         CHECK(tejborun_start(words(&bench.lent[BLOCK]), TEJBORUN_BLOCK_WORDS, 2, 0, 0) == TEJBORUN_DONE);
         CHECK(call_run(&bench, UINT64_MAX) == stops[i].answer && all_kept_outside(&bench));
-        CHECK(numbers(&bench.lent[RESULT])[0] == (stops[i].answer == TEJBORUN_DONE ? 3 : 2));
+        CHECK(stops[i].answer == TEJBORUN_DONE ? ran(&bench, 3, 1) : ran(&bench, 2, 0));
         CHECK(stops[i].answer == TEJBORUN_DONE || unchanged(&bench.lent[LOG]));
+        free_bench(&bench);
+    }
+}
+
+/* GIF quadwords, and whether each closes a packet. */
+static const struct {
+    uint32_t words[4];
+    bool closes;
+} gif[] = {
+    {{0x8000, 0, 0, 0}, true},                                                                                /* EOP and NLOOP 0 */
+    {{0, 0, 0, 0}, false},                                                                                    /* NLOOP 0 alone */
+    {{0x8001, 0x10000000, 0xE, 0}, false}, {{1, 0, 5, 0}, true},                                              /* PACKED */
+    {{0x8001, 0x20000000, 0xFF, 0}, false}, {{1, 2, 3, 4}, false}, {{1, 2, 3, 4}, true},                      /* PACKED, nothing written */
+    {{0x8001, 0x34000000, 0x555, 0}, false}, {{1, 2, 3, 4}, false}, {{1, 2, 3, 4}, true},                     /* REGLIST, the last half dropped */
+    {{0x8001, 0x24000000, 0x55, 0}, false}, {{1, 2, 3, 4}, true},                                             /* REGLIST, both halves */
+    {{0x8003, 0x08000000, 0, 0}, false}, {{1, 2, 3, 4}, false}, {{1, 2, 3, 4}, false}, {{1, 2, 3, 4}, true},  /* IMAGE */
+    {{0x8001, 0x0C000000, 0, 0}, false}, {{1, 2, 3, 4}, true},                                                /* IMAGE by FLG 3 */
+    {{1, 0x10000000, 0xE, 0}, false}, {{0x8000, 0, 5, 0}, false},                                             /* PACKED without EOP */
+    {{0x8000, 0, 0, 0}, true},
+};
+enum { GIF_QUADWORDS = sizeof gif / sizeof gif[0], GIF_PACKETS = 8 };
+
+/* How many of the first quadwords close a packet. */
+static uint64_t closed_by(uint64_t quadwords)
+{
+    uint64_t closed = 0;
+    for (size_t i = 0; i < quadwords; i++)
+        closed += gif[i].closes;
+    return closed;
+}
+
+/* These quadwords on a channel, on 1 by DIRECT, with every allowance; a second run goes on: each counts what its own steps close. */
+static void try_packets(uint32_t channel, bool end)
+{
+    const uint64_t first = channel == 2 ? 1 : 5, all = first + GIF_QUADWORDS;
+    const uint32_t head[2][4] = {{0x70000000 | (GIF_QUADWORDS + (channel == 1))}, {0, 0, 0, 0x50000000 | GIF_QUADWORDS}};
+    const size_t heads = channel == 2 ? 1 : 2;
+    struct lengths lengths = good;
+    lengths.main = 16 * (heads + GIF_QUADWORDS);
+    for (uint64_t allowance = 0; allowance <= all; allowance++) {
+        uint64_t closed = closed_by(allowance < first ? 0 : allowance - first);
+        struct bench bench;
+        new_bench(&bench, lengths, NULL, 0, end);
+        memcpy(bench.lent[MAIN].at, head, 16 * heads);
+        for (size_t i = 0; i < GIF_QUADWORDS; i++)
+            memcpy(bench.lent[MAIN].at + 16 * (heads + i), gif[i].words, 16);
+        remember_all(&bench);
+        CHECK(tejborun_start(words(&bench.lent[BLOCK]), TEJBORUN_BLOCK_WORDS, channel, 0, 0) == TEJBORUN_DONE);
+        CHECK(call_run(&bench, allowance) == (allowance < all ? TEJBORUN_ALLOWANCE : TEJBORUN_DONE) && ran(&bench, allowance, closed));
+        CHECK(call_run(&bench, UINT64_MAX) == TEJBORUN_DONE && ran(&bench, all - allowance, GIF_PACKETS - closed) && all_kept_outside(&bench));
+        free_bench(&bench);
+    }
+}
+
+/* Runs that stop by DIRECT: at a mark with the quadword that closes a packet, and refused after one, by a quadword that would close the next. */
+static void test_packets(bool end)
+{
+    static const struct {
+        uint32_t direct, tag[4];
+        size_t log;
+        uint32_t answer;
+        uint64_t steps;
+    } stops[] = {
+        {0xD0000001, {0x8001, 0x10000000, 0xE, 0}, TEJBORUN_ENTRY_NUMBERS, TEJBORUN_INTERRUPT, 6},
+        {0x50000003, {0x8001, 0x10000000, 0xB, 0}, TEJBORUN_ENTRY_NUMBERS, TEJBORUN_BAD_DESCRIPTOR, 7},
+        {0x50000003, {0x8001, 0x10000000, 0xE, 0}, 0, TEJBORUN_LOG_FULL, 7},
+        {0x50000003, {0x8001, 0x08000000, 0, 0}, TEJBORUN_ENTRY_NUMBERS, TEJBORUN_LOG_FULL, 7},
+    };
+    CHECK(closed_by(GIF_QUADWORDS) == GIF_PACKETS);
+    try_packets(1, end);
+    try_packets(2, end);
+    for (size_t i = 0; i < sizeof stops / sizeof stops[0]; i++) {
+        const uint32_t chain[5][4] = {{0x70000004}, {0, 0, 0, stops[i].direct}, {0x8000}};
+        struct lengths small = good;
+        struct bench bench;
+        small.main = sizeof chain;
+        small.log = stops[i].log;
+        new_bench(&bench, small, NULL, 0, end);
+        memcpy(bench.lent[MAIN].at, chain, sizeof chain);
+        memcpy(bench.lent[MAIN].at + 16 * 3, stops[i].tag, 16);
+        remember_all(&bench);
+        CHECK(call_run(&bench, UINT64_MAX) == stops[i].answer && ran(&bench, stops[i].steps, 1));
+        CHECK(unchanged(&bench.lent[LOG]) && all_kept_outside(&bench));
         free_bench(&bench);
     }
 }
@@ -629,13 +737,13 @@ static void run_state(struct tejborun_state *state, const uint32_t *chain, size_
 {
     static uint32_t data[TEJBORUN_VIF1_DATA_WORDS];
     static uint8_t code[TEJBORUN_VIF1_CODE_BYTES];
-    uint64_t log[ENTRIES * TEJBORUN_ENTRY_NUMBERS] = {0}, completed;
+    uint64_t log[ENTRIES * TEJBORUN_ENTRY_NUMBERS] = {0}, result[RUN_NUMBERS];
     uint32_t *block = (uint32_t *)state;
     CHECK(tejborun_start(block, TEJBORUN_BLOCK_WORDS, start[0], start[1], start[2]) == TEJBORUN_DONE);
     const struct lengths *lengths = start[0] == 0 ? &good0 : &good;
     CHECK(tejborun_run((const uint8_t *)chain, 4 * count, data, lengths->data, code, lengths->code, log, ENTRIES * TEJBORUN_ENTRY_NUMBERS, block,
-                       TEJBORUN_BLOCK_WORDS, steps, &completed, 1) == TEJBORUN_ALLOWANCE);
-    CHECK(completed == steps);
+                       TEJBORUN_BLOCK_WORDS, steps, result, RUN_NUMBERS) == TEJBORUN_ALLOWANCE);
+    CHECK(result[0] == steps && result[1] == 0);
 }
 
 /* Two calls and codes that give every register of VIF1 a value of its own: each is in its word of the block. */
@@ -736,6 +844,7 @@ static const struct wrong wrong_entry[] = {
     {LENGTH(block), TEJBORUN_BLOCK_WORDS + 1, TEJBORUN_SHORT},
     {LENGTH(block), 0, TEJBORUN_SHORT},
     {LENGTH(result), 0, TEJBORUN_SHORT},
+    {LENGTH(result), 1, TEJBORUN_SHORT},
 };
 enum { WRONG_ENTRY = sizeof wrong_entry / sizeof wrong_entry[0] };
 
@@ -747,9 +856,31 @@ static void test_wrong_entry(bool end)
         if (bench.lengths.block > WORD(chain.used))
             words(&bench.lent[BLOCK])[WORD(chain.used)] = 2;
         remember_all(&bench);
-        CHECK(call_run(&bench, UINT64_MAX) == wrong_entry[i].answer && all_unchanged(&bench));
-        CHECK(call_build_and_run(&bench, 0, UINT64_MAX) == wrong_entry[i].answer && all_unchanged(&bench));
-        CHECK(wrong_entry[i].answer != TEJBORUN_SHORT || unchanged(&bench.lent[RESULT]));
+        bool is_short = wrong_entry[i].answer == TEJBORUN_SHORT;
+        CHECK(call_run(&bench, UINT64_MAX) == wrong_entry[i].answer && all_unchanged(&bench) && (is_short || ran(&bench, 0, 0)));
+        CHECK(call_build_and_run(&bench, 0, UINT64_MAX) == wrong_entry[i].answer && all_unchanged(&bench) && (is_short || built_and_ran(&bench, 0, 0, 0)));
+        CHECK(!is_short || unchanged(&bench.lent[RESULT]));
+        free_bench(&bench);
+    }
+}
+
+/* Results of fewer numbers than stated: nothing is changed, whatever else is wrong; with as many the call is made. */
+static void test_short_results(bool end)
+{
+    for (size_t i = 0; i < 2 * (BUILD_AND_RUN_NUMBERS + 1); i++) {
+        struct bench bench;
+        struct lengths lengths = good;
+        lengths.result = i / 2;
+        lengths.main = i % 2 == 0 ? good.main : good.main - 1;
+        uint32_t made = i % 2 == 0 ? TEJBORUN_ALLOWANCE : TEJBORUN_BAD_MAIN;
+        new_bench(&bench, lengths, sheet, sizeof sheet, end);
+        remember_all(&bench);
+        CHECK(call_run(&bench, 0) == (lengths.result < RUN_NUMBERS ? TEJBORUN_SHORT : made));
+        CHECK(all_unchanged(&bench) && (lengths.result < RUN_NUMBERS ? unchanged(&bench.lent[RESULT]) : ran(&bench, 0, 0)));
+        remember(&bench.lent[RESULT]);
+        bool is_short = lengths.result < BUILD_AND_RUN_NUMBERS;
+        CHECK(call_build_and_run(&bench, 0, 0) == (is_short ? TEJBORUN_SHORT : made) && all_kept_outside(&bench));
+        CHECK(is_short ? all_unchanged(&bench) && unchanged(&bench.lent[RESULT]) : built_and_ran(&bench, 0, 0, 0));
         free_bench(&bench);
     }
 }
@@ -823,7 +954,7 @@ static void test_wrong_state(bool end)
         words(&bench.lent[BLOCK])[states[i].word] = states[i].value;
         remember_all(&bench);
         uint32_t answer = call_run(&bench, UINT64_MAX);
-        CHECK(states[i].answer == TEJBORUN_DONE || (answer == states[i].answer && all_unchanged(&bench) && numbers(&bench.lent[RESULT])[0] == 0));
+        CHECK(states[i].answer == TEJBORUN_DONE || (answer == states[i].answer && all_unchanged(&bench) && ran(&bench, 0, 0)));
         CHECK(all_kept_outside(&bench));
         free_bench(&bench);
     }
@@ -836,11 +967,21 @@ static void try_build_and_run(const uint8_t *bytes, size_t count, uint32_t addre
     state(&bench.lent[BLOCK])->chain.used[0] = 2;
     remember_all(&bench);
     CHECK(call_build_and_run(&bench, address, UINT64_MAX) == answer && all_kept_outside(&bench));
-    const uint64_t *result = numbers(&bench.lent[RESULT]);
+    CHECK(answer == TEJBORUN_DONE ? built_and_ran(&bench, SHEET_STEPS, 0, SHEET_PACKETS) : built_and_ran(&bench, 0, offset, 0));
     if (answer == TEJBORUN_DONE)
-        CHECK(holds_meaning(&bench, 2) && result[0] == SHEET_STEPS && result[1] == 0 && state(&bench.lent[BLOCK])->chain.used[0] == 2 + SHEET_ENTRIES);
+        CHECK(holds_meaning(&bench, 2) && state(&bench.lent[BLOCK])->chain.used[0] == 2 + SHEET_ENTRIES);
     else
-        CHECK(all_unchanged(&bench) && result[0] == 0 && result[1] == offset);
+        CHECK(all_unchanged(&bench));
+    free_bench(&bench);
+}
+
+/* Built and run for so many steps, less than all. */
+static void try_build_and_stop(uint64_t steps, uint64_t packets, bool end)
+{
+    struct bench bench;
+    new_bench(&bench, good, sheet, sizeof sheet, end);
+    remember_all(&bench);
+    CHECK(call_build_and_run(&bench, 0, steps) == TEJBORUN_ALLOWANCE && built_and_ran(&bench, steps, 0, packets) && all_kept_outside(&bench));
     free_bench(&bench);
 }
 
@@ -855,6 +996,8 @@ static void test_build_and_run(bool end)
     try_build_and_run(sheet, sizeof sheet, UINT32_C(0x80000000), TEJBORUN_BAD_VALUE, 0, end);
     for (size_t i = 0; i < REFUSED; i++)
         try_build_and_run(refused[i].bytes, refused[i].count, 0, refused[i].refusal, refused[i].offset, end);
+    try_build_and_stop(GS_END - 1, 0, end);
+    try_build_and_stop(GS_END, SHEET_PACKETS, end);
 }
 
 /* Two boards that are compared, by their parts in the library's order, and the result. */
@@ -1087,7 +1230,9 @@ int main(void)
         test_vif0_run(end);
         test_vif0_stops(end);
         test_gif_stops(end);
+        test_packets(end);
         test_wrong_entry(end);
+        test_short_results(end);
         test_lengths_by_channel(end);
         test_wrong_state(end);
         test_build_and_run(end);
@@ -1102,6 +1247,7 @@ int main(void)
     test_used();
     test_sums();
     puts("C interface: every function with good, short and wrong buffers, guard pages behind and before them: as the header says");
+    puts("packets: each way to close one, on both paths, with every allowance; at a mark and before a refusal");
     puts("state block: every word under its name");
     return 0;
 }

@@ -73,15 +73,16 @@ word() {
 }
 
 # The layout of files, from what the command itself writes: the bytes of a state block, the lengths of the memories and of the longest log, and the numbers of
-# a log entry. The head of a capture before the state block has 56 bytes, that of a test case and of a sheet case 48; a result has 16 before and 8 behind it.
+# a log entry. The head of a capture before the state block has 56 bytes, that of a test case and of a sheet case 48; a result has 24 before and 8 behind it. What a
+# run says before its state block, in a result of replay's and behind the mark of a result file, has 20: answer, steps, packets.
 layout() {
     echo 'state channel=1' > reset.txt
     echo capture > empty.txt
     expect 0 assemble state reset.txt -o reset.state
     expect 0 assemble capture empty.txt -o empty.capture
     block_bytes=$(($(wc -c < reset.state)))
-    head_bytes=56 case_head=48
-    calls_at=$((head_bytes + block_bytes)) case_calls_at=$((case_head + block_bytes)) sheet_at=$((48 + block_bytes)) result_head=$((16 + block_bytes + 8))
+    head_bytes=56 case_head=48 run_head=20
+    calls_at=$((head_bytes + block_bytes)) case_calls_at=$((case_head + block_bytes)) sheet_at=$((48 + block_bytes)) result_head=$((4 + run_head + block_bytes + 8))
     set -- $(words empty.capture 12 5)
     data_words=$1 code_bytes=$2 data0_words=$3 code0_bytes=$4 log_numbers=$5
     memory_bytes=$((4 * data_words + code_bytes)) quadwords=$((data_words / 4)) instructions=$((code_bytes / 8))
@@ -283,8 +284,11 @@ one_sheet() {
         same chain wanted "the chain of $1"
     fi
     round sheet "$1"
+    records=$(grep -c '^gs' round.txt)
     round chain chain
     expect 0 play "$1" -o played
+    says out "; $(packets_words "$records")"
+    in_sheets=$((in_sheets + records))
     expect 0 meaning "$1" -o meant
     expect 0 compare meant played
     says out 'equal'
@@ -295,7 +299,7 @@ generated_sheets() {
     "$second" generate-sheet 1 200 > sheets || fail 'generate-sheet'
     size=$(wc -c < sheets)
     step=$(((every + 4) / 5))
-    at=0 number=0 tried=0
+    at=0 number=0 tried=0 in_sheets=0
     while test $at -lt "$size"; do
         length=$(words sheets $((at + 4)) 1)
         whole=$((sheet_at + (length + 3) / 4 * 4))
@@ -308,7 +312,8 @@ generated_sheets() {
         fi
         at=$((at + whole)) number=$((number + 1))
     done
-    echo "generated sheets: $tried of $number built as the second program builds them, to text and back, played as they are meant"
+    test $in_sheets -gt 0 || fail 'no GS record in the sheets'
+    echo "generated sheets: $tried of $number built as the second program builds them, to text and back, played as they are meant; $in_sheets packets, one for each GS record"
 }
 
 # replayed: reads the results of the case for its calls; sets where the last state block, the last run, each unit's memories and the log are, the exit status
@@ -329,8 +334,8 @@ replayed() {
             block=$((at + 4))
             at=$((at + 4 + block_bytes))
         else
-            run=$at last=$answer block=$((at + 12))
-            replayed_memories $((at + 12 + block_bytes))
+            run=$at last=$answer block=$((at + run_head))
+            replayed_memories $((at + run_head + block_bytes))
             at=$((log_at + 8 * log))
         fi
         channel=$(($(words results "$block" 1)))
@@ -365,8 +370,8 @@ wanted_memories() {
 
 # wanted_result FILE OFFSET: what the run of the case has to leave, from the results, with the state block of a file.
 wanted_result() {
-    printf 'TRE3'
-    if test "$run" = none; then printf '\0\0\0\0\0\0\0\0\0\0\0\0'; else slice results "$run" 12; fi
+    printf 'TRE4'
+    if test "$run" = none; then head -c "$run_head" /dev/zero; else slice results "$run" "$run_head"; fi
     slice "$1" "$2" "$block_bytes"
     slice case 20 4
     printf '\37\0\0\0'
@@ -403,15 +408,29 @@ one_capture() {
     # A refusal changes no buffer: then the words that mean nothing may stand as they were given, where replay writes zero.
     if test $idle = 1 && ! cmp -s part wanted; then wanted_result case "$case_head" > wanted; fi
     same part wanted "capture $number"
-    if test $run != none; then says said "answer $(($(words results $run 1))), "; fi
+    if test $run != none; then said_of_run; fi
     case $memories0 in none) ;; *) on_vif0=$((on_vif0 + 1)) ;; esac
     round result result
+}
+
+# packets_words NUMBER: so many packets as they are printed.
+packets_words() {
+    case $1 in 0) echo 'no packet closed' ;; 1) echo '1 packet closed' ;; *) echo "$1 packets closed" ;; esac
+}
+
+# The last run in said: replay's answer, steps and packets.
+said_of_run() {
+    set -- $(words results "$run" 5)
+    grep '^call .*, run ' said | tail -n 1 > last.said
+    says last.said ": answer $1, "
+    grep -q "; $(($2 + ($3 << 32))) steps*; $(packets_words $(($4 + ($5 << 32))))\$" last.said || fail "the last run of capture $number: $(cat last.said)"
+    if test "$4" != 0; then with_packets=$((with_packets + 1)); fi
 }
 
 generated_captures() {
     "$second" generate-capture 2 100 > captures || fail 'generate-capture'
     size=$(wc -c < captures)
-    at_case=0 number=0 tried=0 on_vif0=0
+    at_case=0 number=0 tried=0 on_vif0=0 with_packets=0
     while test $at_case -lt "$size"; do
         set -- $(words captures $((at_case + 8)) 8)
         length=$((case_calls_at + 16 * $8 + 4 * $1))
@@ -422,7 +441,8 @@ generated_captures() {
         fi
         at_case=$((at_case + length)) number=$((number + 1))
     done
-    echo "generated captures: $tried of $number to text and back (capture, state, main memory, result), run as replay runs them; $on_vif0 with a run on VIF0"
+    echo "generated captures: $tried of $number to text and back (capture, state, main memory, result), run as replay runs them; $on_vif0 with a run on VIF0," \
+        "$with_packets with packets closed by the last run"
 }
 
 examples() {
@@ -433,8 +453,10 @@ examples() {
         round "$kind" "$name"
     done
     expect 0 run difference.capture -o difference.result
-    says out 'answer 0, done; 1042 steps'
+    says out 'answer 0, done; 1042 steps; no packet closed'
     says out '256 quadwords changed, first 0, last 255'
+    expect 0 play all-kinds.sheet
+    says out 'answer 0, done; 66 steps; 1 packet closed'
     expect 3 run difference.capture -o some.result --allowance 100
     says out 'answer 90, the step allowance is used; 100 steps'
     expect 3 run difference.capture -o none.result --allowance 0x0
@@ -452,7 +474,7 @@ examples() {
     expect 1 run refused.capture -o refused.result
     says out 'answer 23, refused: STMOD with mode 3; 2 steps'
     expect 0 dump refused.result
-    says out 'result answer=23 steps=2'
+    says out 'result answer=23 steps=2 packets=0 '
     sh "$here/../examples/demo.sh" "$command" demo > out 2> err || fail "the demonstration: $(cat err)"
     says out '-1 count'
     echo "examples: assembled, run with allowances, an interrupt mark and a refusal; the demonstration"
@@ -603,18 +625,29 @@ damaged_files() {
     echo "damaged files: cut, longer, without mark, beyond each limit; outputs that cannot be written"
 }
 
-# earlier KIND MARK BYTES COMMAND..: a file of so many bytes with a mark from before VIF0 is told to be one.
+# earlier KIND MARK BYTES WHICH COMMAND..: a file of so many bytes with a mark of an earlier layout is told to be one.
 earlier() {
-    kind=$1 mark=$2 bytes=$3
-    shift 3
+    kind=$1 mark=$2 bytes=$3 which=$4
+    shift 4
     { printf '%s' "$mark"; head -c $((bytes - 4)) /dev/zero; } > broken
     for words in "dump broken" "dump $kind broken" "$*"; do
         # shellcheck disable=SC2086
         expect 2 $words
-        says err "broken: a $kind from before VIF0: its state has 63 words, here it has 95; dump it with the version that wrote it, and assemble the text here"
+        says err "broken: a $kind from before $which; dump it with the version that wrote it, and assemble the text here"
         if grep -q damaged err; then fail 'said to be damaged'; fi
     done
     absent broken.out
+}
+
+# A result as it was written before packets were counted, two words shorter; its text without packets makes the result of today.
+earlier_of_run() {
+    { printf 'TRE3'; slice difference.result 4 12; tail -c +25 difference.result; } > broken
+    expect 2 compare difference.result broken
+    says err "broken: a result from before $before_packets; "
+    "$command" dump difference.result | sed 's/ packets=0//' > earlier.txt
+    if grep packets earlier.txt; then fail 'packets in the text'; fi
+    expect 0 assemble result earlier.txt -o earlier.result
+    same earlier.result difference.result
 }
 
 # another_kind FILE KIND COMMAND..: the file is told by its mark to be of a kind.
@@ -627,10 +660,16 @@ another_kind() {
 }
 
 other_layouts() {
-    earlier capture TCAP 292 run broken -o broken.out
-    earlier capture TCA2 292 export broken --main broken.out
-    earlier result TRES $((272 + 2 * 16384)) compare difference.result broken
-    earlier result TRE2 $((276 + 16384)) run difference.capture --from broken -o broken.out
+    before_vif0='VIF0: its state has 63 words, here it has 95'
+    before_packets='packets were counted: it has no number of packets closed'
+    earlier capture TCAP 292 "$before_vif0" run broken -o broken.out
+    earlier capture TCA2 292 "$before_vif0" export broken --main broken.out
+    earlier result TRES $((272 + 2 * 16384)) "$before_vif0" compare difference.result broken
+    earlier result TRE2 $((276 + 16384)) "$before_vif0" run difference.capture --from broken -o broken.out
+    earlier result TRE3 $((404 + 16384)) "$before_packets" compare difference.result broken
+    earlier result TRE3 404 "$before_packets" report difference.result broken -o page.html
+    earlier result TRE3 8 "$before_packets" export broken --data broken.out
+    earlier_of_run
     head -c 252 /dev/zero > broken
     expect 2 dump state broken
     says err 'broken: a state from before VIF0: its state has 63 words'
@@ -648,7 +687,7 @@ other_layouts() {
     says err 'no state: '
     says err 'it begins with the mark of a capture'
     absent broken.out
-    echo "other layouts: files from before VIF0, a log of no whole entries, another kind of file: each named"
+    echo "other layouts: files from before VIF0 and from before packets were counted, a log of no whole entries, another kind of file: each named"
 }
 
 # bad_text KIND LINE MESSAGE TEXT: the text is not assembled; the message names the line.
@@ -1021,7 +1060,7 @@ well_formed() {
 
 # A rack: an equal board, a different one, one with a shorter log, one that is refused, one that is no result, one that is not there.
 boards() {
-    result_of expected 'result steps=6\nquadword 0 1 2 3 4\nquadword 9 1 2 3 4\ninstruction 5 7\nentry 0 MSCAL 5\nentry 1 PRIM 6\n'
+    result_of expected 'result steps=6 packets=3\nquadword 0 1 2 3 4\nquadword 9 1 2 3 4\ninstruction 5 7\nentry 0 MSCAL 5\nentry 1 PRIM 6\n'
     cp expected good
     result_of low 'result\nquadword 0 1 2 3 4\nquadword 9 0 2 3 4\ninstruction 5 8\nentry 0 MSCAL 5\nentry 1 PRIM 7\n'
     result_of short 'result\nquadword 0 1 2 3 4\nquadword 9 1 2 3 4\ninstruction 5 7\nentry 0 MSCAL 5\n'
@@ -1033,6 +1072,7 @@ boards() {
 rack() {
     boards
     expect 1 compare expected good low short
+    test "$(head -n 1 out)" = 'expected: answer 0, done; 6 steps; 3 packets closed' || fail "the result of a rack: $(head -n 1 out)"
     says out 'board     verdict       first difference      how many'
     says out 'good      equal'
     says out 'low       different     quadword 9            1 quadword, 1 instruction, 1 entry'
@@ -1066,6 +1106,7 @@ rack_json() {
         "$command" compare expected $words --json > out 2> err
         well_formed json out
     done
+    says out '"result": {"file": "expected", "answer": 0, "steps": 6, "packets": 3},'
     says out '"data": {"compared": 1024, "different": 1, "differences": ['
     says out '{"number": 9, "result": ["0x00000001", "0x00000002", "0x00000003", "0x00000004"], "board": ["0x00000000", "0x00000002", "0x00000003", "0x00000004"]}'
     says out '{"number": 1, "result": {"register": 0, "value": "0x0000000000000006"}, "board": {"register": 0, "value": "0x0000000000000007"}}'
@@ -1125,11 +1166,14 @@ long_runs() {
     says out 'answer 90, the step allowance is used; 2500000 steps'
     wanted_result results "$block" > wanted
     same result wanted 'a run of 2,500,000 steps'
+    capture_of packets.capture 'capture\nstart channel=2\nrun allowance=2500000\nnext qwc=1 addr=0\ngiftag nloop=0 eop=1\n'
+    expect 3 run packets.capture
+    says out 'answer 90, the step allowance is used; 2500000 steps; 1250000 packets closed'
     { printf 'capture\n'; sed 's/ allowance.*//' endless.txt; } > endless.capture.txt
     expect 0 assemble capture endless.capture.txt -o endless.capture
     timeout --foreground --preserve-status -k 20 -s INT 1 "$command" run endless.capture -o stopped.result > out 2> err
     test $? = 3 || fail "Ctrl-C: $(cat err)"
-    says out 'run without limit: interrupted after '
+    grep -q 'run without limit: interrupted after [0-9]* steps; no packet closed$' out || fail "Ctrl-C: $(cat out)"
     test ! -s err || fail 'progress where there is no terminal'
     expect 0 dump stopped.result
     says out 'result answer=90'
@@ -1224,7 +1268,7 @@ report() {
     says page.html '<td class="verdict bad">not read</td>'
     for file in expected good low short; do says page.html "<td class=\"sum\">$(sha256sum < "$file" | cut -d ' ' -f 1)</td>"; done
     says page.html "tejborun $(sed -n 's/^#define TEJBORUN_VERSION "\(.*\)"/\1/p' "$here/tejborun.h")"
-    says page.html 'answer 0, done; 6 steps'
+    says page.html '<td class="answer">answer 0, done; 6 steps; 3 packets closed</td>'
     says page.html 'the result has <span class="number">2</span>, the board <span class="number">1</span>.'
     "$command" compare expected good low short refused "$odd" missing --json > out 2> err
     sed -n 's/.*"different": \([0-9]*\), .*differences.*/\1/p' out > wanted
@@ -1400,7 +1444,7 @@ vif0() {
     round capture vif0.capture
     expect 0 run vif0.capture -o vif0.result
     says out 'start on channel 0 at 0x0'
-    says out 'answer 0, done; 26 steps'
+    says out 'answer 0, done; 26 steps; no packet closed'
     says out "VIF0's data memory: 2 quadwords changed, first 0, last 255"
     says out "VIF0's code memory: 2 instructions changed, first 0, last 511"
     says out 'log: 1 entry added, first 0, last 0'
@@ -1589,6 +1633,149 @@ vif0_dumps() {
     absent none.html
 }
 
+# The GIF quadwords of the packets that are counted, and how many have been closed after each.
+gif_lines='giftag nloop=0 eop=1
+giftag nloop=0 eop=0
+giftag nloop=1 eop=1 nreg=1 regs=0xE
+word 1 0 5 0
+giftag nloop=2 eop=1 nreg=1 regs=0xF
+word 1 2 3 4
+word 1 2 3 4
+giftag nloop=1 eop=1 flg=REGLIST nreg=3 regs=0x555
+word 1 2 3 4
+word 5 6 7 8
+giftag nloop=2 eop=1 flg=IMAGE
+word 1 2 3 4
+word 1 2 3 4
+giftag nloop=1 eop=0 nreg=1 regs=0xE
+word 1 0 5 0'
+closed_after='1 1 1 2 2 2 3 3 3 4 4 4 5 5 5'
+
+# Packets closed: printed, kept, shown and read back; of each run its own.
+packets() {
+    printf 'gs\nwrite PRIM 6\nstart addr=5\ngs\nwrite PRIM 6\nwrite FINISH 0\ngs\nwrite PRIM 6\n' > three.txt
+    expect 0 assemble sheet three.txt -o three.sheet
+    expect 0 play three.sheet -o three.result
+    says out 'answer 0, done; 28 steps; 3 packets closed'
+    words three.result 8 4 | grep -q '^ *28 *0 *3 *0$' || fail 'the packets in the result file'
+    expect 0 dump three.result
+    says out 'result answer=0 steps=28 packets=3 log-numbers='
+    round result three.result
+    expect 0 meaning three.sheet -o three.meaning
+    expect 0 dump three.meaning
+    says out 'result answer=0 steps=28 packets=0 '
+    packets_by_path 2 1 "end qwc=15\n$gif_lines"
+    packets_by_path 1 5 "end qwc=16\nNOP\nNOP\nNOP\nDIRECT imm=15\n$gif_lines"
+    packets_of_stops
+    packets_of_runs
+    packets_as_text
+    packets_compared
+    echo "packets: each way to close one, on both paths, with every allowance; of stopped and refused runs, of each run of several; text, JSON, page and rack"
+}
+
+# packets_by_path CHANNEL FIRST CHAIN: the quadwords after so many steps on a channel, with every allowance.
+packets_by_path() {
+    capture_of gif.capture "capture main-bytes=512\nstart channel=$1\nrun\n$3\n"
+    round capture gif.capture
+    expect 0 run gif.capture -o "gif$1.result"
+    says out "run without limit: answer 0, done; $(($2 + 15)) steps; 5 packets closed"
+    step=$2
+    expect 3 run gif.capture --allowance "$step"
+    says out "answer 90, the step allowance is used; $step step"
+    says out '; no packet closed'
+    for closed in $closed_after; do
+        step=$((step + 1))
+        "$command" run gif.capture --allowance $step -o "gif.$step.result" > out 2> err
+        says out "; $step steps; $(packets_words "$closed")"
+        words "gif.$step.result" 16 2 | grep -q "^ *$closed *0\$" || fail "the packets after $step steps on channel $1"
+    done
+}
+
+# Runs that stop at a mark, are refused after a packet, by a quadword that would close another, or at the entry.
+packets_of_stops() {
+    capture_of stop.capture 'capture\nstart\nrun\nend qwc=2\nNOP\nNOP\nNOP\nDIRECT imm=1 irq=1\ngiftag nloop=0 eop=1\n'
+    expect 3 run stop.capture
+    says out 'answer 91, stopped at an interrupt mark; 6 steps; 1 packet closed'
+    capture_of stop.capture 'capture\nstart channel=2\nrun\nend qwc=3\ngiftag nloop=0 eop=1\ngiftag nloop=1 eop=1 nreg=1 regs=0xB\nword 1 2 3 4\n'
+    expect 1 run stop.capture -o stop.result
+    says out 'answer 30, refused: '
+    says out '; 3 steps; 1 packet closed'
+    expect 0 dump stop.result
+    says out 'result answer=30 steps=3 packets=1 '
+    expect 3 compare stop.result gif2.result
+    expect 1 compare stop.result gif2.result --unfinished
+    grep -q '^stop.result: answer 30, .*; 3 steps; 1 packet closed$' out || fail 'the packets of an unfinished result'
+    says out 'gif2.result: answer 0, done; 16 steps; 5 packets closed'
+    capture_of stop.capture 'capture log-numbers=0\nstart channel=2\nrun\nend qwc=2\ngiftag nloop=1 eop=1 flg=IMAGE\nword 1 2 3 4\n'
+    expect 1 run stop.capture
+    says out 'answer 31, refused: '
+    says out '; 2 steps; no packet closed'
+    capture_of stop.capture 'capture main-bytes=8\nstart channel=2\nrun\n'
+    expect 1 run stop.capture
+    says out '; 0 steps; no packet closed'
+}
+
+# Several runs: each tells its own packets, a quadword counts in the run that completes it, and the result has those of the last run.
+packets_of_runs() {
+    capture_of runs.capture "capture main-bytes=512\nstart channel=2\nrun allowance=7\nrun allowance=0\nrun\nrun\nstart channel=2\nrun allowance=2\nend qwc=15\n$gif_lines\n"
+    expect 3 run runs.capture -o runs.result
+    cat > wanted <<'END'
+call 1, run with allowance 7: answer 90, the step allowance is used; 7 steps; 2 packets closed
+call 2, run with allowance 0: answer 90, the step allowance is used; 0 steps; no packet closed
+call 3, run without limit: answer 0, done; 9 steps; 3 packets closed
+call 4, run without limit: answer 0, done; 0 steps; no packet closed
+call 6, run with allowance 2: answer 90, the step allowance is used; 2 steps; 1 packet closed
+END
+    grep ', run ' out > got
+    same got wanted 'the packets of each run'
+    expect 0 dump runs.result
+    says out 'result answer=90 steps=2 packets=1 '
+    capture_of gif.capture "capture main-bytes=512\nstart channel=2\nrun\nend qwc=15\n$gif_lines\n"
+    expect 3 run gif.capture --allowance 7 -o half.result
+    expect 0 run gif.capture --from half.result --no-start -o rest.result
+    says out 'answer 0, done; 9 steps; 3 packets closed'
+    expect 0 compare gif2.result rest.result
+    says out 'gif2.result: answer 0, done; 16 steps; 5 packets closed'
+    says out 'rest.result: answer 0, done; 9 steps; 3 packets closed'
+}
+
+packets_as_text() {
+    result_of most 'result steps=1 packets=18446744073709551615\n'
+    words most 16 2 | grep -q '^ *4294967295 *4294967295$' || fail 'the most packets'
+    round result most
+    result_of none 'result steps=1\n'
+    result_of zero 'result steps=1 packets=0\n'
+    same none zero
+    result_of some 'result packets=0x3 parts=data\n'
+    round result some
+    expect 0 dump some
+    says out 'result answer=0 steps=0 packets=3 log-numbers=0 parts=data'
+    bad_text result 1 "packets=0x10000000000000000: the field has 64 bits" 'result packets=0x10000000000000000\n'
+    bad_text result 1 "'result' has no field 'packet'; it has answer, steps, packets, log-numbers, parts" 'result packet=3\n'
+}
+
+# Packets have no part in the verdict, and a result without says nothing of them; JSON has the number always.
+packets_compared() {
+    boards
+    sed 's/packets=3/packets=9/' expected.txt > nine.txt
+    expect 0 assemble result nine.txt -o nine
+    expect 0 compare expected nine
+    test "$(tail -n 1 out)" = equal || fail 'packets in the verdict'
+    says out 'expected: answer 0, done; 6 steps; 3 packets closed'
+    says out 'nine: answer 0, done; 6 steps; 9 packets closed'
+    result_of one 'result steps=6 packets=1\n'
+    expect 0 compare one none
+    grep -qx 'one: answer 0, done; 6 steps; 1 packet closed' out || fail 'one packet'
+    grep -qx 'none: answer 0, done; 1 step' out || fail 'a result without packets'
+    expect 0 compare none one --json
+    says out '"result": {"file": "none", "answer": 0, "steps": 1, "packets": 0},'
+    expect 0 report none one -o page.html
+    says page.html '<td class="answer">answer 0, done; 1 step</td>'
+    expect 0 compare three.meaning three.result
+    grep -qx 'three.meaning: answer 0, done; 28 steps' out || fail "a sheet's meaning with packets"
+    says out 'three.result: answer 0, done; 28 steps; 3 packets closed'
+}
+
 # What is given twice; and every one of 65,536 differences shown in a moment.
 repeated() {
     bad_text result 3 'quadword 10 is given twice' 'result\nquadword 10 1 2 3 4\nquadword 10 1 2 3 4\n'
@@ -1608,7 +1795,7 @@ repeated() {
 }
 
 for name in ${TESTS:-layout state_words usage bench_points meanings refused_sheets examples comparisons damaged_files other_layouts bad_texts entries_used \
-    unfinished beginnings one_file outputs dashes repeated rack messages long_runs conventions report dumps vif0 generated_sheets generated_captures}; do
+    unfinished beginnings one_file outputs dashes repeated rack messages long_runs conventions report dumps vif0 packets generated_sheets generated_captures}; do
     "$name"
 done
 echo "host/test.sh: all as it has to be"

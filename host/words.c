@@ -1,6 +1,8 @@
 /* The meanings of numbers in words. */
 #include "words.h"
 
+#include <inttypes.h>
+#include <stdio.h>
 #include <string.h>
 
 struct named {
@@ -55,4 +57,12 @@ const char *descriptor_name(unsigned descriptor)
 const char *plural(uint64_t count, const char *one, const char *many)
 {
     return count == 1 ? one : many;
+}
+
+void packets_words(uint64_t packets, char text[PACKETS_TEXT])
+{
+    if (packets == 0)
+        snprintf(text, PACKETS_TEXT, "no packet closed");
+    else
+        snprintf(text, PACKETS_TEXT, "%" PRIu64 " %s closed", packets, plural(packets, "packet", "packets"));
 }

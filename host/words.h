@@ -20,4 +20,8 @@ const char *descriptor_name(unsigned descriptor);
 /* The one or the many, for counts: "entry" or "entries". */
 const char *plural(uint64_t count, const char *one, const char *many);
 
+/* How many packets were closed: "no packet closed", "3 packets closed". */
+enum { PACKETS_TEXT = 40 };
+void packets_words(uint64_t packets, char text[PACKETS_TEXT]);
+
 #endif
