@@ -106,6 +106,11 @@ as_sheet() {
     printf "$2" > "$1"
 }
 
+# packets_words NUMBER: so many packets as they are printed.
+packets_words() {
+    case $1 in 0) echo 'no packet closed' ;; 1) echo '1 packet closed' ;; *) echo "$1 packets closed" ;; esac
+}
+
 # give FIELD WORDS: adds the field to state.txt, its words numbered on from the last.
 give() {
     if test "$2" = 1; then value=$next; else value=$((next | (next + 1) << 32)); fi
@@ -317,24 +322,28 @@ generated_sheets() {
 }
 
 # replayed: reads the results of the case for its calls; sets where the last state block, the last run, each unit's memories and the log are, the exit status
-# that the calls have (3 where the last run stopped before the end or there is none, else 1 where a call was refused), and whether none did anything.
+# that the calls have (3 where the last run stopped before the end or there is none, else 1 where a call was refused), and whether none did anything; the file runs
+# has answer, steps and packets of each run.
 # The lengths: VIF1's data and code memory, the log, VIF0's data and code memory, the number of calls.
 replayed() {
     data=$1 code=$2 log=$3 data0=$4 code0=$5 calls=$6
     at=0 block=none run=none memories=none memories0=none log_at=none any_refused=0 last=90 idle=1
     channel=$(($(words case "$case_head" 1)))
+    : > runs
     for kind in $(words case "$case_calls_at" $((4 * calls)) | awk '{ print $1 }'); do
-        answer=$(($(words results $at 1)))
+        set -- $(words results $at 5)
+        answer=$1
         case $answer in
         0 | 90 | 91) idle=0 ;;
         *) any_refused=1 ;;
         esac
-        if test "$kind" = 2 && test $(($(words results $((at + 4)) 1))) != 0; then idle=0; fi
+        if test "$kind" = 2 && test "$2" != 0; then idle=0; fi
         if test "$kind" = 1; then
             block=$((at + 4))
             at=$((at + 4 + block_bytes))
         else
             run=$at last=$answer block=$((at + run_head))
+            echo "$answer $(($2 + ($3 << 32))) $(packets_words $(($4 + ($5 << 32))))" >> runs
             replayed_memories $((at + run_head + block_bytes))
             at=$((log_at + 8 * log))
         fi
@@ -408,23 +417,11 @@ one_capture() {
     # A refusal changes no buffer: then the words that mean nothing may stand as they were given, where replay writes zero.
     if test $idle = 1 && ! cmp -s part wanted; then wanted_result case "$case_head" > wanted; fi
     same part wanted "capture $number"
-    if test $run != none; then said_of_run; fi
+    sed -n 's/^call .*, run .*: answer \([0-9]*\), .*; \([0-9]*\) steps*; /\1 \2 /p' said > got
+    same got runs "what is said of the runs of capture $number"
+    with_packets=$((with_packets + $(grep -vc 'no packet closed' runs)))
     case $memories0 in none) ;; *) on_vif0=$((on_vif0 + 1)) ;; esac
     round result result
-}
-
-# packets_words NUMBER: so many packets as they are printed.
-packets_words() {
-    case $1 in 0) echo 'no packet closed' ;; 1) echo '1 packet closed' ;; *) echo "$1 packets closed" ;; esac
-}
-
-# The last run in said: replay's answer, steps and packets.
-said_of_run() {
-    set -- $(words results "$run" 5)
-    grep '^call .*, run ' said | tail -n 1 > last.said
-    says last.said ": answer $1, "
-    grep -q "; $(($2 + ($3 << 32))) steps*; $(packets_words $(($4 + ($5 << 32))))\$" last.said || fail "the last run of capture $number: $(cat last.said)"
-    if test "$4" != 0; then with_packets=$((with_packets + 1)); fi
 }
 
 generated_captures() {
@@ -442,7 +439,7 @@ generated_captures() {
         at_case=$((at_case + length)) number=$((number + 1))
     done
     echo "generated captures: $tried of $number to text and back (capture, state, main memory, result), run as replay runs them; $on_vif0 with a run on VIF0," \
-        "$with_packets with packets closed by the last run"
+        "$with_packets runs that closed packets"
 }
 
 examples() {
