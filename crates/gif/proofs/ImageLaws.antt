@@ -12,7 +12,8 @@ use Rattle.fields.specs.Fields.{if, quadword}
 use Rattle.fields.specs.Memory.{longAt}
 use Rattle.fields.proofs.ChoiceLaws.{and-false}
 use Rattle.fields.proofs.FieldLaws.{whole-low, whole-high}
-use Rattle.gif.specs.declared.Entry.{Entry}
+use Rattle.gif.specs.declared.GifPath.{GifPath}
+use Rattle.gif.specs.declared.Write.{Write}
 use Rattle.gif.specs.declared.TagFormat.{TagFormat}
 use Rattle.gif.specs.declared.TagFormat.the-variants.{Packed, Reglist, Image}
 use Rattle.gif.specs.declared.HeldTag.{HeldTag}
@@ -20,7 +21,7 @@ use Rattle.gif.specs.declared.Place.{Place}
 use Rattle.gif.specs.declared.Place.the-variants.{Idle, Data}
 use Rattle.gif.specs.declared.Path.{Path}
 use Rattle.gif.specs.declared.GifAnswer.the-variants.{Taken}
-use Rattle.gif.specs.Log.{entrySize, HasRoom, logged, LogFits}
+use Rattle.gif.specs.Log.{entrySize, HasRoom, entriesBy, logged, LogFits}
 use Rattle.gif.specs.Tag.{pathOf, withDue, placeAfter, dataCloses}
 use Rattle.gif.specs.Step.{Left, imageStep, gifStep}
 use Rattle.gif.specs.Inner.{Leads, aheadIn, ImageFits, imageWrites}
@@ -55,7 +56,7 @@ holding q t due = pathOf q (Data (withDue t due))
 abbrev imageLeft : ℕ → HeldTag → ℕ → List ℕ → Left
 imageLeft q t used log = record { answer = Taken false; number = 0; path = holding q t (t .due - 1); used = used + 2; log = log }
 
-module _ (q : ℕ) (t : HeldTag) (i : t .format ≡ Image) (d : 1 < t .due) where
+module _ (which : GifPath) (q : ℕ) (t : HeldTag) (i : t .format ≡ Image) (d : 1 < t .due) where
   place-before-last : placeAfter t ≡ Data (withDue t (t .due - 1))
   unfolding placeAfter if
   place-before-last = rw (ne-eqb (t .due) 1 (λ e. omega arith))
@@ -65,25 +66,25 @@ module _ (q : ℕ) (t : HeldTag) (i : t .format ≡ Image) (d : 1 < t .due) wher
   no-packet = rw (ne-eqb (t .due) 1 (λ e. omega arith)) (and-false (t .eop))
 
   image-step : (low high used : ℕ) (log : List ℕ) → low < 2 ^ 64 → high < 2 ^ 64 → HasRoom log used 2
-      → {log′ : List ℕ} → log′ ≡ logged log used (imageWrites low high)
-      → imageLeft q t used log′ ≡ gifStep (pathOf q (Data t)) (quadword low high) used log
+      → {log′ : List ℕ} → log′ ≡ logged log used (entriesBy which (imageWrites low high))
+      → imageLeft q t used log′ ≡ gifStep which (pathOf q (Data t)) (quadword low high) used log
   unfolding gifStep imageStep
   image-step low high used log l h r e =
-      by-format i (pathOf q (Data t)) t (quadword low high) used log
+      by-format i which (pathOf q (Data t)) t (quadword low high) used log
       (rw (whole-low low high l, whole-high low high l h, place-before-last, no-packet)
-      (commit-fits (pathOf q (Data t)) (holding q t (t .due - 1)) false (imageWrites low high) used log refl r e))
+      (commit-fits which (pathOf q (Data t)) (holding q t (t .due - 1)) false (imageWrites low high) used log refl r e))
 
-module _ (main : List ℕ) (a used : ℕ) (log₀ : List ℕ) (q : ℕ) (t : HeldTag) where
+module _ (which : GifPath) (main : List ℕ) (a used : ℕ) (log₀ : List ℕ) (q : ℕ) (t : HeldTag) where
   -- the first k lead to a tag with k fewer due
   abbrev pub Stored : ℕ → List ℕ → Type 0
-  Stored k log = Leads main a k 0 (pathOf q (Data t)) used log₀ (holding q t (t .due - k)) (used + 2 * k) log
+  Stored k log = Leads which main a k 0 (pathOf q (Data t)) used log₀ (holding q t (t .due - k)) (used + 2 * k) log
 
   pub image-begins : Stored 0 log₀
   image-begins = rw (sub-zero (t .due), add-zero used) leads-none
 
-  pub image-more : {k low high : ℕ} {log log′ : List ℕ} {es : List Entry} → k < aheadIn (t .format) (t .due) → HasRoom log (used + 2 * k) 2
+  pub image-more : {k low high : ℕ} {log log′ : List ℕ} {ws : List Write} → k < aheadIn (t .format) (t .due) → HasRoom log (used + 2 * k) 2
       → low ≡ longAt main (a + 16 * k) → high ≡ longAt main (a + 16 * k + 8) → low < 2 ^ 64 → high < 2 ^ 64
-      → es ≡ imageWrites low high → log′ ≡ logged log (used + 2 * k) es → Stored k log → Stored (k + 1) log′
+      → ws ≡ imageWrites low high → log′ ≡ logged log (used + 2 * k) (entriesBy which ws) → Stored k log → Stored (k + 1) log′
   unfolding oneIf
   image-more {k} {low} {high} {log} {log′} h r el eh l m ee e i =
       let f = ahead-image (t .format) (t .due) k h in
@@ -94,18 +95,18 @@ module _ (main : List ℕ) (a used : ℕ) (log₀ : List ℕ) (q : ℕ) (t : Hel
       rw (d, u)
       (leads-then i
       (leads-one {o = imageLeft q rest (used + 2 * k) log′}
-      (at-quadword main (a + 16 * k) el eh (holding q t (t .due - k)) (used + 2 * k) log (image-step q rest (f .0) (omega arith) low high (used + 2 * k) log l m r (rw ee at e)))
+      (at-quadword which main (a + 16 * k) el eh (holding q t (t .due - k)) (used + 2 * k) log (image-step which q rest (f .0) (omega arith) low high (used + 2 * k) log l m r (rw ee at e)))
       refl))
 
 -- where the path is idle there are none
-pub image-idle : {w : Place} → w ≡ Idle → {main : List ℕ} {a n used : ℕ} {p : Path} {log : List ℕ} → ImageFits w used log n
-    → Leads main a n 0 p used log p (used + 2 * n) log
+pub image-idle : {w : Place} → w ≡ Idle → {which : GifPath} {main : List ℕ} {a n used : ℕ} {p : Path} {log : List ℕ} → ImageFits w used log n
+    → Leads which main a n 0 p used log p (used + 2 * n) log
 image-idle e {n = n} {used = used} g =
     let h = rw e at (g .ahead) in
     let z : n ≡ 0 = omega arith in
     rw (z, add-zero used) leads-none
 
 -- what holds of the tag that a path holds holds of the path
-pub image-held : {p : Path} {t : HeldTag} → p .place ≡ Data t → {main : List ℕ} {a n used used′ : ℕ} {r : Path} {log log′ : List ℕ}
-    → Leads main a n 0 (pathOf (p .q) (Data t)) used log r used′ log′ → Leads main a n 0 p used log r used′ log′
+pub image-held : {p : Path} {t : HeldTag} → p .place ≡ Data t → {which : GifPath} {main : List ℕ} {a n used used′ : ℕ} {r : Path} {log log′ : List ℕ}
+    → Leads which main a n 0 (pathOf (p .q) (Data t)) used log r used′ log′ → Leads which main a n 0 p used log r used′ log′
 image-held e h = rw (← e) at h

@@ -3,12 +3,13 @@ use mathlib.Core.Path.{_≡_, refl, _∙_, ap}
 use mathlib.Core.Bool.{Bool, true, false}
 use mathlib.Core.List.{List, [], _∷_, _++_, append-assoc}
 use Prim.Native.Nat.{ℕ, suc, _+_, _*_, _-_, _/_, _%_, _<_, _≤_}
-use native.Mathlib.Numerals.{add-one}
 use native.Mathlib.Omega.{arith}
 use borrow.Author.Tests.{lt-ltb, le-ltb, ltb-true, ltb-false}
 use lib.ListN.{length, set, take, drop, length-append}
 use lib.Seq.{length-sets, sets-eq, length-take-le, take-at, drop-at}
 use lib.Dec.{eqb, ltb}
+use Rattle.gif.specs.declared.GifPath.{GifPath}
+use Rattle.gif.specs.declared.Write.{Write}
 use Rattle.gif.specs.declared.Entry.{Entry}
 use Rattle.gif.specs.declared.Path.{Path}
 use Rattle.gif.specs.declared.GifAnswer.the-variants.{Taken}
@@ -17,27 +18,37 @@ use Rattle.gif.specs.declared.Writes.the-variants.{Nothing, One, Two}
 use Rattle.fields.specs.Fields.{if}
 use Rattle.fields.specs.Refusals.{logFull}
 use Rattle.fields.proofs.ListLaws.{sets-then}
-use Rattle.gif.specs.Log.{entrySize, HasRoom, numbers, listed, logged, lacksRoom, Entered, entered, entryOf}
+use Rattle.gif.specs.Log.{entrySize, HasRoom, numbers, entriesBy, logged, lacksRoom, Entered, entered, entryOf}
 use Rattle.gif.specs.Step.{Left, refused, commit}
+use Rattle.gif.specs.Inner.{listed}
 
--- one entry is two stores
+-- one entry is three stores
 pub logged-one : (log : List ℕ) (used : ℕ) (e : Entry)
-    → set (set log (entrySize * used) (e .register)) (entrySize * used + 1) (e .value) ≡ logged log used (e ∷ [])
+    → set (set (set log (entrySize * used) (e .path)) (entrySize * used + 1) (e .register)) (entrySize * used + 2) (e .value)
+    ≡ logged log used (e ∷ [])
 unfolding logged
-logged-one log used e = rw add-one
+logged-one log used e =
+    let a : entrySize * used + 1 ≡ suc (entrySize * used) = omega arith in
+    let b : entrySize * used + 2 ≡ suc (suc (entrySize * used)) = omega arith in
+    rw (a, b)
 
 -- one entry and then another
 pub logged-two : (log : List ℕ) (used : ℕ) (e f : Entry) {a b : List ℕ} → a ≡ logged log used (e ∷ []) → b ≡ logged a (used + 1) (f ∷ [])
     → b ≡ logged log used (e ∷ f ∷ [])
 unfolding logged
 logged-two log used e f p q =
-    let n : entrySize * (used + 1) ≡ suc (suc (entrySize * used)) = omega arith in rw (q, p, n)
+    let n : entrySize * (used + 1) ≡ suc (suc (suc (entrySize * used))) = omega arith in rw (q, p, n)
 
 pub logged-length : (log : List ℕ) (used : ℕ) (es : List Entry) → length (logged log used es) ≡ length log
 unfolding logged
 logged-length log used es = length-sets log (entrySize * used) (numbers es)
 
--- a step writes at most two entries
+-- as many entries as writes
+pub entries-length : (which : GifPath) (ws : List Write) → length (entriesBy which ws) ≡ length ws
+entries-length which [] = refl
+entries-length which (w ∷ ws) = rw (entries-length which ws)
+
+-- a step writes at most two registers
 pub listed-most : (w : Writes) → length (listed w) ≤ 2
 listed-most Nothing = omega arith
 listed-most (One e) = omega arith
@@ -51,13 +62,13 @@ entries-below n used h = go (ltb n (entrySize * used)) refl
     go true e = let l = ltb-true n (entrySize * used) e in lt-ltb (n / entrySize) used (omega arith)
     go false e = let l = ltb-false n (entrySize * used) e in le-ltb (n / entrySize) used (omega arith)
 
-module _ (p after : Path) (closed : Bool) (es : List Entry) (used : ℕ) (log : List ℕ) {n : ℕ} (k : n ≡ length es) where
-  pub commit-full : length log < entrySize * (used + n) → refused logFull p used log ≡ commit p after closed es used log
+module _ (which : GifPath) (p after : Path) (closed : Bool) (ws : List Write) (used : ℕ) (log : List ℕ) {n : ℕ} (k : n ≡ length ws) where
+  pub commit-full : length log < entrySize * (used + n) → refused logFull p used log ≡ commit which p after closed ws used log
   unfolding commit lacksRoom if
   commit-full h = simp (lt-ltb _ _ (rw k at h))
 
-  pub commit-fits : HasRoom log used n → {m : List ℕ} → m ≡ logged log used es
-      → _≡_ {A = Left} (record { answer = Taken closed; number = 0; path = after; used = used + n; log = m }) (commit p after closed es used log)
+  pub commit-fits : HasRoom log used n → {m : List ℕ} → m ≡ logged log used (entriesBy which ws)
+      → _≡_ {A = Left} (record { answer = Taken closed; number = 0; path = after; used = used + n; log = m }) (commit which p after closed ws used log)
   unfolding commit lacksRoom if
   commit-fits h e = simp (le-ltb _ _ (rw k at h), e, k)
 

@@ -8,7 +8,8 @@ use native.Mathlib.Omega.{arith}
 use borrow.Author.Tests.{le-ltb, ne-eqb, eq-eqb}
 use lib.ListN.{length}
 use lib.Dec.{eqb, ltb}
-use Rattle.gif.specs.declared.Entry.{Entry}
+use Rattle.gif.specs.declared.GifPath.{GifPath}
+use Rattle.gif.specs.declared.Write.{Write}
 use Rattle.gif.specs.declared.TagFormat.the-variants.{Packed, Reglist, Image}
 use Rattle.gif.specs.declared.HeldTag.{HeldTag}
 use Rattle.gif.specs.declared.Place.{Place}
@@ -16,7 +17,7 @@ use Rattle.gif.specs.declared.Place.the-variants.{Idle, Data}
 use Rattle.gif.specs.declared.Path.{Path}
 use Rattle.gif.specs.declared.GifAnswer.the-variants.{Taken, Refused}
 use Rattle.fields.specs.Fields.{if, bits, quadword}
-use Rattle.gif.specs.Log.{entrySize, HasRoom, logged, lacksRoom}
+use Rattle.gif.specs.Log.{entrySize, HasRoom, entriesBy, logged, lacksRoom}
 use Rattle.gif.specs.Tag.{pathOf, formatOf, nregOf, quadwordsOf, tagOf, tagQ, tagWrites, takenOf, descriptorAt, placeAfter, placeAtTag, eopOf, tagCloses, dataCloses}
 use Rattle.gif.specs.Packed.{packedWrites, packedQ}
 use Rattle.gif.specs.Step.{Left, commit, tagStep, packedWith, packedStep, stepAt, gifStep}
@@ -38,16 +39,16 @@ abbrev pub took : Bool → Path → ℕ → List ℕ → Left
 took closed p used log = record { answer = Taken closed; number = 0; path = p; used = used; log = log }
 
 -- a step's writes that fit
-pub commit-room : (p after : Path) (closed : Bool) (es : List Entry) (used : ℕ) (log : List ℕ) → HasRoom log used (length es)
-    → commit p after closed es used log ≡ took closed after (used + length es) (logged log used es)
+pub commit-room : (which : GifPath) (p after : Path) (closed : Bool) (ws : List Write) (used : ℕ) (log : List ℕ) → HasRoom log used (length ws)
+    → commit which p after closed ws used log ≡ took closed after (used + length ws) (logged log used (entriesBy which ws))
 unfolding commit lacksRoom if
-commit-room p after closed es used log h = simp (le-ltb _ _ h)
+commit-room which p after closed ws used log h = simp (le-ltb _ _ h)
 
 -- the low half of a sheet's tag
 abbrev low : ℕ → ℕ
 low n = n + 2 ^ 15 + 2 ^ 60
 
-module _ (n : ℕ) (some : 0 < n) (few : n < 32768) where
+module _ (which : GifPath) (n : ℕ) (some : 0 < n) (few : n < 32768) where
   fits : low n < 2 ^ 64
   fits = omega arith
 
@@ -80,11 +81,11 @@ module _ (n : ℕ) (some : 0 < n) (few : n < 32768) where
 
   -- the tag's own step writes nothing
   pub sheet-tag : (q used : ℕ) (log : List ℕ) → entrySize * used ≤ length log
-      → gifStep (pathOf q Idle) (sheetTag n) used log ≡ took false (pathOf tagQ (sheetPlace n n)) used log
+      → gifStep which (pathOf q Idle) (sheetTag n) used log ≡ took false (pathOf tagQ (sheetPlace n n)) used log
   unfolding gifStep tagStep logged
   sheet-tag q used log h =
       rw (tag-silent, tag-open, tag-place)
-      (commit-room _ _ false [] used log (rw add-zero h) ∙ rw (add-zero, placed n some))
+      (commit-room which _ _ false [] used log (rw add-zero h) ∙ rw (add-zero, placed n some))
     where
       placed : (m : ℕ) → 0 < m → sheetPlace n m ≡ Data (sheetHeld n m)
       placed zero l = absurd (omega arith)
@@ -109,9 +110,9 @@ module _ (n : ℕ) (some : 0 < n) (few : n < 32768) where
 
   -- a data quadword is one entry
   pub sheet-data : (k q quad used : ℕ) (log : List ℕ) → HasRoom log used 1
-      → gifStep (pathOf q (sheetPlace n (suc k))) quad used log
-      ≡ took (eqb k 0) (pathOf q (sheetPlace n k)) (used + 1) (logged log used (addressData quad ∷ []))
+      → gifStep which (pathOf q (sheetPlace n (suc k))) quad used log
+      ≡ took (eqb k 0) (pathOf q (sheetPlace n k)) (used + 1) (logged log used (entriesBy which (addressData quad ∷ [])))
   unfolding gifStep packedWith packedQ packedWrites if
   sheet-data k q quad used log h =
       rw (descriptor-e (suc k) (takenOf (sheetHeld n (suc k))), place-next k, data-closed k)
-      (commit-room _ _ (eqb k 0) (addressData quad ∷ []) used log h)
+      (commit-room which _ _ (eqb k 0) (addressData quad ∷ []) used log h)

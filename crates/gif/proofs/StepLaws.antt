@@ -9,6 +9,8 @@ use borrow.Author.Tests.{ltb-true, ltb-false, le-ltb, eqb-false, ne-eqb, eq-eqb}
 use lib.ListN.{length, take, drop, length-append}
 use lib.Seq.{sets, sets-eq, length-sets, take-at, drop-at, length-take-le}
 use lib.Dec.{eqb, ltb}
+use Rattle.gif.specs.declared.GifPath.{GifPath}
+use Rattle.gif.specs.declared.Write.{Write}
 use Rattle.gif.specs.declared.Entry.{Entry}
 use Rattle.gif.specs.declared.TagFormat.{TagFormat}
 use Rattle.gif.specs.declared.TagFormat.the-variants.{Packed, Reglist, Image}
@@ -19,12 +21,12 @@ use Rattle.gif.specs.declared.Path.{Path}
 use Rattle.gif.specs.declared.GifAnswer.{GifAnswer}
 use Rattle.gif.specs.declared.GifAnswer.the-variants.{Taken, Refused}
 use Rattle.fields.specs.Fields.{if, bits, quadword}
-use Rattle.gif.specs.Log.{entrySize, numbers, logged, lacksRoom, logRefused}
+use Rattle.gif.specs.Log.{entrySize, entriesBy, logged, lacksRoom, logRefused}
 use Rattle.gif.specs.Tag.{pathOf, formatOf, nregOf, quadwordsOf, tagOf, placeAfter, placeAtTag, withDue, nloopOf}
 use Rattle.gif.specs.Range.{within, tagInRange, placeInRange, pathInRange, TagFits}
 use Rattle.gif.specs.Step.{Left, refused, commit, tagStep, packedWith, reglistStep, imageStep, dataStep, stepAt, gifStep, takeOf}
 use Rattle.fields.proofs.ChoiceLaws.{if-ind, if-ind-by}
-use Rattle.gif.proofs.LogLaws.{logged-length}
+use Rattle.gif.proofs.LogLaws.{entries-length}
 use Rattle.fields.proofs.FieldLaws.{bits-below}
 use Rattle.gif.proofs.TagLaws.{nreg-some}
 use Rattle.gif.proofs.RangeLaws.{tag-fits, fits-tag}
@@ -39,7 +41,7 @@ pub record Wrote (p : Path) (used : ℕ) (log : List ℕ) (o : Left) : Type 0 wh
   pub stored : o .log ≡ logged log used entries
   pub room : entrySize * (o .used) ≤ length log
 
-module _ (p : Path) (used : ℕ) (log : List ℕ) (h : entrySize * used ≤ length log) where
+module _ (which : GifPath) (p : Path) (used : ℕ) (log : List ℕ) (h : entrySize * used ≤ length log) where
   wrote-refused : (n : ℕ) → Wrote p used log (refused n p used log)
   unfolding logged
   wrote-refused n =
@@ -51,32 +53,32 @@ module _ (p : Path) (used : ℕ) (log : List ℕ) (h : entrySize * used ≤ leng
         room = h;
       }
 
-  wrote-commit : (after : Path) (closed : Bool) (es : List Entry) → Wrote p used log (commit p after closed es used log)
+  wrote-commit : (after : Path) (closed : Bool) (ws : List Write) → Wrote p used log (commit which p after closed ws used log)
   unfolding commit lacksRoom
-  wrote-commit after closed es =
-      if-ind-by (Wrote p used log) (ltb (length log) (entrySize * (used + length es)))
+  wrote-commit after closed ws =
+      if-ind-by (Wrote p used log) (ltb (length log) (entrySize * (used + length ws)))
       (λ e. wrote-refused 31)
       (λ e.
       record {
         same = λ m q. absurd (let z : _≡_ {A = ℕ} 0 1 = cc in omega arith);
-        entries = es;
-        counted = refl;
+        entries = entriesBy which ws;
+        counted = rw (entries-length which ws);
         stored = refl;
-        room = ltb-false (length log) (entrySize * (used + length es)) e;
+        room = ltb-false (length log) (entrySize * (used + length ws)) e;
       })
 
-  wrote-data : (f : TagFormat) (t : HeldTag) (quad : ℕ) → Wrote p used log (dataStep f p t quad used log)
+  wrote-data : (f : TagFormat) (t : HeldTag) (quad : ℕ) → Wrote p used log (dataStep f which p t quad used log)
   unfolding packedWith reglistStep imageStep
   wrote-data Packed t quad = if-ind (Wrote p used log) _ (wrote-refused 30) (wrote-commit _ _ _)
   wrote-data Reglist t quad = if-ind (Wrote p used log) _ (wrote-refused 30) (wrote-commit _ _ _)
   wrote-data Image t quad = wrote-commit _ _ _
 
-  wrote-at : (w : Place) (quad : ℕ) → Wrote p used log (stepAt w p quad used log)
+  wrote-at : (w : Place) (quad : ℕ) → Wrote p used log (stepAt w which p quad used log)
   unfolding tagStep
   wrote-at Idle quad = wrote-commit _ _ _
   wrote-at (Data t) quad = wrote-data (t .format) t quad
 
-  pub step-wrote : (quad : ℕ) → Wrote p used log (gifStep p quad used log)
+  pub step-wrote : (quad : ℕ) → Wrote p used log (gifStep which p quad used log)
   unfolding gifStep
   step-wrote quad = wrote-at (p .place) quad
 
@@ -121,30 +123,30 @@ range-at-tag quad =
 record Ranged (o : Left) : Type 0 where
   held : pathInRange (o .path) ≡ true
 
-module _ (p : Path) (r : pathInRange p ≡ true) (used : ℕ) (log : List ℕ) where
-  ranged-commit : (after : Path) (closed : Bool) (es : List Entry) → pathInRange after ≡ true → Ranged (commit p after closed es used log)
+module _ (which : GifPath) (p : Path) (r : pathInRange p ≡ true) (used : ℕ) (log : List ℕ) where
+  ranged-commit : (after : Path) (closed : Bool) (ws : List Write) → pathInRange after ≡ true → Ranged (commit which p after closed ws used log)
   unfolding commit
-  ranged-commit after closed es h = if-ind Ranged _ (record { held = r }) (record { held = h })
+  ranged-commit after closed ws h = if-ind Ranged _ (record { held = r }) (record { held = h })
 
-  ranged-data : (f : TagFormat) (t : HeldTag) (quad : ℕ) → TagFits t → Ranged (dataStep f p t quad used log)
+  ranged-data : (f : TagFormat) (t : HeldTag) (quad : ℕ) → TagFits t → Ranged (dataStep f which p t quad used log)
   unfolding packedWith reglistStep imageStep
   ranged-data Packed t quad h = if-ind Ranged _ (record { held = r }) (ranged-commit _ _ _ (range-after t h))
   ranged-data Reglist t quad h = if-ind Ranged _ (record { held = r }) (ranged-commit _ _ _ (range-after t h))
   ranged-data Image t quad h = ranged-commit _ _ _ (range-after t h)
 
-  ranged-at : (w : Place) (quad : ℕ) → placeInRange w ≡ true → Ranged (stepAt w p quad used log)
+  ranged-at : (w : Place) (quad : ℕ) → placeInRange w ≡ true → Ranged (stepAt w which p quad used log)
   unfolding tagStep
   ranged-at Idle quad h = ranged-commit _ _ _ (range-at-tag quad)
   ranged-at (Data t) quad h = ranged-data (t .format) t quad (tag-fits t h)
 
-  pub step-ranged : (quad : ℕ) → pathInRange (gifStep p quad used log .path) ≡ true
+  pub step-ranged : (quad : ℕ) → pathInRange (gifStep which p quad used log .path) ≡ true
   unfolding gifStep
   step-ranged quad = ranged-at (p .place) quad r .held
 
 -- ---- the tests of the public step
 
 -- a log and a path that pass the tests get document 01's step
-pub tested : (p : Path) (quad used : ℕ) (log : List ℕ) → logRefused log used ≡ false → pathInRange p ≡ true
-    → takeOf p quad used log ≡ gifStep p quad used log
+pub tested : (which : GifPath) (p : Path) (quad used : ℕ) (log : List ℕ) → logRefused log used ≡ false → pathInRange p ≡ true
+    → takeOf which p quad used log ≡ gifStep which p quad used log
 unfolding takeOf if
-tested p quad used log h r = simp (h, r)
+tested which p quad used log h r = simp (h, r)

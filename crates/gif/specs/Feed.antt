@@ -7,6 +7,7 @@ use Rattle.fields.specs.Counts.{oneIf}
 use Rattle.fields.specs.Fields.{if}
 use Rattle.fields.specs.Refusals.{logLength, outOfRange, payloadOutside}
 use Rattle.fields.specs.Memory.{quadwordAt, inside}
+use Rattle.gif.specs.declared.GifPath.{GifPath}
 use Rattle.gif.specs.declared.Path.{Path}
 use Rattle.gif.specs.declared.GifAnswer.{GifAnswer}
 use Rattle.gif.specs.declared.GifAnswer.the-variants.{Taken, Refused}
@@ -47,9 +48,9 @@ abbrev pub onQuadword : (Path → ℕ → List ℕ → Fed) → Left → Path �
 onQuadword f o p used log = afterQuadword f (o .answer) o p used log
 
 -- n quadwords from address a on
-unfoldable pub feedsOf : List ℕ → ℕ → ℕ → Path → ℕ → List ℕ → Fed
-feedsOf main a zero p used log = fed p used log 0 0 0
-feedsOf main a (suc n) p used log = onQuadword (feedsOf main (a + 16) n) (gifStep p (quadwordAt main a) used log) p used log
+unfoldable pub feedsOf : GifPath → List ℕ → ℕ → ℕ → Path → ℕ → List ℕ → Fed
+feedsOf which main a zero p used log = fed p used log 0 0 0
+feedsOf which main a (suc n) p used log = onQuadword (feedsOf which main (a + 16) n) (gifStep which p (quadwordAt main a) used log) p used log
 
 -- the public function tests its own input: 4, 5, and 14 where a quadword lies outside; 0 for none
 unfoldable pub feedRefusal : List ℕ → ℕ → ℕ → Path → ℕ → List ℕ → ℕ
@@ -63,5 +64,5 @@ feedRefusal main a n p used log =
 abbrev pub tested : ℕ → Fed → Path → ℕ → List ℕ → Fed
 tested r x p used log = if (eqb r 0) x (fed p used log 0 0 r)
 
-unfoldable pub feedOf : List ℕ → ℕ → ℕ → Path → ℕ → List ℕ → Fed
-feedOf main a n p used log = tested (feedRefusal main a n p used log) (feedsOf main a n p used log) p used log
+unfoldable pub feedOf : GifPath → List ℕ → ℕ → ℕ → Path → ℕ → List ℕ → Fed
+feedOf which main a n p used log = tested (feedRefusal main a n p used log) (feedsOf which main a n p used log) p used log

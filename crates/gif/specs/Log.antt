@@ -1,4 +1,4 @@
--- The log: document 01's "Each write is a log entry: register, value, two 64-bit numbers."
+-- The log: document 01's "Each write is a log entry" and request 11's "A log entry becomes three numbers: path, register, value."
 use Prim.Native.Nat.{ℕ, _+_, _*_, _%_, _≤_}
 use mathlib.Core.Bool.{Bool, true, false, not, _||_}
 use mathlib.Core.List.{List, [], _∷_}
@@ -6,21 +6,46 @@ use lib.ListN.{length}
 use lib.Seq.{sets}
 use lib.Dec.{eqb, ltb}
 use Rattle.fields.specs.Fields.{if}
+use Rattle.gif.specs.declared.GifPath.{GifPath}
+use Rattle.gif.specs.declared.GifPath.the-variants.{Two, Three}
+use Rattle.gif.specs.declared.Write.{Write}
 use Rattle.gif.specs.declared.Entry.{Entry}
-use Rattle.gif.specs.declared.Writes.{Writes}
-use Rattle.gif.specs.declared.Writes.the-variants.{Nothing, One, Two}
 
--- an entry takes two numbers of the log
+-- an entry takes three numbers of the log
 abbrev pub entrySize : ℕ
-entrySize = 2
+entrySize = 3
 
-abbrev pub entry : ℕ → ℕ → Entry
-entry r v = record { register = r; value = v }
+abbrev pub entry : ℕ → ℕ → ℕ → Entry
+entry p r v = record { path = p; register = r; value = v }
 
--- "register, value, two 64-bit numbers": entries as they stand in the log
+-- "three numbers: path, register, value": entries as they stand in the log
 abbrev pub numbers : List Entry → List ℕ
 numbers [] = []
-numbers (e ∷ es) = e .register ∷ e .value ∷ numbers es
+numbers (e ∷ es) = e .path ∷ e .register ∷ e .value ∷ numbers es
+
+-- "Path is 2 or 3 for GIF writes"
+abbrev pub pathNumber : GifPath → ℕ
+pathNumber Two = 2
+pathNumber Three = 3
+
+-- "and 0 for program starts"
+abbrev pub startPath : ℕ
+startPath = 0
+
+abbrev pub startEntry : ℕ → ℕ → Entry
+startEntry r v = entry startPath r v
+
+-- a register's write
+abbrev pub write : ℕ → ℕ → Write
+write r v = record { register = r; value = v }
+
+-- "Each write is a log entry", with the number of its path
+abbrev pub entryBy : GifPath → Write → Entry
+entryBy which w = entry (pathNumber which) (w .register) (w .value)
+
+abbrev pub entriesBy : GifPath → List Write → List Entry
+entriesBy which [] = []
+entriesBy which (w ∷ ws) = entryBy which w ∷ entriesBy which ws
 
 -- so many entries more fit after the first `used` ones
 abbrev pub HasRoom : List ℕ → ℕ → ℕ → Type 0
@@ -30,15 +55,15 @@ HasRoom log used n = entrySize * (used + n) ≤ length log
 unfoldable pub logged : List ℕ → ℕ → List Entry → List ℕ
 logged log used es = sets log (entrySize * used) (numbers es)
 
--- whether the log lacks room for the entries: "31, where the step's writes don't all fit"
-unfoldable pub lacksRoom : List ℕ → ℕ → List Entry → Bool
-lacksRoom log used es = ltb (length log) (entrySize * (used + length es))
+-- whether the log lacks room for so many: "31, where the step's writes don't all fit"; request 11: "31 counts three numbers an entry"
+unfoldable pub lacksRoom : List ℕ → ℕ → ℕ → Bool
+lacksRoom log used n = ltb (length log) (entrySize * (used + n))
 
--- "above 131,072 numbers"
+-- "above 196,608 numbers"
 abbrev pub logMost : ℕ
-logMost = 131072
+logMost = 196608
 
--- "4 log length odd, above 131,072 numbers, or below twice the entries used"
+-- request 11: "4 now means a length not a multiple of 3, above 196,608 numbers, or below three times the entries used"
 unfoldable pub logRefused : List ℕ → ℕ → Bool
 logRefused log used =
     not (eqb (length log % entrySize) 0) || (ltb logMost (length log) || ltb (length log) (entrySize * used))
@@ -52,13 +77,7 @@ abbrev pub entered : Bool → List ℕ → Entered
 entered b log = record { stored = b; log = log }
 
 unfoldable pub entryOf : List ℕ → ℕ → Entry → Entered
-entryOf log used e = if (lacksRoom log used (e ∷ [])) (entered false log) (entered true (logged log used (e ∷ [])))
-
--- what the program holds of a step's writes, of which there are at most two, as a list
-abbrev pub listed : Writes → List Entry
-listed Nothing = []
-listed (One e) = e ∷ []
-listed (Two e f) = e ∷ f ∷ []
+entryOf log used e = if (lacksRoom log used 1) (entered false log) (entered true (logged log used (e ∷ [])))
 
 -- what a log that 4 does not name fulfils, as facts for inner functions
 pub record LogFits (log : List ℕ) (used : ℕ) : Type 0 where

@@ -2,9 +2,9 @@
 use Prim.Native.Nat.{ℕ, _+_, _*_, _^_}
 use mathlib.Core.List.{List, [], _∷_}
 use lib.Dec.{eqb}
-use Rattle.gif.specs.declared.Entry.{Entry}
+use Rattle.gif.specs.declared.Write.{Write}
 use Rattle.fields.specs.Fields.{if, bits}
-use Rattle.gif.specs.Log.{entry}
+use Rattle.gif.specs.Log.{write}
 
 -- "1 RGBAQ from bits 0-7, 32-39, 64-71, 96-103, Q on top"
 unfoldable pub rgbaq : ℕ → ℕ → ℕ
@@ -28,17 +28,17 @@ unfoldable pub redirected : ℕ → ℕ → ℕ
 redirected d quad = if (eqb (bits quad 111 111) 1) (d + 8) d
 
 -- the writes of a data quadword under a descriptor; 2, 6-9, C, D "low 64 bits", F "nothing", and B is refused before it comes here
-unfoldable pub packedWrites : ℕ → ℕ → ℕ → List Entry
+unfoldable pub packedWrites : ℕ → ℕ → ℕ → List Write
 packedWrites d q quad =
-    if (eqb d 0) (entry 0 (bits quad 0 10) ∷ [])
-    (if (eqb d 1) (entry 1 (rgbaq q quad) ∷ [])
-    (if (eqb d 3) (entry 3 (uv quad) ∷ [])
-    (if (eqb d 4) (entry (redirected 4 quad) (xyzf quad) ∷ [])
-    (if (eqb d 5) (entry (redirected 5 quad) (xyz quad) ∷ [])
-    (if (eqb d 10) (entry 10 (bits quad 100 107 * 2 ^ 56) ∷ [])
-    (if (eqb d 14) (entry (bits quad 64 71) (bits quad 0 63) ∷ [])
+    if (eqb d 0) (write 0 (bits quad 0 10) ∷ [])
+    (if (eqb d 1) (write 1 (rgbaq q quad) ∷ [])
+    (if (eqb d 3) (write 3 (uv quad) ∷ [])
+    (if (eqb d 4) (write (redirected 4 quad) (xyzf quad) ∷ [])
+    (if (eqb d 5) (write (redirected 5 quad) (xyz quad) ∷ [])
+    (if (eqb d 10) (write 10 (bits quad 100 107 * 2 ^ 56) ∷ [])
+    (if (eqb d 14) (write (bits quad 64 71) (bits quad 0 63) ∷ [])
     (if (eqb d 15) []
-    (entry d (bits quad 0 63) ∷ []))))))))
+    (write d (bits quad 0 63) ∷ []))))))))
 
 -- "2 ST low 64 bits, Q = bits 64-95"
 unfoldable pub packedQ : ℕ → ℕ → ℕ → ℕ

@@ -3,15 +3,15 @@ use Prim.Native.Nat.{ℕ, _+_, _*_}
 use mathlib.Core.Bool.{Bool, _||_, _&&_}
 use mathlib.Core.List.{List, [], _∷_, _++_}
 use lib.Dec.{eqb, ltb}
-use Rattle.gif.specs.declared.Entry.{Entry}
+use Rattle.gif.specs.declared.Write.{Write}
 use Rattle.gif.specs.declared.HeldTag.{HeldTag}
 use Rattle.fields.specs.Fields.{if, bits}
-use Rattle.gif.specs.Log.{entry}
+use Rattle.gif.specs.Log.{write}
 use Rattle.gif.specs.Tag.{takenOf, descriptorAt}
 
 -- "64 bits each, E and F nothing"
-unfoldable pub reglistWrite : ℕ → ℕ → List Entry
-reglistWrite d x = if (eqb d 14 || eqb d 15) [] (entry d x ∷ [])
+unfoldable pub reglistWrite : ℕ → ℕ → List Write
+reglistWrite d x = if (eqb d 14 || eqb d 15) [] (write d x ∷ [])
 
 -- the item that a data quadword's low half is: two items each quadword, one after another across the loops
 abbrev pub firstItem : HeldTag → ℕ
@@ -27,7 +27,7 @@ reglistRefused t =
     eqb (descriptorAt t (firstItem t)) 11 || (hasSecond t && eqb (descriptorAt t (firstItem t + 1)) 11)
 
 -- the writes of a data quadword, low half first
-unfoldable pub reglistWrites : HeldTag → ℕ → List Entry
+unfoldable pub reglistWrites : HeldTag → ℕ → List Write
 reglistWrites t quad =
     reglistWrite (descriptorAt t (firstItem t)) (bits quad 0 63)
     ++ if (hasSecond t) (reglistWrite (descriptorAt t (firstItem t + 1)) (bits quad 64 127)) []

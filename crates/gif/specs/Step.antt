@@ -1,10 +1,11 @@
--- One quadword taken by the GIF: a step of document 01, on one of its paths.
+-- One quadword taken by the GIF: a step of document 01, on one of its paths; which it is, request 11's log tells.
 use Prim.Native.Nat.{ℕ, _+_}
 use mathlib.Core.Bool.{Bool}
 use mathlib.Core.List.{List, [], _∷_}
 use lib.ListN.{length}
 use lib.Dec.{eqb}
-use Rattle.gif.specs.declared.Entry.{Entry}
+use Rattle.gif.specs.declared.GifPath.{GifPath}
+use Rattle.gif.specs.declared.Write.{Write}
 use Rattle.gif.specs.declared.TagFormat.{TagFormat}
 use Rattle.gif.specs.declared.TagFormat.the-variants.{Packed, Reglist, Image}
 use Rattle.gif.specs.declared.HeldTag.{HeldTag}
@@ -16,7 +17,7 @@ use Rattle.gif.specs.declared.GifAnswer.the-variants.{Taken, Refused}
 use Rattle.gif.specs.declared.GifResult.{GifResult}
 use Rattle.fields.specs.Fields.{if, bits}
 use Rattle.fields.specs.Refusals.{logLength, outOfRange, descriptorB, logFull}
-use Rattle.gif.specs.Log.{entry, logged, lacksRoom, logRefused}
+use Rattle.gif.specs.Log.{write, entriesBy, logged, lacksRoom, logRefused}
 use Rattle.gif.specs.Tag.{pathOf, placeAfter, placeAtTag, tagCloses, dataCloses, tagQ, tagWrites, takenOf, descriptorAt}
 use Rattle.gif.specs.Packed.{packedWrites, packedQ}
 use Rattle.gif.specs.Reglist.{reglistRefused, reglistWrites}
@@ -48,50 +49,50 @@ refusedResult n p used = record { answer = Refused n; path = p; used = used }
 
 -- A step's writes and the path after it, all or none: "31, where the step's writes don't all fit". Request 1: "The answer to each quadword given to the GIF shall
 -- also say whether it closed a packet"
-unfoldable pub commit : Path → Path → Bool → List Entry → ℕ → List ℕ → Left
-commit p after closed es used log =
-    if (lacksRoom log used es) (refused logFull p used log)
-    (record { answer = Taken closed; number = 0; path = after; used = used + length es; log = logged log used es })
+unfoldable pub commit : GifPath → Path → Path → Bool → List Write → ℕ → List ℕ → Left
+commit which p after closed ws used log =
+    if (lacksRoom log used (length ws)) (refused logFull p used log)
+    (record { answer = Taken closed; number = 0; path = after; used = used + length ws; log = logged log used (entriesBy which ws) })
 
 -- a tag's own step
-unfoldable pub tagStep : Path → ℕ → ℕ → List ℕ → Left
-tagStep p quad used log = commit p (pathOf tagQ (placeAtTag quad)) (tagCloses quad) (tagWrites quad) used log
+unfoldable pub tagStep : GifPath → Path → ℕ → ℕ → List ℕ → Left
+tagStep which p quad used log = commit which p (pathOf tagQ (placeAtTag quad)) (tagCloses quad) (tagWrites quad) used log
 
 -- a PACKED data quadword under its descriptor: "30 descriptor B met at its data", "then 31"
-unfoldable pub packedWith : ℕ → Path → HeldTag → ℕ → ℕ → List ℕ → Left
-packedWith d p t quad used log =
+unfoldable pub packedWith : GifPath → ℕ → Path → HeldTag → ℕ → ℕ → List ℕ → Left
+packedWith which d p t quad used log =
     if (eqb d 11) (refused descriptorB p used log)
-    (commit p (pathOf (packedQ d (p .q) quad) (placeAfter t)) (dataCloses t) (packedWrites d (p .q) quad) used log)
+    (commit which p (pathOf (packedQ d (p .q) quad) (placeAfter t)) (dataCloses t) (packedWrites d (p .q) quad) used log)
 
 -- "PACKED (0), one quadword per descriptor": data quadword j is item j
-abbrev pub packedStep : Path → HeldTag → ℕ → ℕ → List ℕ → Left
-packedStep p t quad used log = packedWith (descriptorAt t (takenOf t)) p t quad used log
+abbrev pub packedStep : GifPath → Path → HeldTag → ℕ → ℕ → List ℕ → Left
+packedStep which p t quad used log = packedWith which (descriptorAt t (takenOf t)) p t quad used log
 
-unfoldable pub reglistStep : Path → HeldTag → ℕ → ℕ → List ℕ → Left
-reglistStep p t quad used log =
+unfoldable pub reglistStep : GifPath → Path → HeldTag → ℕ → ℕ → List ℕ → Left
+reglistStep which p t quad used log =
     if (reglistRefused t) (refused descriptorB p used log)
-    (commit p (pathOf (p .q) (placeAfter t)) (dataCloses t) (reglistWrites t quad) used log)
+    (commit which p (pathOf (p .q) (placeAfter t)) (dataCloses t) (reglistWrites t quad) used log)
 
 -- "IMAGE (2, 3): NLOOP quadwords, each two writes to 54h, low half first."
-unfoldable pub imageStep : Path → HeldTag → ℕ → ℕ → List ℕ → Left
-imageStep p t quad used log =
-    commit p (pathOf (p .q) (placeAfter t)) (dataCloses t) (entry 84 (bits quad 0 63) ∷ entry 84 (bits quad 64 127) ∷ []) used log
+unfoldable pub imageStep : GifPath → Path → HeldTag → ℕ → ℕ → List ℕ → Left
+imageStep which p t quad used log =
+    commit which p (pathOf (p .q) (placeAfter t)) (dataCloses t) (write 84 (bits quad 0 63) ∷ write 84 (bits quad 64 127) ∷ []) used log
 
-abbrev pub dataStep : TagFormat → Path → HeldTag → ℕ → ℕ → List ℕ → Left
+abbrev pub dataStep : TagFormat → GifPath → Path → HeldTag → ℕ → ℕ → List ℕ → Left
 dataStep Packed = packedStep
 dataStep Reglist = reglistStep
 dataStep Image = imageStep
 
-abbrev pub stepAt : Place → Path → ℕ → ℕ → List ℕ → Left
-stepAt Idle p quad used log = tagStep p quad used log
-stepAt (Data t) p quad used log = dataStep (t .format) p t quad used log
+abbrev pub stepAt : Place → GifPath → Path → ℕ → ℕ → List ℕ → Left
+stepAt Idle which p quad used log = tagStep which p quad used log
+stepAt (Data t) which p quad used log = dataStep (t .format) which p t quad used log
 
 -- document 01's step: one quadword taken by the GIF
-unfoldable pub gifStep : Path → ℕ → ℕ → List ℕ → Left
-gifStep p quad used log = stepAt (p .place) p quad used log
+unfoldable pub gifStep : GifPath → Path → ℕ → ℕ → List ℕ → Left
+gifStep which p quad used log = stepAt (p .place) which p quad used log
 
 -- the public step, which tests its own input: 4, then 5, else the step
-unfoldable pub takeOf : Path → ℕ → ℕ → List ℕ → Left
-takeOf p quad used log =
+unfoldable pub takeOf : GifPath → Path → ℕ → ℕ → List ℕ → Left
+takeOf which p quad used log =
     if (logRefused log used) (refused logLength p used log)
-    (if (pathInRange p) (gifStep p quad used log) (refused outOfRange p used log))
+    (if (pathInRange p) (gifStep which p quad used log) (refused outOfRange p used log))

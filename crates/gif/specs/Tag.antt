@@ -3,7 +3,7 @@ use Prim.Native.Nat.{ℕ, _+_, _*_, _-_, _/_, _%_, _^_}
 use mathlib.Core.Bool.{Bool, true, false, _&&_, not}
 use mathlib.Core.List.{List, [], _∷_}
 use lib.Dec.{eqb}
-use Rattle.gif.specs.declared.Entry.{Entry}
+use Rattle.gif.specs.declared.Write.{Write}
 use Rattle.gif.specs.declared.TagFormat.{TagFormat}
 use Rattle.gif.specs.declared.TagFormat.the-variants.{Packed, Reglist, Image}
 use Rattle.gif.specs.declared.HeldTag.{HeldTag}
@@ -11,7 +11,7 @@ use Rattle.gif.specs.declared.Place.{Place}
 use Rattle.gif.specs.declared.Place.the-variants.{Idle, Data}
 use Rattle.gif.specs.declared.Path.{Path}
 use Rattle.fields.specs.Fields.{if, bits}
-use Rattle.gif.specs.Log.{entry}
+use Rattle.gif.specs.Log.{write}
 
 abbrev pub nloopOf : ℕ → ℕ
 nloopOf quad = bits quad 0 14
@@ -103,7 +103,7 @@ isPacked Reglist = false
 isPacked Image = false
 
 -- "NLOOP 0: no data, no writes. PRE acts only in PACKED: PRIM goes to register 0 in the tag's own step."
-unfoldable pub tagWrites : ℕ → List Entry
+unfoldable pub tagWrites : ℕ → List Write
 tagWrites quad =
-    if (not (eqb (nloopOf quad) 0) && (preOf quad && isPacked (formatOf (bits quad 58 59)))) (entry 0 (primOf quad) ∷ [])
+    if (not (eqb (nloopOf quad) 0) && (preOf quad && isPacked (formatOf (bits quad 58 59)))) (write 0 (primOf quad) ∷ [])
     []

@@ -1,5 +1,6 @@
 // Quadwords of main memory taken by a path one after another.
 use super::GifAnswer;
+use super::GifPath;
 use super::Path;
 use super::QuadwordsResult;
 use super::image::image_at_once;
@@ -28,9 +29,17 @@ fn ended(path: Path, used: u64, taken: u32, packets: u64, refusal: u32) -> Quadw
 }
 
 // The quadwords up to the first that is refused, where all was tested.
-fn feed(path: Path, main: &[u8], a: u32, count: u32, log: &mut [u64], used: u64) -> QuadwordsResult
+fn feed(
+    which: GifPath,
+    path: Path,
+    main: &[u8],
+    a: u32,
+    count: u32,
+    log: &mut [u64],
+    used: u64,
+) -> QuadwordsResult
     requires { ⌜ (a + 16 * count ≤ 1048576) × (LogFits (now log) used × PlaceFits (path .place)) ⌝ }
-    ensures { λ r. ⌜ fedBy r (now (log .exit)) ≡ feedsOf (now (main .entry)) a count path used (now (log .entry)) ⌝ }
+    ensures { λ r. ⌜ fedBy r (now (log .exit)) ≡ feedsOf which (now (main .entry)) a count path used (now (log .entry)) ⌝ }
 {
     let mut p = path;
     let mut entries = used;
@@ -39,7 +48,7 @@ fn feed(path: Path, main: &[u8], a: u32, count: u32, log: &mut [u64], used: u64)
     while taken < count {
         let n = image_at_once(p, count - taken, log, entries);
         if 0 < n {
-            p = image_quadwords(p, main, a + 16 * taken, n, log, entries);
+            p = image_quadwords(which, p, main, a + 16 * taken, n, log, entries);
             entries += 2 * n as u64;
             taken += n;
             continue;
@@ -47,7 +56,7 @@ fn feed(path: Path, main: &[u8], a: u32, count: u32, log: &mut [u64], used: u64)
         let at = a + 16 * taken;
         let low = fields::long_at(main, at);
         let high = fields::long_at(main, at + 8);
-        let r = step(p, low, high, log, entries);
+        let r = step(which, p, low, high, log, entries);
         let answer = r.answer;
         let next = r.path;
         match answer {
@@ -81,6 +90,7 @@ fn feed_refusal(path: Path, main: &[u8], a: u32, count: u32, log: &[u64], used: 
 
 // Quadwords given to a path, on any input at all; none is taken where one lies outside.
 pub fn take_quadwords(
+    which: GifPath,
     path: Path,
     main: &[u8],
     a: u32,
@@ -88,11 +98,11 @@ pub fn take_quadwords(
     log: &mut [u64],
     used: u64,
 ) -> QuadwordsResult
-    ensures { λ r. ⌜ fedBy r (now (log .exit)) ≡ feedOf (now (main .entry)) a count path used (now (log .entry)) ⌝ }
+    ensures { λ r. ⌜ fedBy r (now (log .exit)) ≡ feedOf which (now (main .entry)) a count path used (now (log .entry)) ⌝ }
 {
     let number = feed_refusal(path, main, a, count, log, used);
     if number == 0 {
-        return feed(path, main, a, count, log, used);
+        return feed(which, path, main, a, count, log, used);
     }
     ended(path, used, 0, 0, number)
 }

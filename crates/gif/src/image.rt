@@ -1,29 +1,30 @@
 // Data of IMAGE, many quadwords at a time: never a tag's last one, so that no tag ends and no packet is closed here.
 use super::ENTRY_SIZE;
-use super::Entry;
+use super::GifPath;
 use super::HeldTag;
 use super::Path;
 use super::Place;
 use super::TagFormat;
+use super::Write;
 use super::Writes;
 use super::log::store;
 ghost use mathlib.Core.Path.{_≡_};
 ghost use Prim.Native.Nat.{_+_, _*_, _≤_};
 ghost use Rattle.gif.specs.declared.Place.the-variants.{Data};
-ghost use Rattle.gif.specs.Log.{listed, LogFits};
+ghost use Rattle.gif.specs.Log.{LogFits};
 ghost use Rattle.gif.specs.Tag.{pathOf};
 ghost use Rattle.gif.specs.Range.{TagFits, PlaceFits};
-ghost use Rattle.gif.specs.Inner.{Leads, aheadIn, imageAhead, ImageFits, imageWrites};
+ghost use Rattle.gif.specs.Inner.{listed, Leads, aheadIn, imageAhead, ImageFits, imageWrites};
 
 // The writes of a data quadword.
 pub(crate) fn image_writes(low: u64, high: u64) -> Writes
     ensures { λ r. ⌜ listed r ≡ imageWrites low high ⌝ }
 {
-    let lower = Entry {
+    let lower = Write {
         register: 84,
         value: low,
     };
-    let upper = Entry {
+    let upper = Write {
         register: 84,
         value: high,
     };
@@ -72,16 +73,25 @@ pub(crate) fn image_at_once(path: Path, left: u32, log: &[u64], used: u64) -> u3
 }
 
 // n data quadwords of the tag that a path holds.
-fn image_data(q: u32, tag: HeldTag, main: &[u8], a: u32, n: u32, log: &mut [u64], used: u64) -> Path
+fn image_data(
+    which: GifPath,
+    q: u32,
+    tag: HeldTag,
+    main: &[u8],
+    a: u32,
+    n: u32,
+    log: &mut [u64],
+    used: u64,
+) -> Path
     requires { ⌜ (a + 16 * n ≤ 1048576) × LogFits (now log) used × ImageFits (Data tag) used (now log) n ⌝ }
-    ensures { λ r. ⌜ Leads (now (main .entry)) a n 0 (pathOf q (Data tag)) used (now (log .entry)) r (used + 2 * n) (now (log .exit)) ⌝ }
+    ensures { λ r. ⌜ Leads which (now (main .entry)) a n 0 (pathOf q (Data tag)) used (now (log .entry)) r (used + 2 * n) (now (log .exit)) ⌝ }
 {
     let mut k: u32 = 0;
     while k < n {
         let at = a + 16 * k;
         let low = fields::long_at(main, at);
         let high = fields::long_at(main, at + 8);
-        store(log, used + 2 * k as u64, image_writes(low, high));
+        store(log, used + 2 * k as u64, which, image_writes(low, high));
         k += 1;
     }
     let mut rest = tag;
@@ -94,6 +104,7 @@ fn image_data(q: u32, tag: HeldTag, main: &[u8], a: u32, n: u32, log: &mut [u64]
 
 // n data quadwords of IMAGE.
 pub(crate) fn image_quadwords(
+    which: GifPath,
     path: Path,
     main: &[u8],
     a: u32,
@@ -102,11 +113,11 @@ pub(crate) fn image_quadwords(
     used: u64,
 ) -> Path
     requires { ⌜ (a + 16 * n ≤ 1048576) × LogFits (now log) used × ImageFits (path .place) used (now log) n ⌝ }
-    ensures { λ r. ⌜ Leads (now (main .entry)) a n 0 path used (now (log .entry)) r (used + 2 * n) (now (log .exit)) ⌝ }
+    ensures { λ r. ⌜ Leads which (now (main .entry)) a n 0 path used (now (log .entry)) r (used + 2 * n) (now (log .exit)) ⌝ }
 {
     let place = path.place;
     match place {
         Place::Idle => path,
-        Place::Data(tag) => image_data(path.q, tag, main, a, n, log, used),
+        Place::Data(tag) => image_data(which, path.q, tag, main, a, n, log, used),
     }
 }

@@ -35,19 +35,28 @@ pub enum Place {
     Data(HeldTag),
 }
 
+// The paths that quadwords come by; each keeps its own place and Q.
+pub enum GifPath {
+    Two,
+    Three,
+}
+
 pub struct Path {
     pub q: u32,
     pub place: Place,
 }
 
 // The numbers of the log that an entry takes.
-pub const ENTRY_SIZE: u64 = 2;
+pub const ENTRY_SIZE: u64 = 3;
 
 // The most numbers that a log has.
-pub const LOG_MOST: u64 = 131072;
+pub const LOG_MOST: u64 = 196608;
 
-// One write, as the log has it.
-pub struct Entry {
+// The path of a program start's entry.
+pub const START_PATH: u64 = 0;
+
+// One write of a register.
+pub struct Write {
     pub register: u64,
     pub value: u64,
 }
@@ -55,8 +64,15 @@ pub struct Entry {
 // The writes of one step.
 pub enum Writes {
     Nothing,
-    One(Entry),
-    Two(Entry, Entry),
+    One(Write),
+    Two(Write, Write),
+}
+
+// One entry, as the log has it.
+pub struct Entry {
+    pub path: u64,
+    pub register: u64,
+    pub value: u64,
 }
 
 // A quadword that was taken, and whether it closed a packet; or the refusal.

@@ -1,16 +1,17 @@
 // PACKED data: a write by its descriptor.
-use super::Entry;
+use super::Write;
 use super::Writes;
 ghost use mathlib.Core.Path.{_≡_};
 ghost use Prim.Native.Nat.{_<_};
 ghost use Rattle.fields.specs.Fields.{quadword};
-ghost use Rattle.gif.specs.Log.{entry, listed};
+ghost use Rattle.gif.specs.Log.{write};
 ghost use Rattle.gif.specs.Packed.{rgbaq, uv, xyzf, xyz, redirected, packedWrites, packedQ};
+ghost use Rattle.gif.specs.Inner.{listed};
 
 fn one(register: u64, value: u64) -> Writes
-    ensures { λ r. ⌜ r ≡ Writes.One (entry register value) ⌝ }
+    ensures { λ r. ⌜ r ≡ Writes.One (write register value) ⌝ }
 {
-    Writes::One(Entry { register, value })
+    Writes::One(Write { register, value })
 }
 
 fn rgbaq_value(q: u32, low: u64, high: u64) -> u64

@@ -1,6 +1,6 @@
 // REGLIST data: two items each quadword.
-use super::Entry;
 use super::HeldTag;
+use super::Write;
 use super::Writes;
 use super::tag::descriptor_at;
 ghost use mathlib.Core.Path.{_≡_};
@@ -8,11 +8,11 @@ ghost use mathlib.Core.List.{_++_};
 ghost use mathlib.Core.Bool.{_||_};
 ghost use Prim.Native.Nat.{_*_};
 ghost use lib.Dec.{eqb, ltb};
-ghost use Rattle.gif.specs.Log.{listed};
 ghost use Rattle.fields.specs.Fields.{if};
 ghost use Rattle.gif.specs.Range.{TagFits};
 ghost use Rattle.gif.specs.Tag.{descriptorAt};
 ghost use Rattle.gif.specs.Reglist.{reglistWrite};
+ghost use Rattle.gif.specs.Inner.{listed};
 
 fn silent(descriptor: u64) -> bool
     ensures { λ r. ⌜ r ≡ (eqb descriptor 14 || eqb descriptor 15) ⌝ }
@@ -27,7 +27,7 @@ fn silent(descriptor: u64) -> bool
 pub(crate) fn halves(first: u64, second: u64, low: u64, high: u64) -> Writes
     ensures { λ r. ⌜ listed r ≡ reglistWrite first low ++ reglistWrite second high ⌝ }
 {
-    let upper = Entry {
+    let upper = Write {
         register: second,
         value: high,
     };
@@ -38,7 +38,7 @@ pub(crate) fn halves(first: u64, second: u64, low: u64, high: u64) -> Writes
             Writes::One(upper)
         }
     } else {
-        let lower = Entry {
+        let lower = Write {
             register: first,
             value: low,
         };

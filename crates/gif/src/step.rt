@@ -1,5 +1,6 @@
 // One quadword taken by a path.
 use super::GifAnswer;
+use super::GifPath;
 use super::GifResult;
 use super::HeldTag;
 use super::Path;
@@ -37,9 +38,16 @@ fn refuse(number: u32, path: Path, used: u64) -> GifResult
     }
 }
 
-fn take_tag(path: Path, low: u64, high: u64, log: &mut [u64], used: u64) -> GifResult
+fn take_tag(
+    which: GifPath,
+    path: Path,
+    low: u64,
+    high: u64,
+    log: &mut [u64],
+    used: u64,
+) -> GifResult
     requires { ⌜ LogFits (now log) used ⌝ }
-    ensures { λ r. ⌜ left r (now (log .exit)) ≡ tagStep path (quadword low high) used (now (log .entry)) ⌝ }
+    ensures { λ r. ⌜ left r (now (log .exit)) ≡ tagStep which path (quadword low high) used (now (log .entry)) ⌝ }
 {
     let place = place_at_tag(low, high);
     let after = Path {
@@ -47,10 +55,11 @@ fn take_tag(path: Path, low: u64, high: u64, log: &mut [u64], used: u64) -> GifR
         place,
     };
     let writes = tag_writes(low, high);
-    finish(path, after, tag_closes(low, high), writes, log, used)
+    finish(which, path, after, tag_closes(low, high), writes, log, used)
 }
 
 fn take_packed(
+    which: GifPath,
     path: Path,
     tag: HeldTag,
     low: u64,
@@ -59,7 +68,7 @@ fn take_packed(
     used: u64,
 ) -> GifResult
     requires { ⌜ LogFits (now log) used × TagFits tag ⌝ }
-    ensures { λ r. ⌜ left r (now (log .exit)) ≡ packedStep path tag (quadword low high) used (now (log .entry)) ⌝ }
+    ensures { λ r. ⌜ left r (now (log .exit)) ≡ packedStep which path tag (quadword low high) used (now (log .entry)) ⌝ }
 {
     let descriptor = descriptor_at(tag, taken(tag));
     if descriptor == 11 {
@@ -68,10 +77,19 @@ fn take_packed(
     let place = place_after(tag);
     let q = packed_q(descriptor, path.q, low, high);
     let writes = packed_writes(descriptor, path.q, low, high);
-    finish(path, Path { q, place }, data_closes(tag), writes, log, used)
+    finish(
+        which,
+        path,
+        Path { q, place },
+        data_closes(tag),
+        writes,
+        log,
+        used,
+    )
 }
 
 fn take_reglist(
+    which: GifPath,
     path: Path,
     tag: HeldTag,
     low: u64,
@@ -80,7 +98,7 @@ fn take_reglist(
     used: u64,
 ) -> GifResult
     requires { ⌜ LogFits (now log) used × TagFits tag ⌝ }
-    ensures { λ r. ⌜ left r (now (log .exit)) ≡ reglistStep path tag (quadword low high) used (now (log .entry)) ⌝ }
+    ensures { λ r. ⌜ left r (now (log .exit)) ≡ reglistStep which path tag (quadword low high) used (now (log .entry)) ⌝ }
 {
     let item = 2 * taken(tag);
     let first = descriptor_at(tag, item);
@@ -94,6 +112,7 @@ fn take_reglist(
     let place = place_after(tag);
     let writes = halves(first, second, low, high);
     finish(
+        which,
         path,
         Path { q: path.q, place },
         data_closes(tag),
@@ -104,6 +123,7 @@ fn take_reglist(
 }
 
 fn take_image(
+    which: GifPath,
     path: Path,
     tag: HeldTag,
     low: u64,
@@ -112,11 +132,12 @@ fn take_image(
     used: u64,
 ) -> GifResult
     requires { ⌜ LogFits (now log) used × TagFits tag ⌝ }
-    ensures { λ r. ⌜ left r (now (log .exit)) ≡ imageStep path tag (quadword low high) used (now (log .entry)) ⌝ }
+    ensures { λ r. ⌜ left r (now (log .exit)) ≡ imageStep which path tag (quadword low high) used (now (log .entry)) ⌝ }
 {
     let place = place_after(tag);
     let writes = image_writes(low, high);
     finish(
+        which,
         path,
         Path { q: path.q, place },
         data_closes(tag),
@@ -126,39 +147,61 @@ fn take_image(
     )
 }
 
-fn take_data(path: Path, tag: HeldTag, low: u64, high: u64, log: &mut [u64], used: u64) -> GifResult
+fn take_data(
+    which: GifPath,
+    path: Path,
+    tag: HeldTag,
+    low: u64,
+    high: u64,
+    log: &mut [u64],
+    used: u64,
+) -> GifResult
     requires { ⌜ LogFits (now log) used × TagFits tag ⌝ }
-    ensures { λ r. ⌜ left r (now (log .exit)) ≡ dataStep (tag .format) path tag (quadword low high) used (now (log .entry)) ⌝ }
+    ensures { λ r. ⌜ left r (now (log .exit)) ≡ dataStep (tag .format) which path tag (quadword low high) used (now (log .entry)) ⌝ }
 {
     let format = tag.format;
     match format {
-        TagFormat::Packed => take_packed(path, tag, low, high, log, used),
-        TagFormat::Reglist => take_reglist(path, tag, low, high, log, used),
-        TagFormat::Image => take_image(path, tag, low, high, log, used),
+        TagFormat::Packed => take_packed(which, path, tag, low, high, log, used),
+        TagFormat::Reglist => take_reglist(which, path, tag, low, high, log, used),
+        TagFormat::Image => take_image(which, path, tag, low, high, log, used),
     }
 }
 
 // Document 01's step, on a log and a path that were tested.
-pub(crate) fn step(path: Path, low: u64, high: u64, log: &mut [u64], used: u64) -> GifResult
+pub(crate) fn step(
+    which: GifPath,
+    path: Path,
+    low: u64,
+    high: u64,
+    log: &mut [u64],
+    used: u64,
+) -> GifResult
     requires { ⌜ LogFits (now log) used × PlaceFits (path .place) ⌝ }
-    ensures { λ r. ⌜ left r (now (log .exit)) ≡ gifStep path (quadword low high) used (now (log .entry)) ⌝ }
+    ensures { λ r. ⌜ left r (now (log .exit)) ≡ gifStep which path (quadword low high) used (now (log .entry)) ⌝ }
 {
     let place = path.place;
     match place {
-        Place::Idle => take_tag(path, low, high, log, used),
-        Place::Data(tag) => take_data(path, tag, low, high, log, used),
+        Place::Idle => take_tag(which, path, low, high, log, used),
+        Place::Data(tag) => take_data(which, path, tag, low, high, log, used),
     }
 }
 
 // One quadword given to a path, on any input at all.
-pub fn take_quadword(path: Path, low: u64, high: u64, log: &mut [u64], used: u64) -> GifResult
-    ensures { λ r. ⌜ left r (now (log .exit)) ≡ takeOf path (quadword low high) used (now (log .entry)) ⌝ }
+pub fn take_quadword(
+    which: GifPath,
+    path: Path,
+    low: u64,
+    high: u64,
+    log: &mut [u64],
+    used: u64,
+) -> GifResult
+    ensures { λ r. ⌜ left r (now (log .exit)) ≡ takeOf which path (quadword low high) used (now (log .entry)) ⌝ }
 {
     if log_refused(log, used) {
         return refuse(refusals::LOG_LENGTH, path, used);
     }
     if path_in_range(path) {
-        step(path, low, high, log, used)
+        step(which, path, low, high, log, used)
     } else {
         refuse(refusals::OUT_OF_RANGE, path, used)
     }

@@ -1,15 +1,15 @@
 // The tag's fields, and what a path holds of a tag.
-use super::Entry;
 use super::HeldTag;
 use super::Place;
 use super::TagFormat;
+use super::Write;
 use super::Writes;
 ghost use mathlib.Core.Path.{_≡_};
 ghost use Prim.Native.Nat.{_≤_};
 ghost use Rattle.fields.specs.Fields.{quadword};
-ghost use Rattle.gif.specs.Log.{listed};
 ghost use Rattle.gif.specs.Range.{TagFits};
 ghost use Rattle.gif.specs.Tag.{formatOf, nregOf, quadwordsOf, tagOf, takenOf, descriptorAt, placeAfter, placeAtTag, tagCloses, dataCloses, tagWrites};
+ghost use Rattle.gif.specs.Inner.{listed};
 
 fn format_of(flg: u64) -> TagFormat
     ensures { λ r. ⌜ r ≡ formatOf flg ⌝ }
@@ -125,7 +125,7 @@ pub(crate) fn tag_writes(low: u64, high: u64) -> Writes
         return Writes::Nothing;
     }
     if low / 288230376151711744 % 4 == 0 {
-        Writes::One(Entry {
+        Writes::One(Write {
             register: 0,
             value: low / 140737488355328 % 2048,
         })

@@ -21,23 +21,23 @@ use Rattle.gif.proofs.image.image_quadwords.Reads as image-quadwords-re
 use Rattle.gif.proofs.step.step.Reads as step-reads
 
 abbrev Inv-loop : tie.InvT-loop
-Inv-loop main a count log₀ used p₀ entries₀ taken₀ packets₀ log p entries taken packets =
+Inv-loop which main a count log₀ used p₀ entries₀ taken₀ packets₀ log p entries taken packets =
     record {
       inner : a + 16 * count ≤ 1048576;
       log-fits : LogFits log entries;
       place-fits : PlaceFits (p .place);
       length : length log ≡ length log₀;
       few : packets ≤ taken;
-      same : plus taken packets (feedsOf main (a + 16 * taken) (count - taken) p entries log) ≡ feedsOf main a count p₀ used log₀;
+      same : plus taken packets (feedsOf which main (a + 16 * taken) (count - taken) p entries log) ≡ feedsOf which main a count p₀ used log₀;
     }
 
 abbrev μ-loop : tie.MeasureT-loop
-μ-loop main a count log₀ used p₀ entries₀ taken₀ packets₀ log p entries taken packets = count - taken
+μ-loop which main a count log₀ used p₀ entries₀ taken₀ packets₀ log p entries taken packets = count - taken
 
 loop-holds : tie.Need-loop-holds Inv-loop μ-loop
 loop-holds c =
     let h = c .before .before .pre in
-    record { inner = h .0; log-fits = h .1 .0; place-fits = h .1 .1; length = refl; few = omega arith; same = feeds-begin _ _ _ _ _ _ }
+    record { inner = h .0; log-fits = h .1 .0; place-fits = h .1 .1; length = refl; few = omega arith; same = feeds-begin _ _ _ _ _ _ _ }
 
 image-at-once-requires : tie.Need-image-at-once-requires Inv-loop μ-loop
 image-at-once-requires c κs = let i = c .before .before .loop .inv in (i .log-fits, i .place-fits)
@@ -69,11 +69,11 @@ loop-again c =
     let i = c .before .before .before .before .before .before .before .before .loop .inv in
     record {
       inner = i .inner;
-      log-fits = image-log-fits (i .log-fits) (g .1) (s .kept .1 .1 .1 .1 .0);
+      log-fits = image-log-fits (i .log-fits) (g .1) (s .kept .1 .1 .1 .1 .1 .0);
       place-fits = s .ensures .stays (i .place-fits);
-      length = s .kept .1 .1 .1 .1 .0 ∙ i .length;
+      length = s .kept .1 .1 .1 .1 .1 .0 ∙ i .length;
       few = let f = i .few in omega arith;
-      same = rw (add-zero _) at (goes-on _ _ _ _ _ _ _ _ (i .same) _ 0 (omega arith) (s .ensures));
+      same = rw (add-zero _) at (goes-on _ _ _ _ _ _ _ _ _ (i .same) _ 0 (omega arith) (s .ensures));
     }
 
 step-requires : tie.Need-step-requires Inv-loop μ-loop
@@ -103,20 +103,20 @@ loop-again-2 c =
     let i = in-loop .before .loop .inv in
     let f = i .few in
     let m = one-most _ (c .one-if .ensures) in
-    let h = leads-one (at-quadword _ _ (stepped .before .before .before .long-at .ensures) (stepped .before .before .long-at2 .ensures) _ _ _ (s .ensures)) (told .answer .given .1) in
+    let h = leads-one (at-quadword _ _ _ (stepped .before .before .before .long-at .ensures) (stepped .before .before .long-at2 .ensures) _ _ _ (s .ensures)) (told .answer .given .1) in
     record {
       inner = i .inner;
-      log-fits = next-log-fits _ _ _ _ (s .ensures) (i .log-fits) (s .kept .1 .1 .1 .0);
+      log-fits = next-log-fits _ _ _ _ _ (s .ensures) (i .log-fits) (s .kept .1 .1 .1 .1 .0);
       place-fits = h .stays (i .place-fits);
-      length = s .kept .1 .1 .1 .0 ∙ i .length;
+      length = s .kept .1 .1 .1 .1 .0 ∙ i .length;
       few = omega arith;
-      same = rw (c .one-if .ensures) (goes-on _ _ _ _ _ _ _ _ (i .same) 1 _ (omega arith) h);
+      same = rw (c .one-if .ensures) (goes-on _ _ _ _ _ _ _ _ _ (i .same) 1 _ (omega arith) h);
     }
 
 same-length : tie.Need-same-length Inv-loop μ-loop
 same-length c =
     let after-step = c .before .before .before .before .before .before .before in
-    after-step .step .kept .1 .1 .1 .0 ∙ after-step .before .before .before .before .before .before .before .before .loop .inv .length
+    after-step .step .kept .1 .1 .1 .1 .0 ∙ after-step .before .before .before .before .before .before .before .before .loop .inv .length
 
 returns : tie.Need-returns Inv-loop μ-loop
 returns c =
@@ -124,11 +124,11 @@ returns c =
     let in-loop = after-step .before .before .before .before .before .before .before in
     let i = in-loop .before .loop .inv in
     rw (c .ended .ensures)
-    (ends-refused _ _ _ _ _ _ _ _ (i .same) (in-loop .loop-test .taken) (after-step .before .before .before .long-at .ensures) (after-step .before .before .long-at2 .ensures) (after-step .step .ensures)
+    (ends-refused _ _ _ _ _ _ _ _ _ (i .same) (in-loop .loop-test .taken) (after-step .before .before .before .long-at .ensures) (after-step .before .before .long-at2 .ensures) (after-step .step .ensures)
     (c .before .before .answer2 .given .1) (i .log-fits .holds))
 
 returns-2 : tie.Need-returns-2 Inv-loop μ-loop
-returns-2 c = rw (c .ended2 .ensures) (ends-all _ _ _ _ _ _ _ _ (c .before .before .loop .inv .same) (c .before .loop-test .left))
+returns-2 c = rw (c .ended2 .ensures) (ends-all _ _ _ _ _ _ _ _ _ (c .before .before .loop .inv .same) (c .before .loop-test .left))
 
 pub feed-spec : {M : Type 1} → statement M
 feed-spec =

@@ -7,10 +7,10 @@ feed-requires : tie.Need-feed-requires
 feed-requires c κs = let m = c .before in fed-fits _ _ _ _ _ _ (m .before .feed-refusal .ensures) (m .if1 .taken)
 
 returns : tie.Need-returns
-returns c = let f = c .before .before in fed-tested _ _ _ _ _ _ (f .before .before .before .feed-refusal .ensures) (f .before .before .if1 .taken) (f .feed .ensures)
+returns c = let f = c .before .before in fed-tested _ _ _ _ _ _ (f .before .before .before .feed-refusal .ensures) _ (f .before .before .if1 .taken) (f .feed .ensures)
 
 returns-2 : tie.Need-returns-2
-returns-2 c = rw (c .ended .ensures) (fed-none _ _ _ _ _ _ (c .before .before .feed-refusal .ensures) (c .before .if1 .left))
+returns-2 c = rw (c .ended .ensures) (fed-none _ _ _ _ _ _ (c .before .before .feed-refusal .ensures) _ (c .before .if1 .left))
 
 pub take-quadwords-spec : {M : Type 1} → statement M
 take-quadwords-spec =

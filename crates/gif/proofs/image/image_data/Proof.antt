@@ -13,18 +13,18 @@ use Rattle.gif.proofs.image.image_writes.Reads as image-writes-reads
 use Rattle.gif.proofs.log.store.Reads as store-reads
 
 abbrev Inv-loop : tie.InvT-loop
-Inv-loop q tag main a n log₀ used k₀ log k =
+Inv-loop which q tag main a n log₀ used k₀ log k =
     record {
       lengths : length log ≡ length log₀;
       few : k ≤ n;
-      leads : Stored main a used log₀ q tag k log;
+      leads : Stored which main a used log₀ q tag k log;
     }
 
 abbrev μ-loop : tie.MeasureT-loop
-μ-loop q tag main a n log₀ used k₀ log k = n - k
+μ-loop which q tag main a n log₀ used k₀ log k = n - k
 
 loop-holds : tie.Need-loop-holds Inv-loop μ-loop
-loop-holds c = record { lengths = refl; few = omega arith; leads = image-begins _ _ _ _ _ _ }
+loop-holds c = record { lengths = refl; few = omega arith; leads = image-begins _ _ _ _ _ _ _ }
 
 store-requires : tie.Need-store-requires Inv-loop μ-loop
 store-requires c κs = rw (c .image-writes .ensures) (omega arith)
@@ -39,7 +39,7 @@ loop-again c =
       lengths = l ∙ i .lengths;
       few = omega arith;
       leads =
-          image-more _ _ _ _ _ (c .before .before .before .before .before .before .before .before .before .before .before .args .tag) (omega (arith, g .ahead)) (omega (arith, g .room)) (c .before .before .before .before .before .before .long-at .ensures) (c .before .before .before .before .before .long-at2 .ensures) (search needs) (search needs) (c .before .before .before .image-writes .ensures) (c .before .before .store .ensures)
+          image-more _ _ _ _ _ _ (c .before .before .before .before .before .before .before .before .before .before .before .args .tag) (omega (arith, g .ahead)) (omega (arith, g .room)) (c .before .before .before .before .before .before .long-at .ensures) (c .before .before .before .before .before .long-at2 .ensures) (search needs) (search needs) (c .before .before .before .image-writes .ensures) (c .before .before .store .ensures)
           (i .leads);
     }
 

@@ -11,13 +11,13 @@ mul-if1 : tie.Need-mul-if1
 mul-if1 c = omega (arith, listed-most (c .before .before .args .writes), c .count .ensures)
 
 full : tie.Need-returns
-full c = commit-full _ _ _ _ _ _ (c .before .count .ensures) (c .if1 .taken)
+full c = commit-full _ _ _ _ _ _ _ (c .before .count .ensures) (c .if1 .taken)
 
 fits : tie.Need-returns-2
 fits c =
     let stored = c .before .before in
     let tested = stored .before .before in
-    commit-fits _ _ _ _ _ _ (tested .before .count .ensures) (tested .if1 .left) (stored .store .ensures)
+    commit-fits _ _ _ _ _ _ _ (tested .before .count .ensures) (tested .if1 .left) (stored .store .ensures)
 
 pub finish-spec : {M : Type 1} → statement M
 finish-spec =

@@ -32,7 +32,7 @@ same-length c = search needs
 -- src/step.rt:139:1
 returns : tie.Need-returns
 unfolding gifStep
-returns c = by-place (c .before .before .before .before .enum-told .given .1) _ _ _ _ (c .before .before .take-tag .ensures)
+returns c = by-place (c .before .before .before .before .enum-told .given .1) _ _ _ _ _ (c .before .before .take-tag .ensures)
 
 -- src/step.rt:139:1
 same-length-2 : tie.Need-same-length-2
@@ -41,7 +41,7 @@ same-length-2 c = search needs
 -- src/step.rt:139:1
 returns-2 : tie.Need-returns-2
 unfolding gifStep
-returns-2 c = by-place (c .before .before .before .before .before .place .given .1) _ _ _ _ (c .before .before .take-data .ensures)
+returns-2 c = by-place (c .before .before .before .before .before .place .given .1) _ _ _ _ _ (c .before .before .take-data .ensures)
 
 pub step-spec : {M : Type 1} → statement M
 step-spec =

@@ -38,7 +38,7 @@ same-length c = search needs
 
 -- src/step.rt:126:1
 returns : tie.Need-returns
-returns c = by-format (c .before .before .before .before .enum-told .given .1) _ _ _ _ _ (c .before .before .take-packed .ensures)
+returns c = by-format (c .before .before .before .before .enum-told .given .1) _ _ _ _ _ _ (c .before .before .take-packed .ensures)
 
 -- src/step.rt:126:1
 same-length-2 : tie.Need-same-length-2
@@ -46,7 +46,7 @@ same-length-2 c = search needs
 
 -- src/step.rt:126:1
 returns-2 : tie.Need-returns-2
-returns-2 c = by-format (c .before .before .before .before .enum-told2 .given .1) _ _ _ _ _ (c .before .before .take-reglist .ensures)
+returns-2 c = by-format (c .before .before .before .before .enum-told2 .given .1) _ _ _ _ _ _ (c .before .before .take-reglist .ensures)
 
 -- src/step.rt:126:1
 same-length-3 : tie.Need-same-length-3
@@ -54,7 +54,7 @@ same-length-3 c = search needs
 
 -- src/step.rt:126:1
 returns-3 : tie.Need-returns-3
-returns-3 c = by-format (c .before .before .before .before .enum-told3 .given .1) _ _ _ _ _ (c .before .before .take-image .ensures)
+returns-3 c = by-format (c .before .before .before .before .enum-told3 .given .1) _ _ _ _ _ _ (c .before .before .take-image .ensures)
 
 pub take-data-spec : {M : Type 1} → statement M
 take-data-spec =

@@ -17,13 +17,13 @@ add-second-descriptor c =
 first-refused : tie.Need-returns
 first-refused c =
     let second = c .before .before in
-    reglist-refused _ _ _ _ _ _ (second .before .before .taken .ensures) (second .before .descriptor-at .ensures) (second .second-descriptor .ensures) (simp (eq-eqb _ _ (c .before .if1 .taken))) (c .refuse .ensures)
+    reglist-refused _ _ _ _ _ _ _ (second .before .before .taken .ensures) (second .before .descriptor-at .ensures) (second .second-descriptor .ensures) (simp (eq-eqb _ _ (c .before .if1 .taken))) (c .refuse .ensures)
 
 second-refused : tie.Need-returns-2
 second-refused c =
     let first = c .before .before in
     let second = first .before in
-    reglist-refused _ _ _ _ _ _ (second .before .before .taken .ensures) (second .before .descriptor-at .ensures) (second .second-descriptor .ensures) (simp (ne-eqb _ _ (first .if1 .left), eq-eqb _ _ (c .before .if2 .taken))) (c .refuse2 .ensures)
+    reglist-refused _ _ _ _ _ _ _ (second .before .before .taken .ensures) (second .before .descriptor-at .ensures) (second .second-descriptor .ensures) (simp (ne-eqb _ _ (first .if1 .left), eq-eqb _ _ (c .before .if2 .taken))) (c .refuse2 .ensures)
 
 taken : tie.Need-returns-3
 taken c =
@@ -35,7 +35,7 @@ taken c =
     let first = tested .before in
     let second = first .before in
     let start = second .before .before .before .before in
-    reglist-taken _ _ _ _ _ _ (second .before .before .taken .ensures) (second .before .descriptor-at .ensures) (second .second-descriptor .ensures) (simp (ne-eqb _ _ (first .if1 .left), ne-eqb _ _ (tested .if2 .left))) (let l = start .fits .low in omega arith) (let h = start .fits .high in omega arith) (place .place-after .ensures) (closes .data-closes .ensures) (writes .halves .ensures) (finished .finish .ensures)
+    reglist-taken _ _ _ _ _ _ _ (second .before .before .taken .ensures) (second .before .descriptor-at .ensures) (second .second-descriptor .ensures) (simp (ne-eqb _ _ (first .if1 .left), ne-eqb _ _ (tested .if2 .left))) (let l = start .fits .low in omega arith) (let h = start .fits .high in omega arith) (place .place-after .ensures) (closes .data-closes .ensures) (writes .halves .ensures) (finished .finish .ensures)
 
 pub take-reglist-spec : {M : Type 1} → statement M
 take-reglist-spec =
