@@ -15,7 +15,7 @@ dataLength = 2
 abbrev pub codeLength : ℕ
 codeLength = 3
 
--- "4 log length odd, above 131,072 numbers, or below twice the entries used"
+-- "4 log length ...", of which request 11 says: "4 now means a length not a multiple of 3, above 196,608 numbers, or below three times the entries used"
 abbrev pub logLength : ℕ
 logLength = 4
 

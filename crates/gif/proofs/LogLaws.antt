@@ -1,12 +1,12 @@
 -- The log: what entries leave in it.
-use mathlib.Core.Path.{_≡_, refl, _∙_, ap}
+use mathlib.Core.Path.{_≡_, refl, sym, _∙_, ap}
 use mathlib.Core.Bool.{Bool, true, false}
 use mathlib.Core.List.{List, [], _∷_, _++_, append-assoc}
-use Prim.Native.Nat.{ℕ, suc, _+_, _*_, _-_, _/_, _%_, _<_, _≤_}
+use Prim.Native.Nat.{ℕ, zero, suc, _+_, _*_, _-_, _/_, _%_, _<_, _≤_}
 use native.Mathlib.Omega.{arith}
 use borrow.Author.Tests.{lt-ltb, le-ltb, ltb-true, ltb-false}
 use lib.ListN.{length, set, take, drop, length-append}
-use lib.Seq.{length-sets, sets-eq, length-take-le, take-at, drop-at}
+use lib.Seq.{sets, length-sets, sets-eq, length-take-le, take-at, drop-at}
 use lib.Dec.{eqb, ltb}
 use Rattle.gif.specs.declared.GifPath.{GifPath}
 use Rattle.gif.specs.declared.Write.{Write}
@@ -18,7 +18,7 @@ use Rattle.gif.specs.declared.Writes.the-variants.{Nothing, One, Two}
 use Rattle.fields.specs.Fields.{if}
 use Rattle.fields.specs.Refusals.{logFull}
 use Rattle.fields.proofs.ListLaws.{sets-then}
-use Rattle.gif.specs.Log.{entrySize, HasRoom, numbers, entriesBy, logged, lacksRoom, Entered, entered, entryOf}
+use Rattle.gif.specs.Log.{entrySize, HasRoom, numbers, entriesIn, entriesBy, logged, lacksRoom, Entered, entered, entryOf}
 use Rattle.gif.specs.Step.{Left, refused, commit}
 use Rattle.gif.specs.Inner.{listed}
 
@@ -82,6 +82,23 @@ pub numbers-append : (es fs : List Entry) → numbers (es ++ fs) ≡ numbers es 
 numbers-append [] fs = refl
 numbers-append (e ∷ es) fs = rw (numbers-append es fs)
 
+-- the entries in a log are its first numbers
+pub numbers-in : (log : List ℕ) (n : ℕ) → entrySize * n ≤ length log → numbers (entriesIn log n) ≡ take (entrySize * n) log
+numbers-in log zero h = refl
+numbers-in [] (suc n) h = absurd (omega arith)
+numbers-in (p ∷ []) (suc n) h = absurd (omega arith)
+numbers-in (p ∷ r ∷ []) (suc n) h = absurd (omega arith)
+numbers-in (p ∷ r ∷ v ∷ log) (suc n) h =
+    let e : entrySize * suc n ≡ suc (suc (suc (entrySize * n))) = omega arith in
+    rw (e, numbers-in log n (omega arith))
+
+pub in-count : (log : List ℕ) (n : ℕ) → entrySize * n ≤ length log → length (entriesIn log n) ≡ n
+in-count log zero h = refl
+in-count [] (suc n) h = absurd (omega arith)
+in-count (p ∷ []) (suc n) h = absurd (omega arith)
+in-count (p ∷ r ∷ []) (suc n) h = absurd (omega arith)
+in-count (p ∷ r ∷ v ∷ log) (suc n) h = ap suc (in-count log n (omega arith))
+
 -- entries, and then more of them
 pub logged-then : (log : List ℕ) (used : ℕ) (es fs : List Entry) → logged (logged log used es) (used + length es) fs ≡ logged log used (es ++ fs)
 unfolding logged
@@ -125,6 +142,11 @@ module _ (log : List ℕ) (used : ℕ) (e : Entry) where
   pub entry-full : length log < entrySize * (used + 1) → entered false log ≡ entryOf log used e
   unfolding entryOf lacksRoom if
   entry-full h = rw (lt-ltb (length log) (entrySize * (used + 1)) h)
+
+  -- what a call left of the log where there is room
+  pub entry-put : {b : Bool} {m : List ℕ} → entered b m ≡ entryOf log used e → HasRoom log used 1 → m ≡ sets log (entrySize * used) (numbers (e ∷ []))
+  unfolding logged
+  entry-put q h = ap (λ (x : Entered). x .log) (q ∙ sym (entry-fits h refl))
 
   -- what was stored says of the room
   pub entry-stored : {b : Bool} {m : List ℕ} → entered b m ≡ entryOf log used e → b ≡ true → HasRoom log used 1

@@ -1,5 +1,5 @@
 -- The log: document 01's "Each write is a log entry" and request 11's "A log entry becomes three numbers: path, register, value."
-use Prim.Native.Nat.{ℕ, _+_, _*_, _%_, _≤_}
+use Prim.Native.Nat.{ℕ, zero, suc, _+_, _*_, _%_, _≤_}
 use mathlib.Core.Bool.{Bool, true, false, not, _||_}
 use mathlib.Core.List.{List, [], _∷_}
 use lib.ListN.{length}
@@ -22,6 +22,14 @@ entry p r v = record { path = p; register = r; value = v }
 abbrev pub numbers : List Entry → List ℕ
 numbers [] = []
 numbers (e ∷ es) = e .path ∷ e .register ∷ e .value ∷ numbers es
+
+-- the first n entries of a log
+abbrev pub entriesIn : List ℕ → ℕ → List Entry
+entriesIn log zero = []
+entriesIn [] (suc n) = []
+entriesIn (p ∷ []) (suc n) = []
+entriesIn (p ∷ r ∷ []) (suc n) = []
+entriesIn (p ∷ r ∷ v ∷ log) (suc n) = entry p r v ∷ entriesIn log n
 
 -- "Path is 2 or 3 for GIF writes"
 abbrev pub pathNumber : GifPath → ℕ

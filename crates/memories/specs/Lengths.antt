@@ -1,5 +1,5 @@
--- The lengths that are refused: document 01's "2 data memory not 4,096 words; 3 code memory not 16,384 bytes; 4 log length odd, above 131,072 numbers, or
--- below twice the entries used", by the unit whose memories are lent; VIF0's, by request 10, "as 1,024 words and 4,096 bytes".
+-- The lengths that are refused: document 01's "2 data memory not 4,096 words; 3 code memory not 16,384 bytes", by the unit whose memories are lent, VIF0's, by
+-- request 10, "as 1,024 words and 4,096 bytes"; then 4 as request 11 has it.
 use Prim.Native.Nat.{ℕ}
 use mathlib.Core.Bool.{not, false}
 use mathlib.Core.Path.{_≡_}
