@@ -7,7 +7,8 @@ use borrow.Author.Tests.{ne-eqb, lt-ltb, le-ltb}
 use lib.ListN.{length}
 use Rattle.fields.specs.Fields.{if}
 use Rattle.gif.proofs.RangeLaws.{log-fits}
-use Rattle.gif.specs.Log.{entrySize}
+use Rattle.gif.specs.Log.{entrySize, entriesIn}
+use Rattle.gif.proofs.LogLaws.{in-count}
 use Rattle.memories.specs.declared.VifUnit.the-variants.{Vif1}
 use Rattle.memories.specs.Units.{dataWords, codeBytes}
 use Rattle.memories.specs.Lengths.{lent}
@@ -19,12 +20,12 @@ use Rattle.sheet.specs.declared.totals.Measured.the-variants.{Whole, Ref
 use Rattle.sheet.specs.Reader.{contentsFrom, contentsOf}
 use Rattle.sheet.specs.Sizes.{sheetEntries}
 use Rattle.sheet.specs.Meaning.{plain, meaningOf}
-use Rattle.sheet.specs.Results.{entriesIn, left, lengthRefusal, meaningOfSheet}
+use Rattle.sheet.specs.Results.{left, lengthRefusal, meaningOfSheet}
 use Rattle.sheet.specs.Inner.{measuredOf}
 use Rattle.sheet.specs.Fed.{Fed, fed, fedIn, Feeds, Means}
 use Rattle.sheet.proofs.WholeLaws.{from-start}
 use Rattle.sheet.proofs.TotalsLaws.{measured-whole, measured-refused}
-use Rattle.sheet.proofs.MeaningLaws.{in-count, log-same}
+use Rattle.sheet.proofs.MeaningLaws.{log-same}
 use Rattle.sheet.proofs.FedLaws.{fedPlain, fed-sheet}
 
 -- lengths that are accepted

@@ -4,6 +4,7 @@ use mathlib.Core.List.{List, [], _∷_}
 use Prim.Native.Nat.{ℕ, _+_, _*_, _≤_}
 use native.Mathlib.Omega.{arith}
 use lib.ListN.{length, length-append}
+use Rattle.gif.specs.declared.Entry.{Entry}
 use Rattle.gif.specs.Log.{entrySize}
 use Rattle.sheet.specs.declared.Kind.{Kind}
 use Rattle.sheet.specs.declared.Reading.{Reading}
@@ -11,7 +12,7 @@ use Rattle.sheet.specs.declared.Reading.the-variants.{End, Found}
 use Rattle.sheet.specs.Records.{Record}
 use Rattle.sheet.specs.Reader.{readingAt, contentsFrom}
 use Rattle.sheet.specs.Sizes.{entriesOf, sheetEntries}
-use Rattle.sheet.specs.Meaning.{Entry, Plain, plain, entriesBy, fedRecord, meaningOf}
+use Rattle.sheet.specs.Meaning.{Plain, plain, entriesBy, fedRecord, meaningOf}
 use Rattle.sheet.specs.Results.{logWith}
 use Rattle.sheet.specs.Fed.{Fed, fed, fedBy, fedAll, fedIn, FeedRoom, Feeds}
 use Rattle.sheet.proofs.MeaningLaws.{row-count, fed-count, log-then}

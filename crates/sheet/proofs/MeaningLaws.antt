@@ -7,15 +7,17 @@ use native.Mathlib.Numerals.{add-one}
 use native.Mathlib.Omega.{arith}
 use lib.ListN.{length, getD, set, take, drop, length-append, length-drop, take-append-drop}
 use lib.Seq.{sets, length-sets, sets-eq, take-at, drop-append-add, drop-drop}
-use Rattle.gif.specs.Log.{entrySize}
+use Rattle.gif.specs.declared.Entry.{Entry}
+use Rattle.gif.specs.Log.{entrySize, entry, numbers, entriesIn}
+use Rattle.gif.proofs.LogLaws.{numbers-length, numbers-append, numbers-in, in-count}
 use Rattle.memories.specs.declared.VifUnit.the-variants.{Vif1}
 use Rattle.memories.specs.Units.{quadwords, instructions}
 use Rattle.sheet.specs.declared.Kind.{Kind}
 use Rattle.sheet.specs.declared.Kind.the-variants.{Data, Code, Gs, Start}
 use Rattle.sheet.specs.Records.{Record, bytesAt, number}
 use Rattle.sheet.specs.Sizes.{entriesOf, sheetEntries}
-use Rattle.sheet.specs.Meaning.{Entry, entry, Plain, plain, vectorOf, putVectors, putInstructions, entryAt, entriesAt, entriesBy, memBy, codeBy, fedRecord, meaningOf}
-use Rattle.sheet.specs.Results.{numbersOf, entriesIn, logWith}
+use Rattle.sheet.specs.Meaning.{Plain, plain, vectorOf, putVectors, putInstructions, entryAt, entriesAt, entriesBy, memBy, codeBy, fedRecord, meaningOf}
+use Rattle.sheet.specs.Results.{logWith}
 use Rattle.sheet.specs.Fed.{vectorAt}
 use Rattle.sheet.proofs.ByteLaws.{bytes-inside, bytes-more, bytes-four}
 
@@ -75,7 +77,7 @@ module _ {puts : ℕ → ℕ → List ℕ → List ℕ} {place : ℕ → ℕ} {i
 
 -- entries into a log, those from number j on behind the ones before them
 unfoldable pub putEntries : ℕ → List ℕ → ℕ → ℕ → List ℕ → List ℕ
-putEntries used body n j log = sets log (entrySize * (used + j)) (numbersOf (entriesAt body n j))
+putEntries used body n j log = sets log (entrySize * (used + j)) (numbers (entriesAt body n j))
 
 module _ (a : ℕ) (body : List ℕ) where
   pub vector-turns : Turns (putVectors a body) (λ (j : ℕ). 4 * ((a + j) % quadwords Vif1)) (vectorOf body)
@@ -86,13 +88,13 @@ module _ (a : ℕ) (body : List ℕ) where
   unfolding putInstructions
   instruction-turns = record { none = λ j m. refl; more = λ n j m. refl }
 
-  pub entry-turns : Turns (putEntries a body) (λ (j : ℕ). entrySize * (a + j)) (λ (j : ℕ). numbersOf (entryAt body j ∷ []))
+  pub entry-turns : Turns (putEntries a body) (λ (j : ℕ). entrySize * (a + j)) (λ (j : ℕ). numbers (entryAt body j ∷ []))
   unfolding putEntries entriesAt
   entry-turns =
-      record { none = λ j m. refl; more = λ n j m. let e : entrySize * (a + suc j) ≡ suc (suc (entrySize * (a + j))) = omega arith in rw e }
+      record { none = λ j m. refl; more = λ n j m. let e : entrySize * (a + suc j) ≡ suc (suc (suc (entrySize * (a + j)))) = omega arith in rw e }
 
 -- all entries
-pub entries-all : (used : ℕ) (body : List ℕ) (n : ℕ) (log : List ℕ) → putEntries used body n 0 log ≡ sets log (entrySize * used) (numbersOf (entriesAt body n 0))
+pub entries-all : (used : ℕ) (body : List ℕ) (n : ℕ) (log : List ℕ) → putEntries used body n 0 log ≡ sets log (entrySize * used) (numbers (entriesAt body n 0))
 unfolding putEntries
 entries-all used body n log = rw add-zero
 
@@ -121,7 +123,7 @@ module _ (l : List ℕ) (b n j : ℕ) (h : j < n) where
   instruction-inside = rw (bytes-inside l b (8 * n) (8 * j) 8 {k = b + 8 * j} (omega arith) refl)
 
   pub entry-inside : {r v : ℕ} → b + 16 * n ≤ length l → r ≡ getD l (b + 16 * j + 8) 0 → v ≡ number (bytesAt l (b + 16 * j) 8)
-      → numbersOf (entry r v ∷ []) ≡ numbersOf (entryAt (bytesAt l b (16 * n)) j ∷ [])
+      → numbers (entry 2 r v ∷ []) ≡ numbers (entryAt (bytesAt l b (16 * n)) j ∷ [])
   entry-inside f er ev =
       rw (
         er,
@@ -196,29 +198,6 @@ meaning-kept (r ∷ rs) x =
 
 -- ---- the log
 
-pub numbers-length : (es : List Entry) → length (numbersOf es) ≡ entrySize * length es
-numbers-length [] = refl
-numbers-length (e ∷ es) = let h = numbers-length es in omega arith
-
-numbers-append : (es fs : List Entry) → numbersOf (es ++ fs) ≡ numbersOf es ++ numbersOf fs
-numbers-append [] fs = refl
-numbers-append (e ∷ es) fs = rw (numbers-append es fs)
-
--- the entries in a log are its first numbers
-numbers-in : (log : List ℕ) (n : ℕ) → entrySize * n ≤ length log → numbersOf (entriesIn log n) ≡ take (entrySize * n) log
-numbers-in log zero h = refl
-numbers-in [] (suc n) h = absurd (omega arith)
-numbers-in (r ∷ []) (suc n) h = absurd (omega arith)
-numbers-in (r ∷ v ∷ log) (suc n) h =
-    let e : entrySize * suc n ≡ suc (suc (entrySize * n)) = omega arith in
-    rw (e, numbers-in log n (omega arith))
-
-pub in-count : (log : List ℕ) (n : ℕ) → entrySize * n ≤ length log → length (entriesIn log n) ≡ n
-in-count log zero h = refl
-in-count [] (suc n) h = absurd (omega arith)
-in-count (r ∷ []) (suc n) h = absurd (omega arith)
-in-count (r ∷ v ∷ log) (suc n) h = ap suc (in-count log n (omega arith))
-
 pub log-same : (log : List ℕ) (n : ℕ) → entrySize * n ≤ length log → logWith (entriesIn log n) log ≡ log
 log-same log n h = rw (in-count log n h, numbers-in log n h) (take-append-drop (entrySize * n) log)
 
@@ -229,16 +208,16 @@ sets-seam p q ys n e h =
 
 -- stores behind the first entries add entries
 pub log-then : (es fs : List Entry) (log : List ℕ) → entrySize * (length es + length fs) ≤ length log
-    → sets (logWith es log) (entrySize * length es) (numbersOf fs) ≡ logWith (es ++ fs) log
+    → sets (logWith es log) (entrySize * length es) (numbers fs) ≡ logWith (es ++ fs) log
 log-then es fs log h =
     let m = numbers-length fs in
     let k : entrySize * length es + entrySize * length fs ≡ entrySize * (length es + length fs) = omega arith in
-    sets-seam (numbersOf es) (drop (entrySize * length es) log) (numbersOf fs) (entrySize * length es) (numbers-length es) (rw (length-drop (entrySize * length es) log) (omega arith))
-    ∙ rw (drop-drop (length (numbersOf fs)) (entrySize * length es) log, m, k, numbers-append es fs, length-append es fs)
+    sets-seam (numbers es) (drop (entrySize * length es) log) (numbers fs) (entrySize * length es) (numbers-length es) (rw (length-drop (entrySize * length es) log) (omega arith))
+    ∙ rw (drop-drop (length (numbers fs)) (entrySize * length es) log, m, k, numbers-append es fs, length-append es fs)
 
 -- entries more in a log
 pub log-more : (log : List ℕ) (used : ℕ) (es : List Entry) → entrySize * (used + length es) ≤ length log
-    → logWith (entriesIn log used ++ es) log ≡ sets log (entrySize * used) (numbersOf es)
+    → logWith (entriesIn log used ++ es) log ≡ sets log (entrySize * used) (numbers es)
 log-more log used es h =
     let n = in-count log used (omega arith) in
     sym (log-then (entriesIn log used) es log (rw n h)) ∙ rw (log-same log used (omega arith), n)

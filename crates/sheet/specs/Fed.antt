@@ -4,7 +4,7 @@ use mathlib.Core.Path.{_≡_}
 use mathlib.Core.List.{List, [], _∷_}
 use lib.ListN.{length}
 use lib.Seq.{sets}
-use Rattle.gif.specs.Log.{entrySize}
+use Rattle.gif.specs.Log.{entrySize, numbers}
 use Rattle.memories.specs.declared.VifUnit.the-variants.{Vif1}
 use Rattle.memories.specs.Units.{dataWords, codeBytes}
 use Rattle.sheet.specs.declared.Kind.{Kind}
@@ -12,7 +12,7 @@ use Rattle.sheet.specs.Records.{Record, bodyLength, bytesAt, number}
 use Rattle.sheet.specs.Reader.{Contents, valid, refused, contentsFrom, contentsOf}
 use Rattle.sheet.specs.Sizes.{entriesOf, sheetEntries}
 use Rattle.sheet.specs.Meaning.{entriesBy, memBy, codeBy}
-use Rattle.sheet.specs.Results.{numbersOf, lengthRefusal}
+use Rattle.sheet.specs.Results.{lengthRefusal}
 
 -- a vector at a place: its four fields
 abbrev pub vectorAt : List ℕ → ℕ → List ℕ
@@ -37,7 +37,7 @@ fed mem code log used = record { mem = mem; code = code; log = log; used = used 
 unfoldable pub fedBy : Record → Fed → Fed
 fedBy r x =
     fed (memBy (r .kind) (r .count) (r .address) (r .body) (x .mem)) (codeBy (r .kind) (r .count) (r .address) (r .body) (x .code))
-    (sets (x .log) (entrySize * x .used) (numbersOf (entriesBy (r .kind) (r .count) (r .address) (r .body))))
+    (sets (x .log) (entrySize * x .used) (numbers (entriesBy (r .kind) (r .count) (r .address) (r .body))))
     (x .used + entriesOf (r .kind) (r .count))
 
 -- what records do to them, in order

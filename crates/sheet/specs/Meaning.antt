@@ -4,19 +4,13 @@
 use Prim.Native.Nat.{ℕ, zero, suc, _+_, _*_, _%_}
 use mathlib.Core.List.{List, [], _∷_, _++_}
 use lib.Seq.{sets}
+use Rattle.gif.specs.declared.Entry.{Entry}
+use Rattle.gif.specs.Log.{entry}
 use Rattle.memories.specs.declared.VifUnit.the-variants.{Vif1}
 use Rattle.memories.specs.Units.{quadwords, instructions}
 use Rattle.sheet.specs.declared.Kind.{Kind}
 use Rattle.sheet.specs.declared.Kind.the-variants.{Data, Code, Gs, Start}
 use Rattle.sheet.specs.Records.{Record, bytesAt, number}
-
--- "Each write is a log entry: register, value"
-pub record Entry : Type 0 where
-  pub register : ℕ
-  pub value : ℕ
-
-abbrev pub entry : ℕ → ℕ → Entry
-entry r v = record { register = r; value = v }
 
 -- the machine's state: data memory by words, code memory by bytes, and the list of log entries
 pub record Plain : Type 0 where
@@ -46,21 +40,21 @@ unfoldable pub putInstructions : ℕ → List ℕ → ℕ → ℕ → List ℕ �
 putInstructions a body zero j code = code
 putInstructions a body (suc n) j code = putInstructions a body n (suc j) (sets code (8 * ((a + j) % instructions Vif1)) (bytesAt body (8 * j) 8))
 
--- "16n: value 8, register 1, zero 7": entry j
+-- "16n: value 8, register 1, zero 7": entry j; request 11: "In a sheet's meaning, GS entries have path 2"
 abbrev pub entryAt : List ℕ → ℕ → Entry
-entryAt body j = entry (number (bytesAt body (16 * j + 8) 1)) (number (bytesAt body (16 * j) 8))
+entryAt body j = entry 2 (number (bytesAt body (16 * j + 8) 1)) (number (bytesAt body (16 * j) 8))
 
 -- "n log entries": those from number j on
 unfoldable pub entriesAt : List ℕ → ℕ → ℕ → List Entry
 entriesAt body zero j = []
 entriesAt body (suc n) j = entryAt body j ∷ entriesAt body n (suc j)
 
--- the entries of a record; "log entry 256, address"
+-- the entries of a record; "log entry 256, address"; request 11: "and start entries path 0"
 abbrev pub entriesBy : Kind → ℕ → ℕ → List ℕ → List Entry
 entriesBy Data n a body = []
 entriesBy Code n a body = []
 entriesBy Gs n a body = entriesAt body n 0
-entriesBy Start n a body = entry 256 a ∷ []
+entriesBy Start n a body = entry 0 256 a ∷ []
 
 abbrev pub memBy : Kind → ℕ → ℕ → List ℕ → List ℕ → List ℕ
 memBy Data n a body mem = putVectors a body n 0 mem

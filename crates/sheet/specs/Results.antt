@@ -1,11 +1,12 @@
 -- The steps and the meaning of a sheet as functions answer them, refused sheets included.
-use Prim.Native.Nat.{ℕ, zero, suc, _+_, _*_}
-use mathlib.Core.List.{List, [], _∷_, _++_}
+use Prim.Native.Nat.{ℕ, _+_, _*_}
+use mathlib.Core.List.{List, _++_}
 use lib.ListN.{length, drop}
 use lib.Dec.{eqb, ltb}
 use Rattle.fields.specs.Fields.{if}
 use Rattle.fields.specs.Refusals.{logFull}
-use Rattle.gif.specs.Log.{entrySize}
+use Rattle.gif.specs.declared.Entry.{Entry}
+use Rattle.gif.specs.Log.{entrySize, numbers, entriesIn}
 use Rattle.memories.specs.declared.VifUnit.the-variants.{Vif1}
 use Rattle.memories.specs.Lengths.{lent, lengthsRefusal}
 use Rattle.sheet.specs.declared.StepsAnswer.{StepsAnswer}
@@ -14,7 +15,7 @@ use Rattle.sheet.specs.declared.MeaningAnswer.{MeaningAnswer}
 use Rattle.sheet.specs.declared.MeaningAnswer.the-variants.{Meant, Refused as MeaningRefused}
 use Rattle.sheet.specs.Reader.{Contents, valid, refused, contentsOf}
 use Rattle.sheet.specs.Sizes.{sheetSteps, sheetEntries}
-use Rattle.sheet.specs.Meaning.{Entry, entry, Plain, plain, meaningOf}
+use Rattle.sheet.specs.Meaning.{Plain, plain, meaningOf}
 
 -- the steps of a sheet, or its refusal (46, 40 to 45)
 abbrev pub stepsIn : Contents → StepsAnswer
@@ -24,21 +25,9 @@ stepsIn (refused n offset) = StepsRefused n offset
 abbrev pub stepsOfSheet : List ℕ → StepsAnswer
 stepsOfSheet sheet = stepsIn (contentsOf sheet)
 
--- "register, value, two 64-bit numbers": entries as they stand in a log
-abbrev pub numbersOf : List Entry → List ℕ
-numbersOf [] = []
-numbersOf (e ∷ es) = e .register ∷ e .value ∷ numbersOf es
-
--- the first entries of a log
-abbrev pub entriesIn : List ℕ → ℕ → List Entry
-entriesIn log zero = []
-entriesIn [] (suc n) = []
-entriesIn (r ∷ []) (suc n) = []
-entriesIn (r ∷ v ∷ log) (suc n) = entry r v ∷ entriesIn log n
-
 -- a log whose first entries are these, the numbers past them as they were
 abbrev pub logWith : List Entry → List ℕ → List ℕ
-logWith es log = numbersOf es ++ drop (entrySize * length es) log
+logWith es log = numbers es ++ drop (entrySize * length es) log
 
 -- what `meaning` leaves
 pub record Left : Type 0 where

@@ -14,18 +14,21 @@ ghost use mathlib.Core.List.{[], _∷_};
 ghost use Prim.Native.Nat.{_+_, _*_, _<_, _≤_};
 ghost use lib.ListN.{length};
 ghost use lib.Seq.{sets};
-ghost use Rattle.gif.specs.Log.{entrySize};
+ghost use Rattle.gif.specs.Log.{entrySize, entry, numbers};
 ghost use Rattle.memories.specs.declared.VifUnit.the-variants.{Vif1};
 ghost use Rattle.memories.specs.Units.{dataWords, codeBytes};
 ghost use Rattle.sheet.specs.Records.{recordOf, bodyLength, bytesAt, number};
 ghost use Rattle.sheet.specs.Reader.{contentsFrom};
-ghost use Rattle.sheet.specs.Meaning.{entry, putVectors, putInstructions, entriesAt};
-ghost use Rattle.sheet.specs.Results.{numbersOf, left, lengthRefusal, meaningOfSheet};
+ghost use Rattle.sheet.specs.Meaning.{putVectors, putInstructions, entriesAt};
+ghost use Rattle.sheet.specs.Results.{left, lengthRefusal, meaningOfSheet};
 ghost use Rattle.sheet.specs.Fed.{vectorAt, FeedRoom, fed, fedBy, Feeds, fedIn, Means};
 
 const QUADWORDS: usize = memories::VIF1_QUADWORDS as usize;
 
 const INSTRUCTIONS: usize = memories::VIF1_INSTRUCTIONS as usize;
+
+// The path of a GS record's entries.
+const GS_PATH: u64 = 2;
 
 fn wide(x: u32) -> u64
     ensures { λ r. ⌜ (r ≡ x) × (r < 4294967296) ⌝ }
@@ -83,24 +86,23 @@ fn put_instructions(sheet: &[u8], body: usize, n: usize, a: usize, code: &mut [u
     }
 }
 
-fn put_entry(log: &mut [u64], used: u64, register: u64, value: u64)
+fn put_entry(log: &mut [u64], used: u64, path: u64, register: u64, value: u64)
     requires { ⌜ entrySize * (used + 1) ≤ length (now log) ⌝ }
-    ensures { λ _. ⌜ now (log .exit) ≡ sets (now (log .entry)) (entrySize * used) (numbersOf (entry register value ∷ [])) ⌝ }
+    ensures { λ _. ⌜ now (log .exit) ≡ sets (now (log .entry)) (entrySize * used) (numbers (entry path register value ∷ [])) ⌝ }
 {
-    let at = (gif::ENTRY_SIZE * used) as usize;
-    log[at] = register;
-    log[at + 1] = value;
+    gif::write_entry(log, used, path, register, value);
 }
 
 fn put_entries(sheet: &[u8], body: usize, n: usize, log: &mut [u64], used: u64)
     requires { ⌜ (body + 16 * n ≤ length (now sheet)) × (entrySize * (used + n) ≤ length (now log)) ⌝ }
-    ensures { λ _. ⌜ now (log .exit) ≡ sets (now (log .entry)) (entrySize * used) (numbersOf (entriesAt (bytesAt (now (sheet .entry)) body (16 * n)) n 0)) ⌝ }
+    ensures { λ _. ⌜ now (log .exit) ≡ sets (now (log .entry)) (entrySize * used) (numbers (entriesAt (bytesAt (now (sheet .entry)) body (16 * n)) n 0)) ⌝ }
 {
     let mut j = 0;
     while j < n {
         put_entry(
             log,
             used + j as u64,
+            GS_PATH,
             wide(byte_at(sheet, body + 16 * j + 8)),
             long_at(sheet, body + 16 * j),
         );
@@ -137,7 +139,7 @@ fn feed_record(
             used + n as u64
         }
         Kind::Start => {
-            put_entry(log, used, 256, a as u64);
+            put_entry(log, used, gif::START_PATH, 256, a as u64);
             used + 1
         }
     }
