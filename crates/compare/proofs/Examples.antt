@@ -3,19 +3,21 @@ use mathlib.Core.Path.{_≡_, refl}
 use mathlib.Core.Bool.{true, false}
 use mathlib.Core.List.{[], _∷_}
 use Rattle.fields.specs.Fields.{if}
+use Rattle.gif.specs.Log.{entrySize}
 use Rattle.memories.specs.declared.VifUnit.{VifUnit}
 use Rattle.memories.specs.declared.VifUnit.the-variants.{Vif0, Vif1}
 use Rattle.compare.specs.Parts.{dataPart, codePart, logPart, asks}
 use Rattle.compare.specs.Tests.{holdsOfSome, howMany, firstOf}
 use Rattle.compare.specs.Elements.{numberDiffers, differs, found, foundIn}
 
--- three entries, of which the last two differ: one in its value, one in its register
-pub two-differ : foundIn 2 (14 ∷ 1 ∷ 14 ∷ 2 ∷ 14 ∷ 3 ∷ []) (14 ∷ 1 ∷ 14 ∷ 9 ∷ 15 ∷ 3 ∷ []) 3 ≡ found 1 2
+-- four entries, of which the last three differ: one in its path, one in its register, one in its value
+pub three-differ :
+    foundIn entrySize (2 ∷ 14 ∷ 1 ∷ 2 ∷ 14 ∷ 2 ∷ 2 ∷ 14 ∷ 3 ∷ 0 ∷ 256 ∷ 4 ∷ []) (2 ∷ 14 ∷ 1 ∷ 3 ∷ 14 ∷ 2 ∷ 2 ∷ 15 ∷ 3 ∷ 0 ∷ 256 ∷ 9 ∷ []) 4 ≡ found 1 3
 unfolding foundIn firstOf howMany differs numberDiffers holdsOfSome if
-two-differ = refl
+three-differ = refl
 
 -- the same of the first entry alone, which does not differ
-pub none-differs : foundIn 2 (14 ∷ 1 ∷ 14 ∷ 2 ∷ 14 ∷ 3 ∷ []) (14 ∷ 1 ∷ 14 ∷ 9 ∷ 15 ∷ 3 ∷ []) 1 ≡ found 1 0
+pub none-differs : foundIn entrySize (2 ∷ 14 ∷ 1 ∷ 2 ∷ 14 ∷ 2 ∷ []) (2 ∷ 14 ∷ 1 ∷ 3 ∷ 14 ∷ 2 ∷ []) 1 ≡ found 1 0
 unfolding foundIn firstOf howMany differs numberDiffers holdsOfSome if
 none-differs = refl
 

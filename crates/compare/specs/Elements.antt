@@ -1,5 +1,5 @@
 -- Elements of two lists: element i is the numbers size*i to size*i+size-1 of each. A quadword is 4 words of a data memory, an instruction 8 bytes of a code
--- memory, an entry 2 numbers of a log.
+-- memory, an entry the numbers of a log that it takes, its path, register and value.
 use Prim.Native.Nat.{ℕ, _+_, _*_}
 use mathlib.Core.Bool.{Bool, not}
 use mathlib.Core.List.{List}
