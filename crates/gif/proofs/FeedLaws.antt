@@ -212,7 +212,7 @@ feed-few which main a n p used log e =
     rw e (if-ind (Few n) _ (feeds-few which main a n p used log) z .few)
 
 -- no more packets than quadwords
-pub takes-packets : {main : List ℕ} {a used : ℕ} {p : Path} {log : List ℕ} {x : Fed} → Takes main a p used log x → x .packets ≤ x .taken
+pub takes-packets : {which : GifPath} {main : List ℕ} {a used : ℕ} {p : Path} {log : List ℕ} {x : Fed} → Takes which main a p used log x → x .packets ≤ x .taken
 takes-packets none = omega arith
 takes-packets (more {x = x} {c = c} e t) =
     let h = takes-packets t in

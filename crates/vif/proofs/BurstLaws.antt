@@ -12,6 +12,7 @@ use lib.Dec.{eqb, leb, ltb}
 use Rattle.fields.specs.Fields.{if}
 use Rattle.fields.specs.Memory.{wordAt, longAt, quadwordAt}
 use Rattle.fields.proofs.ChoiceLaws.{if-ind}
+use Rattle.gif.specs.declared.GifPath.the-variants.{Two}
 use Rattle.gif.specs.declared.Path.{Path}
 use Rattle.gif.specs.declared.GifAnswer.the-variants.{Taken}
 use Rattle.gif.specs.declared.QuadwordsResult.{QuadwordsResult}
@@ -191,17 +192,17 @@ module _ (which : VifUnit) (main : List ℕ) (v : Vif) (mem code : List ℕ) (hl
   abbrev giving : ℕ → Path → ℕ → List ℕ → Fed
   giving due p used log = fed (withWaiting v (directs hl due i)) p used (lent mem code log)
 
-  direct-step : (a due : ℕ) (p : Path) (used : ℕ) (log : List ℕ) {c : Bool} → a % 16 ≡ 0 → 1 < due → gifStep p (quadwordAt main a) used log .answer ≡ Taken c
+  direct-step : (a due : ℕ) (p : Path) (used : ℕ) (log : List ℕ) {c : Bool} → a % 16 ≡ 0 → 1 < due → gifStep Two p (quadwordAt main a) used log .answer ≡ Taken c
       → vifStep which (withWaiting v (directs hl due i)) p (incomingAt main a) used (lent mem code log)
-      ≡ leaves (aQuadword c) (withWaiting v (directs hl (due - 1) i)) (gifStep p (quadwordAt main a) used log .path) (gifStep p (quadwordAt main a) used log .used)
-      (lent mem code (gifStep p (quadwordAt main a) used log .log))
+      ≡ leaves (aQuadword c) (withWaiting v (directs hl (due - 1) i)) (gifStep Two p (quadwordAt main a) used log .path) (gifStep Two p (quadwordAt main a) used log .used)
+      (lent mem code (gifStep Two p (quadwordAt main a) used log .log))
   unfolding vifStep giveQuadword longAt
   direct-step a due p used log h l e =
       let j : a + 8 + 4 ≡ a + 12 = omega arith in
       by-hl which hl due i (withWaiting v (directs hl due i)) p (incomingAt main a) used (lent mem code log)
       ∙ rw (incoming-quadword main a h) (rw (← j) (rw (e, not-last due i l, waits-still due (directs hl (due - 1) i) l)))
 
-  pub direct-leads : {a due used : ℕ} {p : Path} {log : List ℕ} {x : GifFed} → Takes main a p used log x → ((x .taken ≡ 0 → ⊥) → a % 16 ≡ 0) → x .taken < due
+  pub direct-leads : {a due used : ℕ} {p : Path} {log : List ℕ} {x : GifFed} → Takes Two main a p used log x → ((x .taken ≡ 0 → ⊥) → a % 16 ≡ 0) → x .taken < due
       → Leads which main a (4 * x .taken) (counts (x .taken) (x .packets)) (giving due p used log) (giving (due - x .taken) (x .path) (x .used) (x .log))
   direct-leads {a} {due} none h l = rw (sub-zero due) leads-none
   direct-leads {a} {due} {used} {p} {log} (more {x = x} e t) h l =
@@ -213,10 +214,10 @@ module _ (which : VifUnit) (main : List ℕ) (v : Vif) (mem code : List ℕ) (hl
       (direct-leads t (λ q. omega arith) (omega arith)))
 
 pub quadwords-taken : {main : List ℕ} {a due words steps n used : ℕ} {p : Path} {log log′ : List ℕ} {r : QuadwordsResult}
-    → (n < due) × (4 * n < words) × (n < steps) × ((n ≡ 0 → ⊥) → a % 16 ≡ 0) → fedBy r log′ ≡ gifFeedOf main a n p used log
+    → (n < due) × (4 * n < words) × (n < steps) × ((n ≡ 0 → ⊥) → a % 16 ≡ 0) → fedBy r log′ ≡ gifFeedOf Two main a n p used log
     → Quadwords main a due words steps p used log r log′
 quadwords-taken {main} {a} {due} {words} {steps} {n} {used} {p} {log} {log′} {r} h e =
-    let f = feed-few main a n p used log e in
+    let f = feed-few Two main a n p used log e in
     let j = h .0 in
     let k = h .1 in
     let l = h .2 in
@@ -224,8 +225,8 @@ quadwords-taken {main} {a} {due} {words} {steps} {n} {used} {p} {log} {log′} {
       few = omega arith;
       few-words = omega arith;
       few-steps = omega arith;
-      few-packets = takes-packets (feed-quadwords main a n p used log e);
-      leads = λ which v mem code hl i. direct-leads which main v mem code hl i (feed-quadwords main a n p used log e) (λ z. h .3 (λ y. z (omega arith))) (omega arith);
+      few-packets = takes-packets (feed-quadwords Two main a n p used log e);
+      leads = λ which v mem code hl i. direct-leads which main v mem code hl i (feed-quadwords Two main a n p used log e) (λ z. h .3 (λ y. z (omega arith))) (omega arith);
     }
 
 -- ---- a burst

@@ -9,7 +9,7 @@ use lib.Dec.{eqb}
 use Rattle.fields.specs.Fields.{if}
 use Rattle.fields.specs.Refusals.{cycleWrong, logFull}
 use Rattle.fields.proofs.ChoiceLaws.{if-zero}
-use Rattle.gif.specs.Log.{entry, lacksRoom, Entered, entered, entryOf}
+use Rattle.gif.specs.Log.{startEntry, lacksRoom, Entered, entered, entryOf}
 use Rattle.memories.specs.declared.VifUnit.{VifUnit}
 use Rattle.memories.specs.declared.VifUnit.the-variants.{Vif0, Vif1}
 use Rattle.memories.specs.Units.{quadwords}
@@ -73,20 +73,20 @@ tops-clear Vif1 = refl
 
 -- by whether its entry was stored
 module _ (which : VifUnit) (r x : ℕ) (v : Vif) (i : Bool) (used : ℕ) (mem log : List ℕ) {b : Bool} {m : List ℕ}
-    (e : entered b m ≡ entryOf log used (entry r x)) where
+    (e : entered b m ≡ entryOf log used (startEntry r x)) where
   pub program-started : b ≡ true → executed (Word i) (started which v) (used + 1) mem m ≡ startProgram which r x v i used mem log
   unfolding startProgram entryOf if
-  program-started t = go (lacksRoom log used (entry r x ∷ [])) refl
+  program-started t = go (lacksRoom log used 1) refl
     where
-      go : (c : Bool) → lacksRoom log used (entry r x ∷ []) ≡ c → executed (Word i) (started which v) (used + 1) mem m ≡ startProgram which r x v i used mem log
+      go : (c : Bool) → lacksRoom log used 1 ≡ c → executed (Word i) (started which v) (used + 1) mem m ≡ startProgram which r x v i used mem log
       go true w = absurd (let e′ = rw w at e in let s = ap (λ (y : Entered). y .stored) e′ in let z : _≡_ {A = ℕ} 0 1 = cc in omega arith)
       go false w = let e′ = rw w at e in rw (w, ap (λ (y : Entered). y .log) e′)
 
   pub program-refused : b ≡ false → executed (Refused logFull) v used mem m ≡ startProgram which r x v i used mem log
   unfolding startProgram entryOf if
-  program-refused t = go (lacksRoom log used (entry r x ∷ [])) refl
+  program-refused t = go (lacksRoom log used 1) refl
     where
-      go : (c : Bool) → lacksRoom log used (entry r x ∷ []) ≡ c → executed (Refused logFull) v used mem m ≡ startProgram which r x v i used mem log
+      go : (c : Bool) → lacksRoom log used 1 ≡ c → executed (Refused logFull) v used mem m ≡ startProgram which r x v i used mem log
       go false w = absurd (let e′ = rw w at e in let s = ap (λ (y : Entered). y .stored) e′ in let z : _≡_ {A = ℕ} 0 1 = cc in omega arith)
       go true w = let e′ = rw w at e in rw (w, ap (λ (y : Entered). y .log) e′)
 

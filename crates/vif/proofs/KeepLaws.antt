@@ -11,10 +11,11 @@ use lib.Dec.{eqb, ltb}
 use Rattle.fields.specs.Fields.{if}
 use Rattle.fields.specs.Refusals.{modeWrong, directUnaligned, mpgUnaligned, logFull}
 use Rattle.fields.proofs.ChoiceLaws.{if-ind, if-ind-by, or-left, or-right}
+use Rattle.gif.specs.declared.GifPath.the-variants.{Two}
 use Rattle.gif.specs.declared.Path.{Path}
 use Rattle.gif.specs.declared.GifAnswer.{GifAnswer}
 use Rattle.gif.specs.declared.GifAnswer.the-variants.{Taken, Refused as GifRefused}
-use Rattle.gif.specs.Log.{logMost, entrySize, entry, lacksRoom, logRefused}
+use Rattle.gif.specs.Log.{logMost, entrySize, startEntry, lacksRoom, logRefused}
 use Rattle.gif.specs.Step.{Left as GifLeft}
 use Rattle.gif.proofs.LogLaws.{logged-length}
 use Rattle.gif.proofs.StepLaws.{Wrote, step-wrote}
@@ -85,7 +86,7 @@ module _ (which : VifUnit) (v : Vif) (used : ℕ) (mem log : List ℕ) (h : entr
         mem-length = refl;
         log-grows =
             record {
-              same-length = logged-length log used (entry r x ∷ []);
+              same-length = logged-length log used (startEntry r x ∷ []);
               room = ltb-false (length log) (entrySize * (used + 1)) e;
             };
       })
@@ -177,7 +178,7 @@ module _ (which : VifUnit) (v : Vif) (p : Path) (used : ℕ) (m : Lent) (h : ent
 
   kept-direct : (n : Incoming) (due : ℕ) (i : Bool) (w : Waiting) → Kept v p used m (directStep n v p due i w used m)
   unfolding giveQuadword
-  kept-direct (Word0 a b c d) due i w = kept-gif _ _ refl (step-wrote p used (m .log) h _) due i w
+  kept-direct (Word0 a b c d) due i w = kept-gif _ _ refl (step-wrote Two p used (m .log) h _) due i w
   kept-direct (Word1 a) due i w = kept-refused directUnaligned
   kept-direct (Word2 a) due i w = kept-refused directUnaligned
   kept-direct (Word3 a) due i w = kept-refused directUnaligned

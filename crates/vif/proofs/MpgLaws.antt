@@ -11,6 +11,7 @@ use lib.Seq.{sets, getD-set-other}
 use lib.Dec.{leb, ltb}
 use Rattle.fields.specs.Fields.{quadword}
 use Rattle.fields.proofs.ChoiceLaws.{if-ind}
+use Rattle.gif.specs.declared.GifPath.the-variants.{Two}
 use Rattle.gif.specs.declared.Path.{Path}
 use Rattle.gif.specs.declared.GifAnswer.{GifAnswer}
 use Rattle.gif.specs.declared.GifAnswer.the-variants.{Taken, Refused as GifRefused}
@@ -82,7 +83,7 @@ module _ (which : VifUnit) (v : Vif) (p : Path) (used : ℕ) (m : Lent) where
   direct-code : (n : Incoming) (due : ℕ) (i : Bool) (w : Waiting) → directStep n v p due i w used m .memories .code ≡ m .code
   unfolding giveQuadword
   direct-code (Word0 a b c d) due i w =
-      let o = gifStep p (quadword (a + b * 2 ^ 32) (c + d * 2 ^ 32)) used (m .log) in
+      let o = gifStep Two p (quadword (a + b * 2 ^ 32) (c + d * 2 ^ 32)) used (m .log) in
       gif-code (o .answer) o due i w
   direct-code (Word1 a) due i w = refl
   direct-code (Word2 a) due i w = refl

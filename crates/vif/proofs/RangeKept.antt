@@ -11,6 +11,7 @@ use Rattle.fields.specs.Fields.{bits, quadword}
 use Rattle.fields.specs.Refusals.{cmdUnlisted, formatMissing}
 use Rattle.fields.proofs.FieldLaws.{bits-below}
 use Rattle.fields.proofs.ChoiceLaws.{and-left, and-right, if-ind, if-ind-by}
+use Rattle.gif.specs.declared.GifPath.the-variants.{Two}
 use Rattle.gif.specs.declared.Path.{Path}
 use Rattle.gif.specs.declared.GifAnswer.{GifAnswer}
 use Rattle.gif.specs.declared.GifAnswer.the-variants.{Taken, Refused as GifRefused}
@@ -341,7 +342,7 @@ module _ (which : VifUnit) (v : Vif) (h : unitInRange which v ≡ true) (p : Pat
   unfolding giveQuadword
   direct-ranged (Word0 a b c d) due i w k =
       let quad = quadword (a + b * 2 ^ 32) (c + d * 2 ^ 32) in
-      gif-ranged (gifStep p quad used (m .log) .answer) (gifStep p quad used (m .log)) (step-ranged p g used (m .log) quad) due i w k
+      gif-ranged (gifStep Two p quad used (m .log) .answer) (gifStep Two p quad used (m .log)) (step-ranged Two p g used (m .log) quad) due i w k
   direct-ranged (Word1 a) due i w k = refused-ranged _ refl refl
   direct-ranged (Word2 a) due i w k = refused-ranged _ refl refl
   direct-ranged (Word3 a) due i w k = refused-ranged _ refl refl

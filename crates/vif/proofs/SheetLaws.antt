@@ -13,9 +13,10 @@ use lib.Seq.{sets}
 use lib.Dec.{eqb}
 use Rattle.fields.specs.Fields.{if, bits, quadword}
 use Rattle.fields.proofs.ChoiceLaws.{and-later}
+use Rattle.gif.specs.declared.GifPath.the-variants.{Two}
 use Rattle.gif.specs.declared.Path.{Path}
 use Rattle.gif.specs.declared.Place.the-variants.{Idle}
-use Rattle.gif.specs.Log.{entrySize, entry, logged, lacksRoom}
+use Rattle.gif.specs.Log.{entrySize, startEntry, entriesBy, logged, lacksRoom}
 use Rattle.gif.specs.Tag.{pathOf, tagQ}
 use Rattle.gif.specs.Step.{gifStep}
 use Rattle.gif.specs.Run.{sheetTag, addressData, addressDatas}
@@ -223,7 +224,7 @@ no-words (n ∷ ns) e = absurd (let z : _≡_ {A = ℕ} 0 1 = cc in omega arith)
 -- three NOPs and MSCAL start the program at a, which is one log entry
 pub feeds-start : (which : VifUnit) (v : Vif) (p : Path) (used : ℕ) (m : Lent) (a : ℕ) (ns : List Incoming) → v .waiting ≡ Nothing → a < 65536
     → entrySize * (used + 1) ≤ length (m .log) → wordsIn ns ≡ 0 ∷ 0 ∷ 0 ∷ (335544320 + a) ∷ []
-    → Feeds which aWord (fed v p used m) ns (fed (started which v) p (used + 1) (lent (m .mem) (m .code) (logged (m .log) used (entry 256 a ∷ []))))
+    → Feeds which aWord (fed v p used m) ns (fed (started which v) p (used + 1) (lent (m .mem) (m .code) (logged (m .log) used (startEntry 256 a ∷ []))))
 unfolding startProgram lacksRoom if
 feeds-start which v p used m a ns h inside room q =
     after-nops h ns q
@@ -416,7 +417,7 @@ direct-next (suc k) =
 module _ (which : VifUnit) (v : Vif) (mem code : List ℕ) where
   -- a quadword that the GIF takes
   direct-quadword : (closed : Bool) (k : ℕ) (p p′ : Path) (used used′ a b c d x : ℕ) (log log′ : List ℕ) → quadword (a + b * 2 ^ 32) (c + d * 2 ^ 32) ≡ x
-      → gifStep p x used log ≡ took closed p′ used′ log′
+      → gifStep Two p x used log ≡ took closed p′ used′ log′
       → vifStep which (withWaiting v (directWaits (suc k))) p (Word0 a b c d) used (lent mem code log)
       ≡ leaves (Quadword false closed) (withWaiting v (directWaits k)) p′ used′ (lent mem code log′)
   unfolding vifStep giveQuadword
@@ -426,14 +427,14 @@ module _ (which : VifUnit) (v : Vif) (mem code : List ℕ) where
   direct-feeds : (n : ℕ) → 0 < n → n < 32768 → (q used : ℕ) (log : List ℕ) {ns : List Incoming} {xs : List ℕ} → QuadwordsIn ns xs
       → entrySize * (used + length xs) ≤ length log
       → Feeds which aQuadword (fed (withWaiting v (directWaits (length xs))) (pathOf q (sheetPlace n (length xs))) used (lent mem code log)) ns
-      (fed (withWaiting v Nothing) (pathOf q Idle) (used + length xs) (lent mem code (logged log used (addressDatas xs))))
+      (fed (withWaiting v Nothing) (pathOf q Idle) (used + length xs) (lent mem code (logged log used (entriesBy Two (addressDatas xs)))))
   unfolding logged
   direct-feeds n some few q used log no-quadword h = rw add-zero none
   direct-feeds n some few q used log (one-quadword {a} {b} {c} {d} {x} {ns} {xs} e r) h =
       let s : used + suc (length xs) ≡ used + 1 + length xs = omega arith in
-      rw (s, ← logged-then log used (addressData x ∷ []) (addressDatas xs))
-      (more (eqb (length xs) 0) (direct-quadword (eqb (length xs) 0) (length xs) _ _ used (used + 1) a b c d x log _ e (sheet-data n some few (length xs) q x used log (omega arith)))
-      (direct-feeds n some few q (used + 1) (logged log used (addressData x ∷ [])) r (rw (logged-length log used (addressData x ∷ [])) (omega arith))))
+      rw (s, ← logged-then log used (entriesBy Two (addressData x ∷ [])) (entriesBy Two (addressDatas xs)))
+      (more (eqb (length xs) 0) (direct-quadword (eqb (length xs) 0) (length xs) _ _ used (used + 1) a b c d x log _ e (sheet-data Two n some few (length xs) q x used log (omega arith)))
+      (direct-feeds n some few q (used + 1) (logged log used (entriesBy Two (addressData x ∷ []))) r (rw (logged-length log used (entriesBy Two (addressData x ∷ []))) (omega arith))))
 
 -- three NOPs and DIRECT: quadwords are due
 pub feeds-direct : (which : VifUnit) → codeListed which 0x50 ≡ true → (v : Vif) (p : Path) (used : ℕ) (m : Lent) (n : ℕ) (ns : List Incoming) → v .waiting ≡ Nothing → n ≤ 255
@@ -447,8 +448,8 @@ feeds-direct which x v p used m n ns h few w =
 pub feeds-entries : (which : VifUnit) (v : Vif) (q used : ℕ) (m : Lent) (n : ℕ) (quads : List ℕ) (ms : List Incoming) → v .waiting ≡ Nothing → length quads ≡ n → 1 ≤ n
     → n ≤ 255 → entrySize * (used + n) ≤ length (m .log) → QuadwordsIn ms (sheetTag n ∷ quads)
     → Feeds which aQuadword (fed (withWaiting v (directWaits (suc n))) (pathOf q Idle) used m) ms
-    (fed v (pathOf tagQ Idle) (used + n) (lent (m .mem) (m .code) (logged (m .log) used (addressDatas quads))))
+    (fed v (pathOf tagQ Idle) (used + n) (lent (m .mem) (m .code) (logged (m .log) used (entriesBy Two (addressDatas quads)))))
 feeds-entries which v q used m n quads ms h e some few room (one-quadword {a} {b} {c} {d} t r) =
-    more {z = fed v (pathOf tagQ Idle) (used + n) (lent (m .mem) (m .code) (logged (m .log) used (addressDatas quads)))} false
-    (direct-quadword which v (m .mem) (m .code) false n _ _ used used a b c d _ (m .log) _ t (sheet-tag n some (omega arith) q used (m .log) (omega arith)))
+    more {z = fed v (pathOf tagQ Idle) (used + n) (lent (m .mem) (m .code) (logged (m .log) used (entriesBy Two (addressDatas quads))))} false
+    (direct-quadword which v (m .mem) (m .code) false n _ _ used used a b c d _ (m .log) _ t (sheet-tag Two n some (omega arith) q used (m .log) (omega arith)))
     (feeds-as (rw e at (direct-feeds which v (m .mem) (m .code) n some (omega arith) tagQ used (m .log) r (rw e room))) (rw (idle-same v h)))

@@ -7,6 +7,7 @@ use borrow.Author.Tests.{ne-eqb}
 use Rattle.fields.specs.Fields.{if}
 use Rattle.fields.specs.Refusals.{outOfRange}
 use Rattle.fields.proofs.ChoiceLaws.{and-left, and-right}
+use Rattle.gif.specs.declared.GifPath.the-variants.{Two}
 use Rattle.gif.specs.declared.Path.{Path}
 use Rattle.gif.specs.declared.GifAnswer.{GifAnswer}
 use Rattle.gif.specs.declared.GifAnswer.the-variants.{Refused as GifRefused}
@@ -59,18 +60,18 @@ code-taken which v p used m n h e d i = sym (by-waiting which h v p n used m (rw
 
 -- a quadword that the GIF tested
 pub gave : (quad : ℕ) (v : Vif) (p : Path) (due : ℕ) (i : Bool) (w : Waiting) (used : ℕ) (mem code log : List ℕ) → GifReady p used log
-    → {r : GifResult} {l : List ℕ} → gifLeft r l ≡ gifTakeOf p quad used log
+    → {r : GifResult} {l : List ℕ} → gifLeft r l ≡ gifTakeOf Two p quad used log
     → {x : Left} → x ≡ afterQuadword (gifLeft r l) v p due i w used (lent mem code log) → x ≡ giveQuadword quad v p due i w used (lent mem code log)
 unfolding giveQuadword
 gave quad v p due i w used mem code log g e h =
-    h ∙ ap (λ (o : GifLeft). afterQuadword o v p due i w used (lent mem code log)) (e ∙ tested p quad used log (g .logged) (g .ranged))
+    h ∙ ap (λ (o : GifLeft). afterQuadword o v p due i w used (lent mem code log)) (e ∙ tested Two p quad used log (g .logged) (g .ranged))
 
 -- a refused quadword left the log as it was
-pub gif-kept : (p : Path) (quad used : ℕ) (log : List ℕ) → GifReady p used log → {r : GifResult} {l : List ℕ} → gifLeft r l ≡ gifTakeOf p quad used log
+pub gif-kept : (p : Path) (quad used : ℕ) (log : List ℕ) → GifReady p used log → {r : GifResult} {l : List ℕ} → gifLeft r l ≡ gifTakeOf Two p quad used log
     → {n : ℕ} → r .answer ≡ GifRefused n → l ≡ log
 gif-kept p quad used log g {r} {l} e {n} q =
-    let e′ : gifLeft r l ≡ gifStep p quad used log = e ∙ tested p quad used log (g .logged) (g .ranged) in
-    let w = step-wrote p used log (log-fits log used (g .logged) .holds) quad in
+    let e′ : gifLeft r l ≡ gifStep Two p quad used log = e ∙ tested Two p quad used log (g .logged) (g .ranged) in
+    let w = step-wrote Two p used log (log-fits log used (g .logged) .holds) quad in
     ap (λ (o : GifLeft). o .log) (e′ ∙ w .same n (ap (λ (o : GifLeft). o .answer) (sym e′) ∙ q))
 
 -- an accepted payload word of UNPACK

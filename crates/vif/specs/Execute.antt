@@ -5,7 +5,7 @@ use mathlib.Core.List.{List, [], _∷_}
 use lib.Dec.{eqb}
 use Rattle.fields.specs.Fields.{if}
 use Rattle.fields.specs.Refusals.{cycleWrong, modeWrong, topsMissing, logFull}
-use Rattle.gif.specs.Log.{entry, logged, lacksRoom}
+use Rattle.gif.specs.Log.{startEntry, logged, lacksRoom}
 use Rattle.memories.specs.declared.VifUnit.{VifUnit}
 use Rattle.memories.specs.declared.VifUnit.the-variants.{Vif0, Vif1}
 use Rattle.memories.specs.Units.{quadwords}
@@ -57,11 +57,11 @@ abbrev pub started : VifUnit → Vif → Vif
 started Vif0 v = withStart v (v .itops) (v .top) (v .dbf) (v .tops)
 started Vif1 v = withStart v (v .itops) (v .tops) (not (v .dbf)) (nextTops (not (v .dbf)) v)
 
--- "14 MSCAL, 15 MSCALF, 17 MSCNT: log entry 256, 257, 258 with value IMM, IMM, 0"; "31 log lacks room"
+-- "14 MSCAL, 15 MSCALF, 17 MSCNT: log entry 256, 257, 258 with value IMM, IMM, 0", request 11: "Path is ... 0 for program starts", of either unit; "31 log lacks room"
 unfoldable pub startProgram : VifUnit → ℕ → ℕ → Vif → Bool → ℕ → List ℕ → List ℕ → Executed
 startProgram which r x v i used mem log =
-    if (lacksRoom log used (entry r x ∷ [])) (executed (Refused logFull) v used mem log)
-    (executed (Word i) (started which v) (used + 1) mem (logged log used (entry r x ∷ [])))
+    if (lacksRoom log used 1) (executed (Refused logFull) v used mem log)
+    (executed (Word i) (started which v) (used + 1) mem (logged log used (startEntry r x ∷ [])))
 
 -- a code that waits for payload completes no interrupt in its own step
 abbrev pub waitsFor : Vif → Waiting → ℕ → CodeResult

@@ -6,6 +6,7 @@ use Rattle.fields.specs.declared.Counts.{Counts}
 use Rattle.fields.specs.Counts.{none, oneStep}
 use Rattle.fields.specs.Fields.{if, quadword}
 use Rattle.fields.specs.Refusals.{outOfRange, directUnaligned, mpgUnaligned}
+use Rattle.gif.specs.declared.GifPath.the-variants.{Two}
 use Rattle.gif.specs.declared.Path.{Path}
 use Rattle.gif.specs.declared.GifAnswer.{GifAnswer}
 use Rattle.gif.specs.declared.GifAnswer.the-variants.{Taken, Refused as GifRefused}
@@ -101,8 +102,9 @@ afterGif (GifRefused n) o v p due i w used m = refused n v p used m
 abbrev pub afterQuadword : GifLeft → Vif → Path → ℕ → Bool → Waiting → ℕ → Lent → Left
 afterQuadword o v p due i w used m = afterGif (o .answer) o v p due i w used m
 
+-- "50 DIRECT, 51 DIRECTHL: IMM quadwords to path 2"
 unfoldable pub giveQuadword : ℕ → Vif → Path → ℕ → Bool → Waiting → ℕ → Lent → Left
-giveQuadword quad v p due i w used m = afterQuadword (gifStep p quad used (m .log)) v p due i w used m
+giveQuadword quad v p due i w used m = afterQuadword (gifStep Two p quad used (m .log)) v p due i w used m
 
 -- "24 DIRECT payload due and the next word isn't word 0"; w is what waits if more is due
 abbrev pub directStep : Incoming → Vif → Path → ℕ → Bool → Waiting → ℕ → Lent → Left

@@ -14,6 +14,7 @@ use fields::Counts;
 use fields::plus;
 use fields::steps_alone;
 use fields::word_at;
+use gif::GifPath;
 use gif::Path;
 use gif::QuadwordsResult;
 use memories::VifUnit;
@@ -164,7 +165,7 @@ fn quadwords(
     let path2 = s.path2;
     let at = a + 4 * s.words;
     let n = quadwords_at_once(due, at, count - s.words, limit - s.counts.steps);
-    gif::take_quadwords(path2, main, at, n, log, s.used)
+    gif::take_quadwords(GifPath::Two, path2, main, at, n, log, s.used)
 }
 
 // The result of s with quadwords after it; `rest` is what waits then.

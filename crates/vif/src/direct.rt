@@ -10,6 +10,7 @@ use super::payload::or_nothing;
 use super::registers::with_waiting;
 use fields::refusals;
 use gif::GifAnswer;
+use gif::GifPath;
 use gif::Path;
 ghost use mathlib.Core.Path.{_≡_};
 ghost use mathlib.Core.List.{List};
@@ -41,7 +42,7 @@ fn give(
     ensures { λ r. ⌜ ((mem code : List ℕ) → left r (lent mem code (now (log .exit)))
         ≡ giveQuadword (quadword low high) unit path2 due interrupt rest used (lent mem code (now (log .entry)))) ⌝ }
 {
-    let r = gif::take_quadword(path2, low, high, log, used);
+    let r = gif::take_quadword(GifPath::Two, path2, low, high, log, used);
     let answer = r.answer;
     let path = r.path;
     match answer {

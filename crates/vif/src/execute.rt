@@ -91,7 +91,7 @@ fn start_program(
     ensures { λ r. ⌜ ((mem : List ℕ) → resultWith r mem (now (log .exit))
         ≡ startProgram which register value unit interrupt used mem (now (log .entry))) ⌝ }
 {
-    if gif::write_entry(log, used, register, value as u64) {
+    if gif::write_entry(log, used, gif::START_PATH, register, value as u64) {
         done(start(which, unit), interrupt, used + 1)
     } else {
         answered(VifAnswer::Refused(refusals::LOG_FULL), unit, used)
