@@ -13,6 +13,7 @@ use Rattle.fields.specs.Fields.{if}
 use Rattle.fields.specs.Refusals.{tadrOutside, addrUnaligned, scratchpadSet, stackFull, payloadOutside}
 use Rattle.fields.proofs.FieldLaws.{bits-below}
 use Rattle.fields.proofs.ChoiceLaws.{and-left, and-right, if-ind, if-ind-by, if-zero}
+use Rattle.gif.specs.declared.GifPath.the-variants.{Three}
 use Rattle.gif.specs.declared.GifAnswer.{GifAnswer}
 use Rattle.gif.specs.declared.GifAnswer.the-variants.{Taken, Refused as GifRefused}
 use Rattle.gif.specs.Step.{Left as GifLeft, gifStep}
@@ -345,14 +346,14 @@ module _ {main : List ℕ} {s : State} {m : Lent} (r : Ready main s m) where
 
   gif-stays : (a : ℕ) (q : Payload) → Pending (s .tags) q → Stays main (gifGiven main a q s m)
   unfolding gifGiven
-  gif-stays a q w = go (gifStep (s .path3) (quadwordAt main a) (s .used) (m .log) .answer)
+  gif-stays a q w = go (gifStep Three (s .path3) (quadwordAt main a) (s .used) (m .log) .answer)
     where
       o : GifLeft
-      o = gifStep (s .path3) (quadwordAt main a) (s .used) (m .log)
+      o = gifStep Three (s .path3) (quadwordAt main a) (s .used) (m .log)
 
       go : (b : GifAnswer) → Stays main (afterGif b o q s m)
       go (Taken c) =
-          let g = step-wrote (s .path3) (s .used) (m .log) (log-fits (m .log) (s .used) (f .fit .logged) .holds) (quadwordAt main a) in
+          let g = step-wrote Three (s .path3) (s .used) (m .log) (log-fits (m .log) (s .used) (f .fit .logged) .holds) (quadwordAt main a) in
           let l : length (o .log) ≡ length (m .log) = rw (g .stored) (logged-length (m .log) (s .used) (g .entries)) in
           record {
             stays =
@@ -375,7 +376,7 @@ module _ {main : List ℕ} {s : State} {m : Lent} (r : Ready main s m) where
                         unit0 = f .fields .unit0;
                         unit1 = f .fields .unit1;
                         path2 = f .fields .path2;
-                        path3 = step-ranged (s .path3) (f .fields .path3) (s .used) (m .log) (quadwordAt main a);
+                        path3 = step-ranged Three (s .path3) (f .fields .path3) (s .used) (m .log) (quadwordAt main a);
                       };
                   tags-in = w .tags-within;
                   payload-in = w .payload-within;
@@ -441,9 +442,9 @@ module _ (main : List ℕ) (s : State) (m : Lent) where
 
   gif-given-same : (a : ℕ) (p : Payload) → Same s m (gifGiven main a p s m)
   unfolding gifGiven
-  gif-given-same a p = go (gifStep (s .path3) (quadwordAt main a) (s .used) (m .log) .answer)
+  gif-given-same a p = go (gifStep Three (s .path3) (quadwordAt main a) (s .used) (m .log) .answer)
     where
-      go : (b : GifAnswer) → Same s m (afterGif b (gifStep (s .path3) (quadwordAt main a) (s .used) (m .log)) p s m)
+      go : (b : GifAnswer) → Same s m (afterGif b (gifStep Three (s .path3) (quadwordAt main a) (s .used) (m .log)) p s m)
       go (Taken c) = completed-same false c _ _
       go (GifRefused n) = refused-same n
 

@@ -14,6 +14,7 @@ use Rattle.fields.proofs.CountLaws.{plus-none, counted-none, counted-plus}
 use Rattle.fields.specs.Fields.{if}
 use Rattle.fields.proofs.ChoiceLaws.{if-ind, if-ind-by, and-false}
 use Rattle.fields.specs.Memory.{quadwordAt}
+use Rattle.gif.specs.declared.GifPath.the-variants.{Three}
 use Rattle.gif.specs.declared.Path.{Path}
 use Rattle.gif.specs.declared.GifAnswer.{GifAnswer}
 use Rattle.gif.specs.declared.GifAnswer.the-variants.{Taken, Refused as GifRefused}
@@ -347,7 +348,7 @@ abbrev pub drawing : State → Lent → GifFed → Payload → Machine
 drawing s m x p = machine (withPending (withPath3 s (x .path) (x .used)) NoTagWords p) (lent (m .mem) (m .code) (x .log))
 
 abbrev givenQuadword : List ℕ → ℕ → Path → ℕ → List ℕ → GifLeft
-givenQuadword main a p used log = gifStep p (quadwordAt main a) used log
+givenQuadword main a p used log = gifStep Three p (quadwordAt main a) used log
 
 module _ (main : List ℕ) (s : State) (m : Lent) (channel : s .channel ≡ 2) where
   -- one step
@@ -382,17 +383,17 @@ module _ (main : List ℕ) (s : State) (m : Lent) (channel : s .channel ≡ 2) w
       }
   quadword-drawn n a count p used log f z i (GifRefused c) q = none-drawn (suc n) a count p used log c
 
-  quadwords-drawn : (n a count : ℕ) (p : Path) (used : ℕ) (log : List ℕ) → 4 * n ≤ count → DrawnBurst n a count p used log (gifFeedsOf main a n p used log)
+  quadwords-drawn : (n a count : ℕ) (p : Path) (used : ℕ) (log : List ℕ) → 4 * n ≤ count → DrawnBurst n a count p used log (gifFeedsOf Three main a n p used log)
   unfolding gifFeedsOf
   quadwords-drawn zero a count p used log l = none-drawn 0 a count p used log 0
   quadwords-drawn (suc n) a count p used log l =
-      quadword-drawn n a count p used log (gifFeedsOf main (a + 16) n) (λ z. omega arith)
+      quadword-drawn n a count p used log (gifFeedsOf Three main (a + 16) n) (λ z. omega arith)
       (λ p′ used′ log′. quadwords-drawn n (a + 16) (count - 4) p′ used′ log′ (omega arith))
       (givenQuadword main a p used log .answer)
       refl
 
   -- whatever was tested
-  pub quadwords-burst : (n a count : ℕ) (p : Path) (used : ℕ) (log : List ℕ) → 4 * n ≤ count → {r : GifFed} → r ≡ gifFeedOf main a n p used log
+  pub quadwords-burst : (n a count : ℕ) (p : Path) (used : ℕ) (log : List ℕ) → 4 * n ≤ count → {r : GifFed} → r ≡ gifFeedOf Three main a n p used log
       → Burst main n (drawing s m (gifFed p used log 0 0 0) (payloadAfter a count 0)) false (counts (r .taken) (r .packets)) (drawing s m r (payloadAfter a count (4 * r .taken)))
   unfolding gifFeedOf
   quadwords-burst n a count p used log l e =
@@ -403,7 +404,7 @@ module _ {s : State} {a count : ℕ} (p : PayloadNext s a count) where
   as-drawing m = rw (payload-whole a count (p .some), ← p .payload, ← p .no-tags)
 
   -- quadwords that the GIF tested and took
-  pub quadwords-given : (main mem code log : List ℕ) (n : ℕ) {limit : ℕ} {log′ : List ℕ} {v : QuadwordsResult} → fedBy v log′ ≡ gifFeedOf main a n (s .path3) (s .used) log
+  pub quadwords-given : (main mem code log : List ℕ) (n : ℕ) {limit : ℕ} {log′ : List ℕ} {v : QuadwordsResult} → fedBy v log′ ≡ gifFeedOf Three main a n (s .path3) (s .used) log
       → s .channel ≡ 2 → (n ≤ count / 4) × (n ≤ limit)
       → {t : State} → t ≡ withPending (withPath3 s (v .path) (v .used)) NoTagWords (payloadAfter a count (4 * v .taken))
       → Burst main limit (machine s (lent mem code log)) false (counts (v .taken) (v .packets)) (machine t (lent mem code log′))
@@ -415,9 +416,9 @@ module _ {s : State} {a count : ℕ} (p : PayloadNext s a count) where
 
 -- they end where the payload does
 pub quadwords-fit : {main : List ℕ} {s : State} {a count : ℕ} → PayloadInside main s a count → (n : ℕ) (log : List ℕ) {log′ : List ℕ} {v : QuadwordsResult}
-    → fedBy v log′ ≡ gifFeedOf main a n (s .path3) (s .used) log → n ≤ count / 4 → a + 16 * v .taken ≤ 1048576
+    → fedBy v log′ ≡ gifFeedOf Three main a n (s .path3) (s .used) log → n ≤ count / 4 → a + 16 * v .taken ≤ 1048576
 quadwords-fit {main} {s} {a} i n log e l =
-    let f = feed-few main a n (s .path3) (s .used) log e in
+    let f = feed-few Three main a n (s .path3) (s .used) log e in
     let w = i .inside in
     let h = i .most in
     omega arith

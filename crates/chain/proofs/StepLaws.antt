@@ -4,6 +4,7 @@ use mathlib.Core.List.{List}
 use Prim.Native.Nat.{ℕ, _+_}
 use native.Mathlib.Omega.{arith}
 use Rattle.fields.specs.Fields.{if, quadword}
+use Rattle.gif.specs.declared.GifPath.the-variants.{Three}
 use Rattle.gif.specs.declared.GifAnswer.{GifAnswer}
 use Rattle.gif.specs.declared.GifAnswer.the-variants.{Refused as GifRefused}
 use Rattle.gif.specs.declared.GifResult.{GifResult}
@@ -83,10 +84,10 @@ module _ {main : List ℕ} {s : State} {m : Lent} (r : Ready main s m) (a : ℕ)
 
 -- a quadword that the GIF tested
 module _ {main : List ℕ} {s : State} {log : List ℕ} {a : ℕ} (r : QuadwordReady main a s log) (p : Payload) (mem code : List ℕ) {x y : ℕ} (ex : x ≡ longAt main a)
-    (ey : y ≡ longAt main (a + 8)) {v : GifResult} {l : List ℕ} (e : gifLeft v l ≡ gifTakeOf (s .path3) (quadword x y) (s .used) log) where
-  given-as : gifLeft v l ≡ gifStep (s .path3) (quadword (longAt main a) (longAt main (a + 8))) (s .used) log
+    (ey : y ≡ longAt main (a + 8)) {v : GifResult} {l : List ℕ} (e : gifLeft v l ≡ gifTakeOf Three (s .path3) (quadword x y) (s .used) log) where
+  given-as : gifLeft v l ≡ gifStep Three (s .path3) (quadword (longAt main a) (longAt main (a + 8))) (s .used) log
   given-as =
-      rw (ex, ey) at e ∙ tested (s .path3) (quadword (longAt main a) (longAt main (a + 8))) (s .used) log (r .logged) (r .ranged)
+      rw (ex, ey) at e ∙ tested Three (s .path3) (quadword (longAt main a) (longAt main (a + 8))) (s .used) log (r .logged) (r .ranged)
 
   pub gif-gave : {z : Stepped} → z ≡ givenGif (gifLeft v l) p s (lent mem code log) → z ≡ gifGiven main a p s (lent mem code log)
   unfolding gifGiven
@@ -94,7 +95,7 @@ module _ {main : List ℕ} {s : State} {log : List ℕ} {a : ℕ} (r : QuadwordR
 
   pub gif-same : {k : ℕ} → v .answer ≡ GifRefused k → l ≡ log
   gif-same {k} q =
-      let w = step-wrote (s .path3) (s .used) log (log-fits log (s .used) (r .logged) .holds) (quadword (longAt main a) (longAt main (a + 8))) in
+      let w = step-wrote Three (s .path3) (s .used) log (log-fits log (s .used) (r .logged) .holds) (quadword (longAt main a) (longAt main (a + 8))) in
       ap (λ (o : GifLeft). o .log) (given-as ∙ w .same k (ap (λ (o : GifLeft). o .answer) (sym given-as) ∙ q))
 
 -- a pending quadword on channel 2

@@ -8,6 +8,7 @@ use lib.Dec.{eqb}
 use Rattle.fields.specs.Fields.{if}
 use Rattle.fields.specs.Memory.{quadwordAt}
 use Rattle.fields.proofs.ChoiceLaws.{if-ind}
+use Rattle.gif.specs.declared.GifPath.the-variants.{Three}
 use Rattle.gif.specs.declared.GifAnswer.{GifAnswer}
 use Rattle.gif.specs.declared.GifAnswer.the-variants.{Taken, Refused as GifRefused}
 use Rattle.gif.specs.Step.{gifStep}
@@ -103,9 +104,9 @@ module _ (main : List ℕ) (s : State) (m : Lent) (c : s .channel ≡ 0 → ⊥)
 
   quadword-keeps : (a : ℕ) (p : Payload) → Vif0Kept (gifGiven main a p s m)
   unfolding gifGiven
-  quadword-keeps a p = go (gifStep (s .path3) (quadwordAt main a) (s .used) (m .log) .answer)
+  quadword-keeps a p = go (gifStep Three (s .path3) (quadwordAt main a) (s .used) (m .log) .answer)
     where
-      go : (b : GifAnswer) → Vif0Kept (afterGif b (gifStep (s .path3) (quadwordAt main a) (s .used) (m .log)) p s m)
+      go : (b : GifAnswer) → Vif0Kept (afterGif b (gifStep Three (s .path3) (quadwordAt main a) (s .used) (m .log)) p s m)
       go (Taken d) = refl
       go (GifRefused n) = refl
 

@@ -6,6 +6,7 @@ use lib.Dec.{eqb}
 use Rattle.fields.specs.declared.Counts.{Counts}
 use Rattle.fields.specs.Counts.{none, oneStep}
 use Rattle.fields.specs.Fields.{if}
+use Rattle.gif.specs.declared.GifPath.the-variants.{Three}
 use Rattle.gif.specs.declared.GifAnswer.{GifAnswer}
 use Rattle.gif.specs.declared.GifAnswer.the-variants.{Taken, Refused as GifRefused}
 use Rattle.gif.specs.Step.{Left as GifLeft, gifStep}
@@ -86,8 +87,9 @@ afterGif (GifRefused n) o p s m = refusedStep n s m
 abbrev pub givenGif : GifLeft → Payload → State → Lent → Stepped
 givenGif o p s m = afterGif (o .answer) o p s m
 
+-- channel 2 gives it to path 3, which its log entries name
 unfoldable pub gifGiven : List ℕ → ℕ → Payload → State → Lent → Stepped
-gifGiven main a p s m = givenGif (gifStep (s .path3) (quadwordAt main a) (s .used) (m .log)) p s m
+gifGiven main a p s m = givenGif (gifStep Three (s .path3) (quadwordAt main a) (s .used) (m .log)) p s m
 
 -- a pending payload word, on channel 2 a quadword
 unfoldable pub payloadStep : List ℕ → ℕ → ℕ → State → Lent → Stepped

@@ -11,6 +11,7 @@ use super::setters::with_pending;
 use super::setters::with_unit;
 use fields::Counts;
 use fields::steps_alone;
+use gif::GifPath;
 ghost use mathlib.Core.Path.{_≡_};
 ghost use mathlib.Core.Bool.{false};
 ghost use mathlib.Core.List.{List};
@@ -88,7 +89,15 @@ fn give_quadwords(
         (r .interrupt) (r .counts) (machine (r .state) (lent mem code (now (log .exit))))) ⌝ }
 {
     let path3 = s.path3;
-    let r = gif::take_quadwords(path3, main, at, smaller(count / 4, limit), log, s.used);
+    let r = gif::take_quadwords(
+        GifPath::Three,
+        path3,
+        main,
+        at,
+        smaller(count / 4, limit),
+        log,
+        s.used,
+    );
     let path = r.path;
     let rest = payload_after(at, count, 4 * r.taken);
     let counts = Counts {

@@ -15,6 +15,7 @@ use super::tags::refused;
 use super::tags::take_tag;
 use fields::long_at;
 use gif::GifAnswer;
+use gif::GifPath;
 use vif::VifAnswer;
 use vif::incoming_at;
 ghost use mathlib.Core.Path.{_≡_};
@@ -73,7 +74,14 @@ fn give_gif(main: &[u8], a: u32, rest: Payload, s: State, log: &mut [u64]) -> St
         ≡ gifGiven (now (main .entry)) a rest s (lent mem code (now (log .entry)))) ⌝ }
 {
     let path3 = s.path3;
-    let r = gif::take_quadword(path3, long_at(main, a), long_at(main, a + 8), log, s.used);
+    let r = gif::take_quadword(
+        GifPath::Three,
+        path3,
+        long_at(main, a),
+        long_at(main, a + 8),
+        log,
+        s.used,
+    );
     let answer = r.answer;
     let path = r.path;
     let tags = s.tags;
