@@ -7,7 +7,8 @@ use lib.ListN.{length, getD, take, drop, length-drop}
 use lib.Seq.{sets, take-add, drop-drop}
 use Rattle.fields.specs.Fields.{bits, quadword}
 use Rattle.fields.proofs.FieldLaws.{whole-low, bits-middle}
-use Rattle.gif.specs.Log.{numbers}
+use Rattle.gif.specs.declared.GifPath.the-variants.{Two}
+use Rattle.gif.specs.Log.{numbers, entriesBy}
 use Rattle.gif.specs.Run.{addressDatas}
 use Rattle.unpack.specs.Whole.{storeQuadword, copyVectors, fourWords}
 use Rattle.memories.specs.declared.VifUnit.the-variants.{Vif1}
@@ -16,7 +17,6 @@ use Rattle.vif.specs.Feeds.{storeInstruction, copyInstructions}
 use Rattle.sheet.specs.Records.{bytesAt, number}
 use Rattle.sheet.specs.Layout.{wordBytes}
 use Rattle.sheet.specs.Meaning.{vectorOf, putVectors, putInstructions, entriesAt}
-use Rattle.sheet.specs.Results.{numbersOf}
 use Rattle.conformance.proofs.WordLaws.{Octets, no-byte, one-byte, wordsOf, words-at, four-back, both}
 
 -- ---- data
@@ -148,7 +148,7 @@ module _ {body : List ℕ} (b : Octets body) (j : ℕ) where
       bits-middle (number (bytesAt body (16 * j) 8)) (number (bytesAt body (16 * j + 8) 8)) (bytes-small 8 (bytes-drop (16 * j) b)) 71
       ∙ first-byte (bytes-drop (16 * j + 8) b)
 
-pub entries-same : {body : List ℕ} → Octets body → (n j : ℕ) → numbers (addressDatas (bodyQuadwords body n j)) ≡ numbersOf (entriesAt body n j)
+pub entries-same : {body : List ℕ} → Octets body → (n j : ℕ) → numbers (entriesBy Two (addressDatas (bodyQuadwords body n j))) ≡ numbers (entriesAt body n j)
 unfolding bodyQuadwords entriesAt
 entries-same b zero j = refl
 entries-same b (suc n) j = rw (value-same b j, register-same b j, entries-same b n (suc j))

@@ -10,7 +10,7 @@ use lib.Seq.{take-at}
 use lib.Dec.{eqb, ltb, leb}
 use Rattle.fields.specs.Fields.{if}
 use Rattle.fields.proofs.ChoiceLaws.{if-ind-by, and-left, or-right}
-use Rattle.gif.specs.Log.{logRefused}
+use Rattle.gif.specs.Log.{entrySize, logMost, entriesIn, logRefused}
 use Rattle.memories.specs.declared.VifUnit.the-variants.{Vif1}
 use Rattle.memories.specs.Units.{dataWords, codeBytes}
 use Rattle.memories.specs.Lengths.{Lent, LengthsFit}
@@ -29,7 +29,6 @@ use Rattle.sheet.specs.Sizes.{quadwordsOf, entriesOf, sheetQuadwords, sheetStep
 use Rattle.sheet.specs.Layout.{chainOf}
 use Rattle.sheet.specs.Build.{stored, buildOf}
 use Rattle.sheet.specs.Meaning.{plain}
-use Rattle.sheet.specs.Results.{entriesIn}
 use Rattle.sheet.proofs.WholeLaws.{reader-loses-nothing}
 use Rattle.sheet.proofs.LayoutLaws.{chain-length}
 use Rattle.sheet.proofs.MeaningLaws.{meaning-count}
@@ -112,7 +111,7 @@ module _ (sheet : List ℕ) (rs : List Record) (b : Bytes sheet) (c : contentsOf
 
   -- a place in main memory that the chain fits in
   module _ (main : List ℕ) (a allowance : ℕ) (m : Lent) (inside : a + length (chainOf rs) ≤ length main) (aligned : a % 16 ≡ 0)
-      (size : mainRefused (length main) ≡ false) (words : length (m .mem) ≡ dataWords Vif1) (bytes : length (m .code) ≡ codeBytes Vif1) (log : length (m .log) ≡ 131072)
+      (size : mainRefused (length main) ≡ false) (words : length (m .mem) ≡ dataWords Vif1) (bytes : length (m .code) ≡ codeBytes Vif1) (log : length (m .log) ≡ logMost)
       (allowed : sheetSteps rs ≤ allowance) where
     most : length main ≤ 1048576
     unfolding mainRefused
@@ -130,7 +129,7 @@ module _ (sheet : List ℕ) (rs : List Record) (b : Bytes sheet) (c : contentsOf
     fit = record { long = words; wide = bytes; logged = rw log }
 
     -- the log has room for every entry
-    room-all : 2 * length (meansFrom sheet resetState m .entries) ≤ length (m .log)
+    room-all : entrySize * length (meansFrom sheet resetState m .entries) ≤ length (m .log)
     unfolding resetState
     room-all =
         let n = meaning-count rs (plain (m .mem) (m .code) (entriesIn (m .log) 0)) in
@@ -174,7 +173,7 @@ module _ (sheet : List ℕ) (rs : List Record) (b : Bytes sheet) (c : contentsOf
 
   -- there is such a place: a main memory as long as the chain
   module _ (main : List ℕ) (m : Lent) (long : length main ≡ length (chainOf rs)) (words : length (m .mem) ≡ dataWords Vif1) (bytes : length (m .code) ≡ codeBytes Vif1)
-      (log : length (m .log) ≡ 131072) where
+      (log : length (m .log) ≡ logMost) where
     taken-whole : mainRefused (length main) ≡ false
     taken-whole =
         let q = few-of .quadwords in
@@ -187,7 +186,7 @@ module _ (sheet : List ℕ) (rs : List Record) (b : Bytes sheet) (c : contentsOf
     play-not-empty = reset-plays main 0 (sheetSteps rs) m (omega arith) (omega arith) taken-whole words bytes log (omega arith)
 
   -- or the chain itself
-  pub not-empty : (m : Lent) → length (m .mem) ≡ dataWords Vif1 → length (m .code) ≡ codeBytes Vif1 → length (m .log) ≡ 131072
+  pub not-empty : (m : Lent) → length (m .mem) ≡ dataWords Vif1 → length (m .code) ≡ codeBytes Vif1 → length (m .log) ≡ logMost
       → Premises sheet (chainOf rs) (chainOf rs) 0 (length (chainOf rs)) (sheetSteps rs) resetState m
   not-empty m words bytes log =
       reset-meets (chainOf rs) 0 (sheetSteps rs) m (omega arith) (omega arith) (taken-whole (chainOf rs) m refl words bytes log) words bytes log (omega arith) (chainOf rs) [] (omega arith) (sym (append-nil (chainOf rs)))

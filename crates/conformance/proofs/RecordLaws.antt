@@ -11,7 +11,8 @@ use lib.Seq.{sets, drop-drop, drop-append-le, take-append-le, take-add, length-t
 use Rattle.fields.specs.Fields.{if, quadword}
 use Rattle.gif.specs.declared.Path.{Path}
 use Rattle.gif.specs.declared.Place.the-variants.{Idle}
-use Rattle.gif.specs.Log.{logged}
+use Rattle.gif.specs.declared.Entry.{Entry}
+use Rattle.gif.specs.Log.{entrySize, startEntry, numbers, logged}
 use Rattle.gif.specs.Tag.{pathOf}
 use Rattle.gif.specs.Run.{sheetTag}
 use Rattle.unpack.proofs.VectorLaws.{Words, none, more}
@@ -41,8 +42,7 @@ use Rattle.sheet.specs.declared.Kind.{Kind}
 use Rattle.sheet.specs.declared.Kind.the-variants.{Data, Code, Gs, Start}
 use Rattle.sheet.specs.Layout.{wordsBytes, tagWords, paddingWords, leadWords, laidOut, gifTagWords, oddPadding}
 use Rattle.sheet.specs.Sizes.{halved}
-use Rattle.sheet.specs.Meaning.{Entry, entry, putVectors, putInstructions, entriesAt}
-use Rattle.sheet.specs.Results.{numbersOf}
+use Rattle.sheet.specs.Meaning.{putVectors, putInstructions, entriesAt}
 use Rattle.sheet.proofs.LayoutLaws.{words-length as bytes-length}
 use Rattle.sheet.proofs.MeaningLaws.{entries-count}
 use Rattle.conformance.proofs.WordLaws.{Octets, wordsOf, words-small, words-length, wordsFrom, words-join, placed-next, word-number, words-read, words-placed}
@@ -95,7 +95,7 @@ pub record Arrived (main : List ℕ) (k b : ℕ) (s : State) (m : Lent) (mem cod
   pub reached : InSteps main k (machine s m) (machine state (lent mem code log))
   pub idle : IdleAt b state
   pub used : state .used ≡ s .used + length es
-  pub logged : log ≡ sets (m .log) (2 * s .used) (numbersOf es)
+  pub logged : log ≡ sets (m .log) (entrySize * s .used) (numbers es)
 
 module _ (main : List ℕ) (a : ℕ) (s : State) (m : Lent) (i : IdleAt a s) (q : ℕ) (some : 1 ≤ q) (few : q < 65536) (tag : longAt main a ≡ 268435456 + q)
     (room : a + 16 + 16 * q ≤ length main) where
@@ -264,7 +264,7 @@ module _ (main : List ℕ) (a : ℕ) (s : State) (m : Lent) (i : IdleAt a s) whe
       → InSteps main k (machine s m) (feeding (tagged main a s m i q some few tag room) y NoPayload)
       → y .unit .waiting ≡ Nothing → length (y .unit .row) ≡ 4 → y .path2 .place ≡ Idle → b ≡ a + 16 + 16 * q
       → y .memories .mem ≡ mem → y .memories .code ≡ code
-      → y .used ≡ s .used + length es → y .memories .log ≡ sets (m .log) (2 * s .used) (numbersOf es)
+      → y .used ≡ s .used + length es → y .memories .log ≡ sets (m .log) (entrySize * s .used) (numbers es)
       → Arrived main k b s m mem code es
   arrived {k} {q} some few tag room y r w h p e t c u l =
       record {
@@ -301,8 +301,8 @@ module _ (main : List ℕ) (a : ℕ) (s : State) (m : Lent) (i : IdleAt a s) whe
       refl
 
   -- a program start
-  pub start-record : (b : ℕ) (rest : List ℕ) → b < instructions Vif1 → 2 * (s .used + 1) ≤ length (m .log) → drop a main ≡ laidOut (recordOf Start 0 b []) ++ rest
-      → Arrived main 5 (a + 16 * 2) s m (m .mem) (m .code) (entry 256 b ∷ [])
+  pub start-record : (b : ℕ) (rest : List ℕ) → b < instructions Vif1 → entrySize * (s .used + 1) ≤ length (m .log) → drop a main ≡ laidOut (recordOf Start 0 b []) ++ rest
+      → Arrived main 5 (a + 16 * 2) s m (m .mem) (m .code) (startEntry 256 b ∷ [])
   unfolding logged wordsFrom
   start-record b rest inside room e =
       let p = e ∙ laid-parts Start 0 b [] rest in
@@ -361,7 +361,7 @@ module _ (main : List ℕ) (a : ℕ) (s : State) (m : Lent) (i : IdleAt a s) whe
       refl
 
   -- GS writes: n log entries
-  pub gs-record : (n : ℕ) (body rest : List ℕ) → 1 ≤ n → n ≤ 255 → Octets body → length body ≡ 16 * n → a % 16 ≡ 0 → 2 * (s .used + n) ≤ length (m .log)
+  pub gs-record : (n : ℕ) (body rest : List ℕ) → 1 ≤ n → n ≤ 255 → Octets body → length body ≡ 16 * n → a % 16 ≡ 0 → entrySize * (s .used + n) ≤ length (m .log)
       → drop a main ≡ laidOut (recordOf Gs n 0 body) ++ rest
       → Arrived main (6 + n) (a + 16 * (3 + n)) s m (m .mem) (m .code) (entriesAt body n 0)
   unfolding logged wordsFrom quadwordsFrom

@@ -9,6 +9,8 @@ use lib.ListN.{length, drop}
 use lib.Seq.{sets, length-sets}
 use lib.Dec.{leb}
 use Rattle.fields.proofs.ChoiceLaws.{and-left, and-right}
+use Rattle.gif.specs.declared.Entry.{Entry}
+use Rattle.gif.specs.Log.{entrySize, numbers}
 use Rattle.memories.specs.declared.VifUnit.the-variants.{Vif1}
 use Rattle.memories.specs.Units.{quadwords, instructions}
 use Rattle.memories.specs.Lengths.{Lent, lent}
@@ -24,8 +26,7 @@ use Rattle.sheet.specs.Records.{Record, recordOf, countFits, addressFits, bodyL
 use Rattle.sheet.specs.Whole.{AllMeet, none, more, recordBytes, sheetBytes}
 use Rattle.sheet.specs.Sizes.{quadwordsOf, stepsOf, entriesOf, sheetSteps, sheetEntries}
 use Rattle.sheet.specs.Layout.{laidOut, endTag, chainOf}
-use Rattle.sheet.specs.Meaning.{Entry, entriesBy, memBy, codeBy}
-use Rattle.sheet.specs.Results.{numbersOf}
+use Rattle.sheet.specs.Meaning.{entriesBy, memBy, codeBy}
 use Rattle.sheet.specs.Fed.{Fed, fed, fedBy, fedAll}
 use Rattle.sheet.proofs.MeaningLaws.{row-count}
 use Rattle.sheet.proofs.LayoutLaws.{laid-length}
@@ -42,7 +43,7 @@ some-count n h = (leb-true 1 n (and-left (leb 1 n) (leb n 255) h), leb-true n 25
 
 module _ (main : List ℕ) (a : ℕ) (s : State) (m : Lent) (i : IdleAt a s) (aligned : a % 16 ≡ 0) (rest : List ℕ) where
   kind-arrives : (k : Kind) (n b : ℕ) (body : List ℕ) → countFits k n ≡ true → addressFits k b ≡ true → length body ≡ bodyLength k n → Octets body
-      → 2 * (s .used + entriesOf k n) ≤ length (m .log) → drop a main ≡ laidOut (recordOf k n b body) ++ rest
+      → entrySize * (s .used + entriesOf k n) ≤ length (m .log) → drop a main ≡ laidOut (recordOf k n b body) ++ rest
       → Arrived main (stepsOf k n) (a + 16 * quadwordsOf k n) s m (memBy k n b body (m .mem)) (codeBy k n b body (m .code)) (entriesBy k n b body)
   kind-arrives Data n b body c d l o room e =
       let h = some-count n c in
@@ -97,7 +98,7 @@ body-octets : (r : Record) (rs : List Record) → Octets (recordBytes r ++ sheet
 body-octets r rs (one-byte a (one-byte b (one-byte c (one-byte d (one-byte e (one-byte f o)))))) = o
 
 same-fed : (s : State) (m : Lent) (r : Record) {log : List ℕ} {used : ℕ}
-    → log ≡ sets (m .log) (2 * s .used) (numbersOf (entriesBy (r .kind) (r .count) (r .address) (r .body)))
+    → log ≡ sets (m .log) (entrySize * s .used) (numbers (entriesBy (r .kind) (r .count) (r .address) (r .body)))
     → used ≡ s .used + entriesOf (r .kind) (r .count)
     → fed (memBy (r .kind) (r .count) (r .address) (r .body) (m .mem)) (codeBy (r .kind) (r .count) (r .address) (r .body) (m .code)) log used
     ≡ fedBy r (given s m)
@@ -105,7 +106,7 @@ unfolding fedBy
 same-fed s m r p q = rw (p, q)
 
 pub sheet-ends : (main : List ℕ) {rs : List Record} → AllMeet rs → Octets (sheetBytes rs) → (a : ℕ) (s : State) (m : Lent) → IdleAt a s → a % 16 ≡ 0
-    → 2 * (s .used + sheetEntries rs) ≤ length (m .log)
+    → entrySize * (s .used + sheetEntries rs) ≤ length (m .log)
     → (rest : List ℕ) → drop a main ≡ chainOf rs ++ rest
     → Ended main (sheetSteps rs) s m (fedAll rs (given s m))
 unfolding sheetSteps sheetEntries chainOf fedAll sheetBytes
@@ -116,7 +117,7 @@ sheet-ends main (more {r} {rs} f fs) o a s m i aligned room rest e =
     let x = kind-arrives main a s m i aligned (chainOf rs ++ rest) (r .kind) (r .count) (r .address) (r .body) (f .count) (f .address) (f .size) (octets-left (r .body) (sheetBytes rs) os) (omega arith) p in
     let c = row-count (r .kind) (r .count) (r .address) (r .body) in
     let u = x .used in
-    let l : length (x .log) ≡ length (m .log) = ap length (x .logged) ∙ length-sets (m .log) (2 * s .used) (numbersOf (entriesBy (r .kind) (r .count) (r .address) (r .body))) in
+    let l : length (x .log) ≡ length (m .log) = ap length (x .logged) ∙ length-sets (m .log) (entrySize * s .used) (numbers (entriesBy (r .kind) (r .count) (r .address) (r .body))) in
     let q = placed-next main a (16 * quadwordsOf (r .kind) (r .count)) (laidOut r) (chainOf rs ++ rest) (laid-length r (f .size)) p in
     let m1 = lent (memBy (r .kind) (r .count) (r .address) (r .body) (m .mem)) (codeBy (r .kind) (r .count) (r .address) (r .body) (m .code)) (x .log) in
     let y = sheet-ends main fs (octets-right (r .body) (sheetBytes rs) os) (a + 16 * quadwordsOf (r .kind) (r .count)) (x .state) m1 (x .idle) (omega arith) (omega arith) rest q in

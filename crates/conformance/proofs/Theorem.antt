@@ -13,6 +13,9 @@ use Rattle.fields.proofs.CountLaws.{plus-none}
 use Rattle.fields.specs.Fields.{if}
 use Rattle.fields.proofs.ChoiceLaws.{if-ind-by}
 use Rattle.gif.proofs.RangeLaws.{log-fits}
+use Rattle.gif.specs.declared.Entry.{Entry}
+use Rattle.gif.specs.Log.{entrySize, numbers, entriesIn}
+use Rattle.gif.proofs.LogLaws.{numbers-length, in-count}
 use Rattle.memories.specs.Lengths.{Lent, lent}
 use Rattle.chain.specs.declared.Answer.the-variants.{Done}
 use Rattle.chain.specs.declared.StartAnswer.the-variants.{Started}
@@ -31,11 +34,11 @@ use Rattle.sheet.specs.Reader.{Contents, valid, refused, contentsOf}
 use Rattle.sheet.specs.Sizes.{sheetSteps, sheetEntries}
 use Rattle.sheet.specs.Layout.{chainOf}
 use Rattle.sheet.specs.Build.{Left, builtFrom, buildOf}
-use Rattle.sheet.specs.Meaning.{Entry, Plain, plain, meaningOf}
-use Rattle.sheet.specs.Results.{numbersOf, entriesIn, logWith}
+use Rattle.sheet.specs.Meaning.{Plain, plain, meaningOf}
+use Rattle.sheet.specs.Results.{logWith}
 use Rattle.sheet.specs.Fed.{Fed, fed, fedAll}
 use Rattle.sheet.proofs.WholeLaws.{reader-loses-nothing}
-use Rattle.sheet.proofs.MeaningLaws.{meaning-count, in-count, log-same, numbers-length}
+use Rattle.sheet.proofs.MeaningLaws.{meaning-count, log-same}
 use Rattle.sheet.proofs.FedLaws.{fedPlain, fed-sheet}
 use Rattle.conformance.specs.Demand.{recordsOf, meansFrom, Typed, Premises, runFrom, Conclusion}
 use Rattle.conformance.proofs.WordLaws.{octets}
@@ -78,19 +81,19 @@ start-made s a h =
 -- ---- the log
 
 -- the entries at a log's front
-entries-front : (es : List Entry) (xs : List ℕ) → entriesIn (numbersOf es ++ xs) (length es) ≡ es
+entries-front : (es : List Entry) (xs : List ℕ) → entriesIn (numbers es ++ xs) (length es) ≡ es
 entries-front [] xs = refl
 entries-front (e ∷ es) xs = rw (entries-front es xs)
 
 -- the numbers past a log's first entries
-log-past : (es : List Entry) (log : List ℕ) → drop (2 * length es) (logWith es log) ≡ drop (2 * length es) log
-log-past es log = drop-at (numbersOf es) (drop (2 * length es) log) (2 * length es) (numbers-length es)
+log-past : (es : List Entry) (log : List ℕ) → drop (entrySize * length es) (logWith es log) ≡ drop (entrySize * length es) log
+log-past es log = drop-at (numbers es) (drop (entrySize * length es) log) (entrySize * length es) (numbers-length es)
 
-log-whole : (es : List Entry) (log : List ℕ) → 2 * length es ≤ length log → length (logWith es log) ≡ length log
+log-whole : (es : List Entry) (log : List ℕ) → entrySize * length es ≤ length log → length (logWith es log) ≡ length log
 log-whole es log h =
     let n = numbers-length es in
-    let d = length-drop (2 * length es) log in
-    length-append (numbersOf es) (drop (2 * length es) log) ∙ omega arith
+    let d = length-drop (entrySize * length es) log in
+    length-append (numbers es) (drop (entrySize * length es) log) ∙ omega arith
 
 -- ---- the run
 
@@ -113,7 +116,7 @@ run-ends main k allowance s m o e h =
     ∙ ap (λ (x : Counts). ran Done (e .state) x (lent (o .mem) (o .code) (o .log))) (plus-none d))
 
 -- what a sheet's records make of the memories, the log and the entries used is its meaning
-fed-means : (rs : List Record) (mem code log : List ℕ) (used : ℕ) → 2 * used ≤ length log → 2 * (used + sheetEntries rs) ≤ length log
+fed-means : (rs : List Record) (mem code log : List ℕ) (used : ℕ) → entrySize * used ≤ length log → entrySize * (used + sheetEntries rs) ≤ length log
     → fedAll rs (fed mem code log used) ≡ fedPlain (meaningOf rs (plain mem code (entriesIn log used))) log
 fed-means rs mem code log used h room =
     let c = in-count log used h in
@@ -143,7 +146,7 @@ module _ (sheet output main : List ℕ) (a size allowance : ℕ) (s : State) (m 
   passed : entryRefusal main m begun ≡ 0
   passed = rw begun-same at (p .entered)
 
-  holds : 2 * s .used ≤ length (m .log)
+  holds : entrySize * s .used ≤ length (m .log)
   holds = log-fits (m .log) (s .used) (facts-of {main = main} {s = begun} {m = m} (record { passed = passed }) .fit .logged) .holds
 
   abbrev means : Plain
@@ -152,10 +155,10 @@ module _ (sheet output main : List ℕ) (a size allowance : ℕ) (s : State) (m 
   means-same : meansFrom sheet s m ≡ means
   means-same = rw records-same
 
-  fits : 2 * length (means .entries) ≤ length (m .log)
+  fits : entrySize * length (means .entries) ≤ length (m .log)
   fits = rw means-same at (p .room)
 
-  room : 2 * (s .used + sheetEntries rs) ≤ length (m .log)
+  room : entrySize * (s .used + sheetEntries rs) ≤ length (m .log)
   room =
       let h = fits in
       let c = meaning-count rs (plain (m .mem) (m .code) (entriesIn (m .log) (s .used))) in
@@ -203,7 +206,7 @@ module _ (sheet output main : List ℕ) (a size allowance : ℕ) (s : State) (m 
         mem = rw records-same (ap (λ (r : Ran). r .after .memories .mem) run-is);
         code = rw records-same (ap (λ (r : Ran). r .after .memories .code) run-is);
         used = rw records-same used-is;
-        entries = rw (records-same, used-is, run-is) (entries-front (means .entries) (drop (2 * length (means .entries)) (m .log)));
+        entries = rw (records-same, used-is, run-is) (entries-front (means .entries) (drop (entrySize * length (means .entries)) (m .log)));
         log-length = rw run-is (log-whole (means .entries) (m .log) fits);
         log-rest = rw (records-same, run-is) (log-past (means .entries) (m .log));
       }

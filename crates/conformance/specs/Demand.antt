@@ -6,6 +6,7 @@ use mathlib.Core.List.{List, [], _++_}
 use mathlib.Core.Path.{_≡_}
 use lib.ListN.{length, take, drop}
 use Rattle.gif.specs.declared.Place.the-variants.{Idle}
+use Rattle.gif.specs.Log.{entrySize, entriesIn}
 use Rattle.memories.specs.Lengths.{Lent}
 use Rattle.vif.specs.declared.Waiting.the-variants.{Nothing}
 use Rattle.chain.specs.declared.Answer.the-variants.{Done}
@@ -21,7 +22,6 @@ use Rattle.sheet.specs.Whole.{Bytes}
 use Rattle.sheet.specs.Sizes.{sheetSteps}
 use Rattle.sheet.specs.Build.{buildOf}
 use Rattle.sheet.specs.Meaning.{Plain, plain, meaningOf}
-use Rattle.sheet.specs.Results.{entriesIn}
 
 -- a sheet's records; none where it is refused
 abbrev pub recordsIn : Contents → List Record
@@ -59,7 +59,7 @@ pub record Premises (sheet output main : List ℕ) (a size allowance : ℕ) (s :
   pub idle : s .vif1 .waiting ≡ Nothing
   pub path-idle : s .path2 .place ≡ Idle
   -- the log has room for every entry of the meaning
-  pub room : 2 * length (meansFrom sheet s m .entries) ≤ length (m .log)
+  pub room : entrySize * length (meansFrom sheet s m .entries) ≤ length (m .log)
   -- the allowance is at least the sheet's steps
   pub allowed : stepsMeant sheet ≤ allowance
 
@@ -81,5 +81,5 @@ pub record Conclusion (sheet main : List ℕ) (a allowance : ℕ) (s : State) (m
       ≡ meansFrom sheet s m .entries
   -- the log's length and its numbers past the list stay
   pub log-length : length (runFrom main a allowance s m .after .memories .log) ≡ length (m .log)
-  pub log-rest : drop (2 * length (meansFrom sheet s m .entries)) (runFrom main a allowance s m .after .memories .log)
-      ≡ drop (2 * length (meansFrom sheet s m .entries)) (m .log)
+  pub log-rest : drop (entrySize * length (meansFrom sheet s m .entries)) (runFrom main a allowance s m .after .memories .log)
+      ≡ drop (entrySize * length (meansFrom sheet s m .entries)) (m .log)

@@ -10,6 +10,7 @@ use Rattle.fields.specs.Counts.{none}
 use Rattle.fields.specs.Fields.{if}
 use Rattle.fields.specs.Refusals.{mainLength, outOfRange}
 use Rattle.gif.specs.declared.Place.the-variants.{Idle}
+use Rattle.gif.specs.Log.{entrySize, entriesIn}
 use Rattle.memories.specs.declared.VifUnit.the-variants.{Vif1}
 use Rattle.memories.specs.Lengths.{Lent, lengthsRefusal}
 use Rattle.vif.specs.declared.Waiting.the-variants.{Nothing}
@@ -21,7 +22,6 @@ use Rattle.chain.specs.Run.{Ran, numberOf, runOf}
 use Rattle.sheet.specs.declared.BuildAnswer.{BuildAnswer}
 use Rattle.sheet.specs.declared.BuildAnswer.the-variants.{Built, Refused as BuildRefused}
 use Rattle.sheet.specs.Build.{Left, buildOf}
-use Rattle.sheet.specs.Results.{entriesIn}
 use Rattle.conformance.specs.Demand.{stepsMeant, meansFrom}
 use Rattle.conformance.specs.declared.PlayAnswer.{PlayAnswer}
 use Rattle.conformance.specs.declared.PlayAnswer.the-variants.{Ended, Refused}
@@ -83,7 +83,7 @@ pub record PlayPremises (sheet main : List ℕ) (a allowance : ℕ) (s : State) 
   pub idle : s .vif1 .waiting ≡ Nothing
   pub path-idle : s .path2 .place ≡ Idle
   -- the log has room for every entry of the meaning
-  pub room : 2 * length (meansFrom sheet s m .entries) ≤ length (m .log)
+  pub room : entrySize * length (meansFrom sheet s m .entries) ≤ length (m .log)
   -- the allowance is at least the sheet's steps
   pub allowed : stepsMeant sheet ≤ allowance
 
@@ -102,4 +102,5 @@ pub record PlayConclusion (sheet main : List ℕ) (a : ℕ) (s : State) (m : Len
   pub entries : entriesIn (r .memories .log) (r .state .used) ≡ meansFrom sheet s m .entries
   -- the log's length and its numbers past the list stay
   pub log-length : length (r .memories .log) ≡ length (m .log)
-  pub log-rest : drop (2 * length (meansFrom sheet s m .entries)) (r .memories .log) ≡ drop (2 * length (meansFrom sheet s m .entries)) (m .log)
+  pub log-rest : drop (entrySize * length (meansFrom sheet s m .entries)) (r .memories .log)
+      ≡ drop (entrySize * length (meansFrom sheet s m .entries)) (m .log)

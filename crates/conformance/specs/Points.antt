@@ -7,6 +7,7 @@ use mathlib.Core.Path.{_≡_}
 use lib.ListN.{take, drop, replicate}
 use lib.Dec.{eqb}
 use Rattle.fields.specs.Fields.{if}
+use Rattle.gif.specs.Log.{entrySize}
 use Rattle.memories.specs.declared.VifUnit.{VifUnit}
 use Rattle.memories.specs.declared.VifUnit.the-variants.{Vif0, Vif1}
 use Rattle.memories.specs.Units.{quadwords, instructions, dataWords, codeBytes}
@@ -43,9 +44,13 @@ AllHold (p ∷ ps) = (p .computed ≡ p .stated) × AllHold ps
 
 -- ---- the bench
 
--- data memory, code memory and a log of four entries, all zeros
+-- a log of four entries, all zeros
+abbrev pub blankLog : List ℕ
+blankLog = replicate (entrySize * 4) 0
+
+-- data memory, code memory and the log, all zeros
 abbrev pub blank : Lent
-blank = lent (replicate (dataWords Vif1) 0) (replicate (codeBytes Vif1) 0) (replicate 8 0)
+blank = lent (replicate (dataWords Vif1) 0) (replicate (codeBytes Vif1) 0) blankLog
 
 -- a chain at address 0 of main memory, started on channel 1 from reset and run
 unfoldable pub runIn : List ℕ → Ran
@@ -88,7 +93,7 @@ stepsFor sheet = numberOf (runOfSheet sheet .answer) ∷ runOfSheet sheet .count
 
 -- the log's entries, as numbers
 unfoldable pub loggedIn : Ran → List ℕ
-loggedIn r = take (2 * r .after .state .used) (r .after .memories .log)
+loggedIn r = take (entrySize * r .after .state .used) (r .after .memories .log)
 
 -- quadword q of data memory
 unfoldable pub quadwordIn : Ran → ℕ → List ℕ
@@ -198,10 +203,11 @@ points =
     point (sizeOf [] ∷ []) (16 ∷ [])
     ∷ point (chainBytes []) (0 ∷ 0 ∷ 0 ∷ 0x70 ∷ 0 ∷ 0 ∷ 0 ∷ 0 ∷ 0 ∷ 0 ∷ 0 ∷ 0 ∷ 0 ∷ 0 ∷ 0 ∷ 0 ∷ [])
     ∷ point (stepsFor []) (0 ∷ 1 ∷ 1 ∷ [])
-    -- "9E 51 04 00 05 00: words 10000001 0 0 0, 0 0 0 14000005, 70000000 0 0 0 (hex); 6 steps; log 256, 5."
+    -- "9E 51 04 00 05 00: words 10000001 0 0 0, 0 0 0 14000005, 70000000 0 0 0 (hex); 6 steps; log 256, 5.", of which request 11 says: "The bench
+    -- point with 256, 5 becomes 0, 256, 5."
     ∷ point (chainWords startSheet) (0x10000001 ∷ 0 ∷ 0 ∷ 0 ∷ 0 ∷ 0 ∷ 0 ∷ 0x14000005 ∷ 0x70000000 ∷ 0 ∷ 0 ∷ 0 ∷ [])
     ∷ point (stepsFor startSheet) (0 ∷ 6 ∷ 6 ∷ [])
-    ∷ point (loggedIn (runOfSheet startSheet)) (256 ∷ 5 ∷ [])
+    ∷ point (loggedIn (runOfSheet startSheet)) (0 ∷ 256 ∷ 5 ∷ [])
     -- "Kind 1 at 1,023, n 2: 80 bytes, 14 steps, quadwords 1,023 and 0."
     ∷ point (sizeOf dataSheet ∷ []) (80 ∷ [])
     ∷ point (stepsFor dataSheet) (0 ∷ 14 ∷ 14 ∷ [])
@@ -274,9 +280,9 @@ unfedOver = 0x01000101 ∷ 0x60010000 ∷ 5 ∷ 0x60010001 ∷ 5 ∷ 0x01000100 
 abbrev pub fillingDue : List ℕ
 fillingDue = 0x01000302 ∷ 0 ∷ 0 ∷ 0x60040000 ∷ []
 
--- VIF0's memories and a log of four entries, all zeros
+-- VIF0's memories and the log, all zeros
 abbrev pub blank0 : Lent
-blank0 = lent (replicate (dataWords Vif0) 0) (replicate (codeBytes Vif0) 0) (replicate 8 0)
+blank0 = lent (replicate (dataWords Vif0) 0) (replicate (codeBytes Vif0) 0) blankLog
 
 -- VIF0's words by a chain, as VIF1's, on channel 0
 unfoldable pub runOfVif0 : ℕ → List ℕ → Ran
@@ -362,10 +368,10 @@ runFrom s channel log n words =
 
 -- channel 1 with MSCAL 2; channel 2 with a GIF tag of one A+D and value 7 to register 42h
 unfoldable pub second : Ran
-second = runFrom left0 1 (256 ∷ 9 ∷ 0 ∷ 0 ∷ 0 ∷ 0 ∷ 0 ∷ 0 ∷ []) 1 (codeAlone 0x14000002)
+second = runFrom left0 1 (0 ∷ 256 ∷ 9 ∷ drop entrySize blankLog) 1 (codeAlone 0x14000002)
 
 unfoldable pub third : Ran
-third = runFrom left1 2 (256 ∷ 9 ∷ 256 ∷ 2 ∷ 0 ∷ 0 ∷ 0 ∷ 0 ∷ []) 2 (0x00008001 ∷ 0x10000000 ∷ 0x0000000e ∷ 0 ∷ 7 ∷ 0 ∷ 0x42 ∷ 0 ∷ [])
+third = runFrom left1 2 (0 ∷ 256 ∷ 9 ∷ 0 ∷ 256 ∷ 2 ∷ drop (entrySize * 2) blankLog) 2 (0x00008001 ∷ 0x10000000 ∷ 0x0000000e ∷ 0 ∷ 7 ∷ 0 ∷ 0x42 ∷ 0 ∷ [])
 
 -- a sheet built and run on VIF1's memories, from the state that channel 0 left
 unfoldable pub playedFrom0 : List ℕ → Played
@@ -422,6 +428,30 @@ packetsIn r = numberOf (r .answer) ∷ r .counts .steps ∷ r .counts .packets �
 abbrev pub packetOf : ℕ → List ℕ
 packetOf descriptor = 0x00008001 ∷ 0x10000000 ∷ descriptor ∷ 0 ∷ 7 ∷ 0 ∷ 0x42 ∷ 0 ∷ []
 
+-- a GIF tag with PRE, PRIM 5 and descriptor F, and a quadword of data
+abbrev pub primed : List ℕ
+primed = 0x00008001 ∷ 0x1002c000 ∷ 0xf ∷ 0 ∷ 7 ∷ 0 ∷ 0x42 ∷ 0 ∷ []
+
+-- channel 1 with DIRECT, channel 2, and channel 0 with MSCAL 9, over one log, each on what the one before left
+unfoldable pub mixed1 : Ran
+mixed1 = drawnBy 0x50000000 2 primed
+
+unfoldable pub mixed2 : Ran
+mixed2 = runFrom (mixed1 .after .state) 2 (mixed1 .after .memories .log) 2 primed
+
+unfoldable pub mixed0 : Ran
+mixed0 =
+    runOf (wordsBytes (tagWords 1 1 ++ codeAlone 0x14000009 ++ tagWords 7 0)) 100 (startOf (mixed2 .after .state) 0 0 false .state)
+    (lent (blank0 .mem) (blank0 .code) (mixed2 .after .memories .log))
+
+-- n entries used of a log of so many numbers, and nothing to do
+unfoldable pub logOf : ℕ → ℕ → Ran
+logOf numbers n = runFrom (leftOn 1 n resetUnit resetUnit) 1 (replicate numbers 0) 0 []
+
+-- MSCAL 1, 2 and 3 on a log of six numbers
+unfoldable pub overflowing : Ran
+overflowing = runFrom resetState 1 (replicate 6 0) 1 (0x14000001 ∷ 0x14000002 ∷ 0x14000003 ∷ 0 ∷ [])
+
 unfoldable pub requestPoints : List Point
 requestPoints =
     -- request 2: "in MODE 2 a field's ROW is replaced only where that field's mask code is 0." Only X has code 0: 10 + 1, then 11 + 2.
@@ -459,15 +489,15 @@ requestPoints =
     -- an address above the size, and a fill across the end
     ∷ point (quadwordIn (runOfVif0 2 fillAcross0) 255 ++ quadwordIn (runOfVif0 2 fillAcross0) 0) (5 ∷ 5 ∷ 5 ∷ 5 ∷ 5 ∷ 5 ∷ 5 ∷ 5 ∷ [])
     -- "On channel 0 tag words go to VIF0."
-    ∷ point (answerIn tagTransferred ++ startedIn tagTransferred ++ loggedIn tagTransferred) (0 ∷ 5 ∷ 0 ∷ 0 ∷ 0 ∷ 256 ∷ 9 ∷ [])
+    ∷ point (answerIn tagTransferred ++ startedIn tagTransferred ++ loggedIn tagTransferred) (0 ∷ 5 ∷ 0 ∷ 0 ∷ 0 ∷ 0 ∷ 256 ∷ 9 ∷ [])
     -- "2 and 3 test VIF0's sizes on channel 0, else VIF1's": on a channel that is none VIF1's, and then 5
     ∷ point (answerIn (runOn7 blank0) ++ answerIn (runOn7 blank)) (2 ∷ 5 ∷ [])
     -- "MSCAL and MSCNT there change ITOP alone of the registers"
-    ∷ point (loggedIn (runOfVif0 1 (codeAlone 0x17000000))) (258 ∷ 0 ∷ [])
-    ∷ point (startedIn (runOfVif0 1 programStart) ++ loggedIn (runOfVif0 1 programStart)) (5 ∷ 0 ∷ 0 ∷ 0 ∷ 256 ∷ 9 ∷ [])
+    ∷ point (loggedIn (runOfVif0 1 (codeAlone 0x17000000))) (0 ∷ 258 ∷ 0 ∷ [])
+    ∷ point (startedIn (runOfVif0 1 programStart) ++ loggedIn (runOfVif0 1 programStart)) (5 ∷ 0 ∷ 0 ∷ 0 ∷ 0 ∷ 256 ∷ 9 ∷ [])
     -- channels 0, 1 and 2 in turn over one log; `capture-states` says that each begins where the one before ended
-    ∷ point (answerIn second ++ loggedIn second) (0 ∷ 256 ∷ 9 ∷ 256 ∷ 2 ∷ [])
-    ∷ point (answerIn third ++ loggedIn third ++ startedIn third) (0 ∷ 256 ∷ 9 ∷ 256 ∷ 2 ∷ 0x42 ∷ 7 ∷ 5 ∷ 0 ∷ 0 ∷ 0 ∷ [])
+    ∷ point (answerIn second ++ loggedIn second) (0 ∷ 0 ∷ 256 ∷ 9 ∷ 0 ∷ 256 ∷ 2 ∷ [])
+    ∷ point (answerIn third ++ loggedIn third ++ startedIn third) (0 ∷ 0 ∷ 256 ∷ 9 ∷ 0 ∷ 256 ∷ 2 ∷ 3 ∷ 0x42 ∷ 7 ∷ 5 ∷ 0 ∷ 0 ∷ 0 ∷ [])
     -- "its entry tests are made with VIF1's sizes, whatever channel the state held before the start"
     ∷ point (playNumber (playedFrom0 startSheet .answer) ∷ playedFrom0 startSheet .counts .steps ∷ playedFrom0 startSheet .state .used ∷ []) (0 ∷ 6 ∷ 2 ∷ [])
     -- request 5: "The first payload word of an MPG must be word 0 or 2 of its quadword.": after an MPG in word 0, 1, 2 and 3, of either unit
@@ -496,4 +526,15 @@ requestPoints =
     ∷ point (packetsIn (drawn 2 (packetOf 0xb)) ++ packetsIn (drawn 3 (0x00008000 ∷ 0 ∷ 0 ∷ 0 ∷ packetOf 0xb))) (30 ∷ 2 ∷ 0 ∷ 30 ∷ 3 ∷ 1 ∷ [])
     -- path 2, by DIRECT and by DIRECTHL
     ∷ point (packetsIn (drawnBy 0x50000000 2 (packetOf 0xe)) ++ packetsIn (drawnBy 0x51000000 2 (packetOf 0xe))) (0 ∷ 8 ∷ 1 ∷ 0 ∷ 8 ∷ 1 ∷ [])
+    -- request 11: "Path is 2 or 3 for GIF writes and 0 for program starts.": DIRECT, DIRECTHL and channel 2, with A+D and with PRE
+    ∷ point (loggedIn (drawnBy 0x50000000 2 (packetOf 0xe)) ++ loggedIn (drawnBy 0x51000000 2 (packetOf 0xe))) (2 ∷ 0x42 ∷ 7 ∷ 2 ∷ 0x42 ∷ 7 ∷ [])
+    ∷ point (loggedIn (drawn 2 (packetOf 0xe)) ++ loggedIn (drawn 2 primed)) (3 ∷ 0x42 ∷ 7 ∷ 3 ∷ 0 ∷ 5 ∷ [])
+    -- "Captures now mix channels over one log": channels 1, 2 and 0
+    ∷ point (answerIn mixed0 ++ loggedIn mixed0) (0 ∷ 2 ∷ 0 ∷ 5 ∷ 3 ∷ 0 ∷ 5 ∷ 0 ∷ 256 ∷ 9 ∷ [])
+    -- "In a sheet's meaning, GS entries have path 2 and start entries path 0."
+    ∷ point (loggedIn (runOfSheet gsSheet)) (2 ∷ 0xa ∷ 1 ∷ [])
+    -- "4 now means a length not a multiple of 3, ... or below three times the entries used": 2^64 + 2 is three times the last
+    ∷ point (answerIn (logOf 8 0) ++ answerIn (logOf 9 3) ++ answerIn (logOf 9 4) ++ answerIn (logOf 9 0x5555555555555556)) (4 ∷ 0 ∷ 4 ∷ 4 ∷ [])
+    -- "31 counts three numbers an entry": after the tag two program starts are taken, the third is not
+    ∷ point (answerIn overflowing ++ (overflowing .counts .steps ∷ loggedIn overflowing)) (31 ∷ 3 ∷ 0 ∷ 256 ∷ 1 ∷ 0 ∷ 256 ∷ 2 ∷ [])
     ∷ []

@@ -57,7 +57,8 @@ abbrev pub started : VifUnit → Vif → Vif
 started Vif0 v = withStart v (v .itops) (v .top) (v .dbf) (v .tops)
 started Vif1 v = withStart v (v .itops) (v .tops) (not (v .dbf)) (nextTops (not (v .dbf)) v)
 
--- "14 MSCAL, 15 MSCALF, 17 MSCNT: log entry 256, 257, 258 with value IMM, IMM, 0", request 11: "Path is ... 0 for program starts", of either unit; "31 log lacks room"
+-- "14 MSCAL, 15 MSCALF, 17 MSCNT: log entry 256, 257, 258 with value IMM, IMM, 0"; "31 log lacks room"; request 11: "Path is 2 or 3 for GIF writes and 0 for
+-- program starts.", of either unit
 unfoldable pub startProgram : VifUnit → ℕ → ℕ → Vif → Bool → ℕ → List ℕ → List ℕ → Executed
 startProgram which r x v i used mem log =
     if (lacksRoom log used 1) (executed (Refused logFull) v used mem log)
