@@ -20,3 +20,6 @@ pub use sum::sum_of_words;
 pub use whole::emit_bytes;
 pub use whole::emit_longs;
 pub use whole::emit_memories;
+
+// The most numbers of a log that a case gives, more than a log may have.
+pub const LOG_NUMBERS: usize = 196616;

@@ -8,6 +8,8 @@ use wire::emit;
 use wire::emit_long;
 use wire::word_at;
 
+const LOG: usize = gif::LOG_MOST as usize;
+
 // The state, and over all rounds the steps and the runs that did not end with done.
 struct Total {
     state: State,
@@ -187,7 +189,7 @@ fn main() {
     let mut main = [0u8; 1048561];
     let mut data = [0u32; 4096];
     let mut code = [0u8; 16384];
-    let mut log = [0u64; 131072];
+    let mut log = [0u64; LOG];
     if io::read_full(0, &mut header) == 12 {
         begin_on(&header, &mut main, &mut data, &mut code, &mut log);
     }

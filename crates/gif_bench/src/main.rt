@@ -1,6 +1,7 @@
 // Gives quadwords to a path round after round, to be timed (docs/FORMATS.md, "GIF timing input").
 use cases::sum_of_longs;
 use gif::GifAnswer;
+use gif::GifPath;
 use gif::Path;
 use gif::Place;
 use wire::emit;
@@ -8,6 +9,8 @@ use wire::emit_all;
 use wire::emit_long;
 use wire::joined;
 use wire::word_at;
+
+const LOG: usize = gif::LOG_MOST as usize;
 
 struct Running {
     path: Path,
@@ -44,7 +47,7 @@ fn one_more(answer: GifAnswer) -> u32 {
 fn give(low: u64, high: u64, log: &mut [u64], s: Running) -> Running {
     let used = if 65000 < s.used { 0 } else { s.used };
     let path = s.path;
-    let r = gif::take_quadword(path, low, high, log, used);
+    let r = gif::take_quadword(GifPath::Three, path, low, high, log, used);
     let answer = r.answer;
     let after = r.path;
     Running {
@@ -114,7 +117,7 @@ fn begin(bytes: &[u8], got: usize, quads: &mut [u64], log: &mut [u64]) {
 
 fn main() {
     let mut bytes = [0u8; 262153];
-    let mut log = [0u64; 131072];
+    let mut log = [0u64; LOG];
     let mut quads = [0u64; 32768];
     let got = io::read_full(0, &mut bytes);
     begin(&bytes, got, &mut quads, &mut log);

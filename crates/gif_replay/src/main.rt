@@ -1,9 +1,11 @@
 // Reads GIF cases from standard input and writes what each quadword leaves (docs/FORMATS.md, "GIF cases").
+use cases::LOG_NUMBERS;
 use cases::fill_longs;
 use cases::read_words;
 use cases::tell_damaged;
 use cases::tell_long_changes;
 use gif::GifAnswer;
+use gif::GifPath;
 use gif::Path;
 use state_block::PATH_WORDS;
 use wire::emit;
@@ -15,6 +17,7 @@ use wire::word_at;
 // Where the results stand, and what is given to the next quadword. `known` says whether the case's block is a path's.
 struct Running {
     at: usize,
+    which: GifPath,
     path: Path,
     used: u64,
     known: bool,
@@ -28,7 +31,7 @@ struct Ended {
 
 fn block_of(header: &[u8]) -> [u32; PATH_WORDS] {
     let mut block = [0; PATH_WORDS];
-    read_words(header, 28, &mut block);
+    read_words(header, 32, &mut block);
     block
 }
 
@@ -58,8 +61,9 @@ fn give(
 ) -> Running {
     let low = joined(word_at(quad, 0), word_at(quad, 4));
     let high = joined(word_at(quad, 8), word_at(quad, 12));
+    let which = s.which;
     let path = s.path;
-    let r = gif::take_quadword(path, low, high, log, s.used);
+    let r = gif::take_quadword(which, path, low, high, log, s.used);
     let answer = r.answer;
     let after = r.path;
     let first = emit(out, s.at, number_of(answer));
@@ -69,6 +73,7 @@ fn give(
     let at = tell_long_changes(out, m, log, before);
     Running {
         at,
+        which,
         path: after,
         used: r.used,
         known: s.known,
@@ -104,14 +109,28 @@ fn give_all(
     }
 }
 
+fn is_path(number: u32) -> bool {
+    (number == 2) | (number == 3)
+}
+
+// The path of a number that is one.
+fn path_of(number: u32) -> GifPath {
+    if number == 2 {
+        GifPath::Two
+    } else {
+        GifPath::Three
+    }
+}
+
 // What a case starts from. A block that is no path's stands for a path out of range.
-fn started(at: usize, given: [u32; PATH_WORDS], used: u64) -> Running {
+fn started(at: usize, header: &[u8], given: [u32; PATH_WORDS]) -> Running {
     let read = state_block::path_in_block(&given);
     let path = read.path;
     Running {
         at,
+        which: path_of(word_at(header, 28)),
         path,
-        used,
+        used: joined(word_at(header, 12), word_at(header, 16)),
         known: read.known,
     }
 }
@@ -126,7 +145,10 @@ fn run_case(
 ) -> Ended {
     let count = word_at(header, 4);
     let size = word_at(header, 8) as usize;
-    if word_at(header, 0) != 1179207508 {
+    if word_at(header, 0) != 0x32494754 {
+        return Ended { at, whole: false };
+    }
+    if !is_path(word_at(header, 28)) {
         return Ended { at, whole: false };
     }
     if 65535 < count {
@@ -161,15 +183,15 @@ fn run_whole(
     fill_longs(log, first);
     fill_longs(before, first);
     let given = block_of(header);
-    let s = started(at, given, joined(word_at(header, 12), word_at(header, 16)));
+    let s = started(at, header, given);
     give_all(out, s, given, count, log, before)
 }
 
 fn run_all(
     out: &mut [u8; 65536],
-    header: &mut [u8; 64],
-    log: &mut [u64; 131080],
-    before: &mut [u64; 131080],
+    header: &mut [u8; 68],
+    log: &mut [u64; LOG_NUMBERS],
+    before: &mut [u64; LOG_NUMBERS],
 ) {
     let mut at = 0;
     let mut number: u64 = 0;
@@ -179,7 +201,7 @@ fn run_all(
             wire::flush(out, at);
             return;
         }
-        if got < 64 {
+        if got < 68 {
             tell_damaged(out, at, number);
             return;
         }
@@ -195,8 +217,8 @@ fn run_all(
 
 fn main() {
     let mut out = [0u8; 65536];
-    let mut header = [0u8; 64];
-    let mut log = [0u64; 131080];
-    let mut before = [0u64; 131080];
+    let mut header = [0u8; 68];
+    let mut log = [0u64; LOG_NUMBERS];
+    let mut before = [0u64; LOG_NUMBERS];
     run_all(&mut out, &mut header, &mut log, &mut before);
 }

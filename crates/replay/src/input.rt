@@ -37,7 +37,7 @@ fn calls_right(calls: &[u8], count: u32) -> bool {
 // Whether the numbers of a header, but for the lengths of the units' memories and the log, are within their limits.
 fn header_right(header: &[u8]) -> bool {
     let size = word_at(header, 4);
-    if word_at(header, 0) != 844120916 {
+    if word_at(header, 0) != 0x33504354 {
         return false;
     }
     if 1048608 < size {

@@ -4,6 +4,7 @@ mod run;
 mod start;
 mod sums;
 
+use cases::LOG_NUMBERS;
 use cases::fill_bytes;
 use cases::fill_memories;
 use cases::fill_words;
@@ -262,10 +263,10 @@ fn run_all(
     main: &mut [u8; 1048608],
     data: &mut [u32; 4100],
     code: &mut [u8; 16392],
-    log: &mut [u64; 131080],
+    log: &mut [u64; LOG_NUMBERS],
     data_before: &mut [u32; 4100],
     code_before: &mut [u8; 16392],
-    log_before: &mut [u64; 131080],
+    log_before: &mut [u64; LOG_NUMBERS],
     data0: &mut [u32; 1028],
     code0: &mut [u8; 4104],
     data0_before: &mut [u32; 1028],
@@ -310,10 +311,10 @@ fn main() {
     let mut main = [0u8; 1048608];
     let mut data = [0u32; 4100];
     let mut code = [0u8; 16392];
-    let mut log = [0u64; 131080];
+    let mut log = [0u64; LOG_NUMBERS];
     let mut data_before = [0u32; 4100];
     let mut code_before = [0u8; 16392];
-    let mut log_before = [0u64; 131080];
+    let mut log_before = [0u64; LOG_NUMBERS];
     let mut data0 = [0u32; 1028];
     let mut code0 = [0u8; 4104];
     let mut data0_before = [0u32; 1028];

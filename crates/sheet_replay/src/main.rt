@@ -2,6 +2,7 @@
 mod parts;
 mod play;
 
+use cases::LOG_NUMBERS;
 use cases::read_part;
 use cases::tell_damaged;
 use parts::tell_build;
@@ -119,7 +120,7 @@ fn take_case(
 
 // Reads the sheet after a header, if all of it is there.
 fn read_sheet(header: &[u8], sheet: &mut [u8]) -> bool {
-    if word_at(header, 0) != 843600724 {
+    if word_at(header, 0) != 0x33485354 {
         return false;
     }
     read_part(sheet, (length_at(header, 1) + 3) / 4 * 4)
@@ -165,7 +166,7 @@ fn run_all(
     main: &mut [u8; 1048608],
     data: &mut [u32; 4100],
     code: &mut [u8; 16392],
-    log: &mut [u64; 131080],
+    log: &mut [u64; LOG_NUMBERS],
 ) {
     let mut at = 0;
     let mut number: u64 = 0;
@@ -191,7 +192,7 @@ fn main() {
     let mut main = [0u8; 1048608];
     let mut data = [0u32; 4100];
     let mut code = [0u8; 16392];
-    let mut log = [0u64; 131080];
+    let mut log = [0u64; LOG_NUMBERS];
     run_all(
         &mut out,
         &mut header,

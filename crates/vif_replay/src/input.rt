@@ -74,7 +74,7 @@ fn groups_right(input: &[u64], groups: u32) -> bool {
 fn header_right(header: &[u8]) -> bool {
     let number = word_at(header, 196);
     let count = word_at(header, 204);
-    if word_at(header, 0) != 0x32495654 {
+    if word_at(header, 0) != 0x33495654 {
         return false;
     }
     if 3 < number {

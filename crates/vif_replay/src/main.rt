@@ -3,6 +3,7 @@ mod input;
 mod run;
 mod start;
 
+use cases::LOG_NUMBERS;
 use cases::fill_memories;
 use cases::tell_damaged;
 use gif::Path;
@@ -165,10 +166,10 @@ fn run_all(
     input: &mut [u64; 163840],
     data: &mut [u32; 4100],
     code: &mut [u8; 16392],
-    log: &mut [u64; 131080],
+    log: &mut [u64; LOG_NUMBERS],
     data_before: &mut [u32; 4100],
     code_before: &mut [u8; 16392],
-    log_before: &mut [u64; 131080],
+    log_before: &mut [u64; LOG_NUMBERS],
 ) {
     let mut at = 0;
     let mut number: u64 = 0;
@@ -203,10 +204,10 @@ fn main() {
     let mut input = [0u64; 163840];
     let mut data = [0u32; 4100];
     let mut code = [0u8; 16392];
-    let mut log = [0u64; 131080];
+    let mut log = [0u64; LOG_NUMBERS];
     let mut data_before = [0u32; 4100];
     let mut code_before = [0u8; 16392];
-    let mut log_before = [0u64; 131080];
+    let mut log_before = [0u64; LOG_NUMBERS];
     run_all(
         &mut out,
         &mut header,
