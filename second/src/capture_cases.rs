@@ -15,7 +15,7 @@ use crate::state_block::{
 use crate::vif_cases::{code_words, describe_changes, write_changes, ShownUnit};
 use crate::words::{number, put_number, put_word, word, WORD};
 
-pub const MARK: u32 = 0x3250_4354;
+pub const MARK: u32 = 0x3350_4354;
 pub const MOST_CALLS: u32 = 65_535;
 /// The word of a case at which the state block starts.
 const STATE_AT: usize = 12;
@@ -534,8 +534,13 @@ mod tests {
             }
         }
         assert_eq!(runs, [(0, 9, 0), (0, 9, 0), (0, 3, 1), (0, 9, 0)]);
-        let log = [256, 5, 256, 5, 0x42, 7 | 8 << 32, 256, 5];
-        assert_eq!(standing.log, log);
+        let log = [
+            [0, 256, 5],
+            [0, 256, 5],
+            [3, 0x42, 7 | 8 << 32],
+            [0, 256, 5],
+        ];
+        assert_eq!(standing.log, log.concat());
         let quadword = |model: Model, at: usize| {
             let data = &standing.memories(model).data;
             [data[4 * at], data[4 * at + 3]]

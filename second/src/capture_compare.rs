@@ -10,6 +10,7 @@ use crate::memory::cases::{
     MOST_CODE, MOST_DATA, MOST_LOG, MOST_MAIN, MOST_VIF0_CODE, MOST_VIF0_DATA,
 };
 use crate::packet_points;
+use crate::path_points;
 use crate::random::Random;
 use crate::words::{word, WORD};
 
@@ -19,7 +20,7 @@ const MOST_STEPS: u64 = 1_000_000;
 /// Compares on the cases of each seed, which have the points worked by hand among them, and on
 /// damaged files made from them.
 pub fn compare(program: &Program, seeds: &[u64], runs: u64) -> Result<(), String> {
-    let points = packet_points::check()? as u64;
+    let points = (packet_points::check()? + path_points::check()?) as u64;
     let mut counts = Counts::default();
     let mut damaged_files = 0;
     for &seed in seeds {
@@ -33,7 +34,7 @@ pub fn compare(program: &Program, seeds: &[u64], runs: u64) -> Result<(), String
     }
     let mut rows = counts.rows();
     rows.push(("damaged files".to_string(), damaged_files));
-    rows.push(("points about packets".to_string(), points));
+    rows.push(("points about packets and paths".to_string(), points));
     report(&rows)
 }
 

@@ -1,7 +1,8 @@
 //! What captures reached.
 
 use crate::capture_cases::{Case, Standing};
-use crate::capture_packet_counts::{self, Given};
+use crate::capture_packet_counts;
+use crate::capture_path_counts;
 use crate::chain::{self, Next, State, Step, Stop, Tag};
 use crate::compare::named_rows;
 use crate::gif::{self, Path, Place};
@@ -16,6 +17,7 @@ use crate::state_block::{
 };
 use crate::vif::{command_of, Code, Payload, Unit};
 use crate::vif_counts::{field_names, upload_word, wrong_fields};
+use crate::way::Given;
 use std::collections::HashMap;
 
 const IDS: [&str; 8] = ["refe", "cnt", "next", "ref", "refs", "call", "ret", "end"];
@@ -79,6 +81,7 @@ pub struct Counts {
     /// The channels on which the case has done a step.
     channels: [bool; 3],
     packets: capture_packet_counts::Counts,
+    paths: capture_path_counts::Counts,
 }
 
 impl Counts {
@@ -103,6 +106,7 @@ impl Counts {
         self.main_length = case.main_length as usize;
         self.channels = [false; 3];
         self.packets.begin_case();
+        self.paths.begin_case();
         self.add(if case.whole {
             "cases that show whole memories"
         } else {
@@ -147,6 +151,7 @@ impl Counts {
             let quadword = self.quadword(given.address);
             self.packets.note_quadword(&given, quadword, tried);
         }
+        self.paths.note_step(old, tried.map(|_| new), log);
         let Ok(step) = tried else {
             return;
         };
@@ -368,6 +373,9 @@ impl Counts {
         let wrong = wrong_at_entry(before, now);
         let closes_next = now.state.is_some_and(|state| self.closes_next(&state));
         self.note_lent(before, wrong.first().copied(), now);
+        if !matches!(wrong.first(), Some(refusals::MAIN..=refusals::CODE)) {
+            self.paths.note_log(now.log.len(), used(before));
+        }
         if let Some(&first) = wrong.first() {
             self.note_entry(before, &wrong, first, allowance, now);
             if closes_next {
@@ -777,6 +785,7 @@ impl Counts {
         row("quadwords taken inside DIRECT", self.direct_quadwords);
         row("quadwords taken by path 3", self.path3_quadwords);
         rows.extend(self.packets.rows(&ENTRY));
+        rows.extend(self.paths.rows());
         rows.extend(named_rows(&self.by_name, names()));
         rows
     }

@@ -14,6 +14,7 @@ use crate::memory;
 use crate::memory::cases::{MOST_CODE, MOST_DATA, MOST_MAIN, MOST_VIF0_CODE, MOST_VIF0_DATA};
 use crate::model::{Model, ONLY_VIF1};
 use crate::packet_points;
+use crate::path_points;
 use crate::random::Random;
 use crate::refusals;
 use crate::state_block::{
@@ -43,6 +44,7 @@ pub fn generate(seed: u64, runs: u64) -> Vec<u8> {
     let mut cases = fixed_cases();
     cases.extend(vif_points::all().iter().map(capture_points::case));
     cases.extend(packet_points::in_captures());
+    cases.extend(path_points::in_captures());
     add_edge_cases(&mut random, &mut cases);
     cases.iter().for_each(|case| case.write(&mut file));
     let mut made = 0;

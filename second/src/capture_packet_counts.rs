@@ -1,11 +1,11 @@
 //! What captures reached about packets.
 
-use crate::chain::{self, Next, State, Step, Stop};
+use crate::chain::{self, Step, Stop};
 use crate::compare::named_rows;
-use crate::gif::{Path, Place};
+use crate::gif::Place;
 use crate::packet_counts;
 use crate::refusals;
-use crate::way::{Way, WAYS};
+use crate::way::{Given, Way, WAYS};
 use std::collections::HashMap;
 
 /// When the tag was taken whose data a path has due.
@@ -44,34 +44,6 @@ const NAMES: [&str; 6] = [
     "packets closed with an interrupt",
     "allowance used before a quadword that closes a packet",
 ];
-
-/// A quadword that the next step gives to a path.
-pub struct Given<'a> {
-    way: Way,
-    path: &'a Path,
-    pub address: u32,
-}
-
-impl Given<'_> {
-    pub fn new(state: &State) -> Option<Given<'_>> {
-        let Next::Payload(pending) = state.next() else {
-            return None;
-        };
-        let waiting = state.vif1.waiting.as_ref();
-        let (way, path) = match state.channel {
-            1 => (Way::of_payload(&waiting?.payload)?, &state.path2),
-            2 => (Way::Channel2, &state.path3),
-            _ => return None,
-        };
-        let address = pending.address;
-        (address % 16 == 0).then_some(Given { way, path, address })
-    }
-
-    /// Whether the quadword closes a packet where it is taken.
-    pub fn closes(&self, quadword: u128) -> bool {
-        packet_counts::closes(self.path, quadword)
-    }
-}
 
 #[derive(Default)]
 pub struct Counts {

@@ -1,6 +1,6 @@
 //! The chain layer: runs over DMA source chains on channel 0 (VIF0), 1 (VIF1) or 2 (GIF).
 
-use crate::gif::{self, Path, Place};
+use crate::gif::{self, Path, PathNumber, Place};
 use crate::memory::MOST_MAIN;
 use crate::model::Model;
 use crate::refusals;
@@ -476,7 +476,8 @@ fn give(state: &mut State, memories: &mut Memories, given: Given) -> Result<Take
 /// A quadword of payload to path 3; hands back whether it closed a packet.
 fn take_path3(state: &mut State, memories: &mut Memories, pending: Pending) -> Result<bool, u32> {
     let quadword = quadword_at(memories.main, pending.address);
-    let closed = gif::take(&mut state.path3, &mut state.used, memories.log, quadword)?;
+    let (path, used) = (&mut state.path3, &mut state.used);
+    let closed = gif::take(PathNumber::Three, path, used, memories.log, quadword)?;
     state.payload = rest(pending, 4);
     Ok(closed)
 }
@@ -495,6 +496,7 @@ fn rest(pending: Pending, taken: u32) -> Option<Pending> {
 #[cfg(test)]
 mod tests {
     use super::*;
+    use crate::log;
 
     /// A state with its memories.
     struct Bench {
@@ -506,12 +508,12 @@ mod tests {
     }
 
     impl Bench {
-        fn new(words: &[u32], log: usize) -> Bench {
-            Bench::on(1, words, log)
+        fn new(words: &[u32], entries: u64) -> Bench {
+            Bench::on(1, words, entries)
         }
 
         /// On a channel, with its unit's memories.
-        fn on(channel: u32, words: &[u32], log: usize) -> Bench {
+        fn on(channel: u32, words: &[u32], entries: u64) -> Bench {
             let sizes = Model::of_channel(channel).sizes();
             let state = State {
                 channel,
@@ -522,7 +524,7 @@ mod tests {
                 main: words.iter().flat_map(|word| word.to_le_bytes()).collect(),
                 data: vec![0; sizes.data_words()],
                 code: vec![0; sizes.code_bytes()],
-                log: vec![0; log],
+                log: vec![0; log::numbers(entries)],
             }
         }
 
@@ -683,7 +685,7 @@ mod tests {
             let main = [&[tag][..], &payload].concat().concat();
             let before = 1 + 4 * head.len() as u64;
             for (cut, closed) in [(0, 0), (1, 0), (2, 1), (3, 2), (4, 2)] {
-                let mut bench = Bench::on(channel, &main, 2);
+                let mut bench = Bench::on(channel, &main, 1);
                 let answer = if cut == 4 { DONE } else { ALLOWANCE_USED };
                 let stop = |answer, steps, packets| Stop {
                     answer,
@@ -694,6 +696,8 @@ mod tests {
                 assert_eq!(first, stop(answer, before + cut, closed));
                 let second = bench.stop(u64::MAX);
                 assert_eq!(second, stop(DONE, 4 - cut, 2 - closed));
+                let path = if channel == 1 { 2 } else { 3 };
+                assert_eq!(bench.log, [path, 2, 1]);
             }
             // Without room the first packet is not closed.
             let mut bench = Bench::on(channel, &main, 0);

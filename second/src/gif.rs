@@ -40,6 +40,21 @@ pub struct Path {
     pub place: Place,
 }
 
+/// Which path, by the number that its entries have in the log.
+#[derive(Clone, Copy, PartialEq, Eq, Debug)]
+pub enum PathNumber {
+    Two = 2,
+    Three = 3,
+}
+
+pub const PATH_NUMBERS: [PathNumber; 2] = [PathNumber::Two, PathNumber::Three];
+
+impl PathNumber {
+    pub fn from_number(number: u32) -> Option<PathNumber> {
+        PATH_NUMBERS.into_iter().find(|&path| path as u32 == number)
+    }
+}
+
 /// Bits `from` to `from + count - 1` of the quadword; `count` is at most 64.
 pub fn bits(quadword: u128, from: u32, count: u32) -> u64 {
     (quadword >> from) as u64 & (u64::MAX >> (64 - count))
@@ -117,7 +132,13 @@ pub fn path_in_range(path: &Path) -> bool {
 /// Gives a quadword to the path; hands back whether it closed a packet: as the last data quadword
 /// of a tag with EOP, or as such a tag without data. A refusal hands back its number and changes
 /// nothing.
-pub fn take(path: &mut Path, used: &mut u64, log: &mut [u64], quadword: u128) -> Result<bool, u32> {
+pub fn take(
+    number: PathNumber,
+    path: &mut Path,
+    used: &mut u64,
+    log: &mut [u64],
+    quadword: u128,
+) -> Result<bool, u32> {
     if !log::in_range(log.len(), *used) {
         return Err(refusals::LOG);
     }
@@ -126,7 +147,7 @@ pub fn take(path: &mut Path, used: &mut u64, log: &mut [u64], quadword: u128) ->
     }
     match &mut path.place {
         Place::Idle => {
-            log::append(log, used, &tag_writes(quadword))?;
+            log::append(log, used, &tag_writes(number, quadword))?;
             path.q = TAG_Q;
             let tag = Tag::decode(quadword);
             if tag.nloop == 0 {
@@ -136,7 +157,8 @@ pub fn take(path: &mut Path, used: &mut u64, log: &mut [u64], quadword: u128) ->
             path.place = Place::Data { tag, due };
         }
         Place::Data { tag, due } => {
-            let (q, writes) = data_writes(path.q, tag, *due, quadword)?;
+            let mut writes = Entries::of_path(number as u64);
+            let q = data_writes(path.q, tag, *due, quadword, &mut writes)?;
             log::append(log, used, &writes)?;
             path.q = q;
             *due -= 1;
@@ -151,30 +173,31 @@ pub fn take(path: &mut Path, used: &mut u64, log: &mut [u64], quadword: u128) ->
 }
 
 /// The writes of a tag's own step.
-fn tag_writes(quadword: u128) -> Entries {
+fn tag_writes(number: PathNumber, quadword: u128) -> Entries {
     let tag = Tag::decode(quadword);
     let pre = bits(quadword, 46, 1) == 1;
-    let mut writes = Entries::default();
+    let mut writes = Entries::of_path(number as u64);
     if tag.nloop > 0 && tag.format == Format::Packed && pre {
         writes.add(0, bits(quadword, 47, 11));
     }
     writes
 }
 
-/// Q afterwards and the writes of a data quadword.
-fn data_writes(q: u32, tag: &Tag, due: u32, quadword: u128) -> Result<(u32, Entries), u32> {
-    let mut next_q = q;
-    let mut writes = Entries::default();
+/// The writes of a data quadword; hands back Q afterwards.
+fn data_writes(
+    q: u32,
+    tag: &Tag,
+    due: u32,
+    quadword: u128,
+    writes: &mut Entries,
+) -> Result<u32, u32> {
     match tag.format {
-        Format::Packed => {
-            let descriptor = tag.packed_descriptor(due);
-            next_q = packed(descriptor, q, quadword, &mut writes)?;
-        }
+        Format::Packed => return packed(tag.packed_descriptor(due), q, quadword, writes),
         Format::Reglist => {
             let (first, second) = tag.reglist_descriptors(due);
-            reglist_half(first, bits(quadword, 0, 64), &mut writes)?;
+            reglist_half(first, bits(quadword, 0, 64), writes)?;
             if let Some(second) = second {
-                reglist_half(second, bits(quadword, 64, 64), &mut writes)?;
+                reglist_half(second, bits(quadword, 64, 64), writes)?;
             }
         }
         Format::Image => {
@@ -182,7 +205,7 @@ fn data_writes(q: u32, tag: &Tag, due: u32, quadword: u128) -> Result<(u32, Entr
             writes.add(IMAGE_REGISTER, bits(quadword, 64, 64));
         }
     }
-    Ok((next_q, writes))
+    Ok(q)
 }
 
 /// One PACKED quadword; hands back Q afterwards.
@@ -246,7 +269,7 @@ mod tests {
     const EOP: u128 = 1 << 15;
     const PRE: u128 = 1 << 46;
 
-    /// A path with its log.
+    /// Path 3 with a log.
     struct Bench {
         path: Path,
         used: u64,
@@ -254,58 +277,81 @@ mod tests {
     }
 
     impl Bench {
-        fn new(log: &[u64]) -> Bench {
+        /// With room for so many entries.
+        fn new(entries: u64) -> Bench {
             Bench {
                 path: IDLE,
                 used: 0,
-                log: log.to_vec(),
+                log: vec![5; log::numbers(entries)],
             }
         }
 
         fn give(&mut self, quadword: u128) -> Result<bool, u32> {
-            take(&mut self.path, &mut self.used, &mut self.log, quadword)
+            self.give_to(PathNumber::Three, quadword)
+        }
+
+        fn give_to(&mut self, number: PathNumber, quadword: u128) -> Result<bool, u32> {
+            take(
+                number,
+                &mut self.path,
+                &mut self.used,
+                &mut self.log,
+                quadword,
+            )
         }
     }
 
     #[test]
     fn reglist_of_three() {
-        let mut bench = Bench::new(&[0; 8]);
+        let mut bench = Bench::new(4);
         assert_eq!(bench.give(tag(1, 1, 3, 0xB321)), Ok(false));
         assert_eq!(bench.give(7 | 8 << 64), Ok(false));
         assert_eq!(bench.give(9 | 10 << 64), Ok(false));
-        assert_eq!(
-            (bench.used, &bench.log[..]),
-            (3, &[1, 7, 2, 8, 3, 9, 0, 0][..])
-        );
+        assert_eq!(bench.used, 3);
+        assert_eq!(bench.log, [3, 1, 7, 3, 2, 8, 3, 3, 9, 5, 5, 5]);
         assert_eq!((bench.path.q, bench.path.place), (TAG_Q, Place::Idle));
     }
 
     #[test]
     fn image_with_one_entry_free() {
-        let mut bench = Bench::new(&[5; 4]);
+        let mut bench = Bench::new(2);
         bench.used = 1;
         assert_eq!(bench.give(tag(1, 2, 0, 0)), Ok(false));
         let before = bench.path;
         assert_eq!(bench.give(1), Err(31));
-        assert_eq!(
-            (bench.path, bench.used, &bench.log[..]),
-            (before, 1, &[5; 4][..])
-        );
+        assert_eq!((bench.path, bench.used), (before, 1));
+        assert_eq!(bench.log, [5; 6]);
+        bench.log.extend([5; 3]);
+        assert_eq!(bench.give(1 | 2 << 64), Ok(false));
+        assert_eq!(bench.log, [5, 5, 5, 3, 0x54, 1, 3, 0x54, 2]);
     }
 
     #[test]
     fn sheet_tag_with_one_write() {
-        let mut bench = Bench::new(&[0; 2]);
+        let mut bench = Bench::new(1);
         let sheet_tag = 0x0000_0000_0000_000E_1000_0000_0000_8001;
-        assert_eq!(bench.give(sheet_tag), Ok(false));
-        assert_eq!(bench.give(0x1234 | 0x47 << 64), Ok(true));
+        assert_eq!(bench.give_to(PathNumber::Two, sheet_tag), Ok(false));
+        let write = 0x1234 | 0x47 << 64;
+        assert_eq!(bench.give_to(PathNumber::Two, write), Ok(true));
         assert_eq!((bench.path.place, bench.used), (Place::Idle, 1));
-        assert_eq!(bench.log, [0x47, 0x1234]);
+        assert_eq!(bench.log, [2, 0x47, 0x1234]);
+    }
+
+    #[test]
+    fn prim_with_the_path() {
+        for (number, path) in [(PathNumber::Two, 2), (PathNumber::Three, 3)] {
+            let mut bench = Bench::new(1);
+            let given = bench.give_to(number, tag(1, 0, 1, 0xF) | PRE | 0x123 << 47);
+            assert_eq!((given, &bench.log[..]), (Ok(false), &[path, 0, 0x123][..]));
+        }
+        let numbers = [0, 1, 2, 3, 4, u32::MAX].map(PathNumber::from_number);
+        let (two, three) = (Some(PathNumber::Two), Some(PathNumber::Three));
+        assert_eq!(numbers, [None, None, two, three, None, None]);
     }
 
     #[test]
     fn tag_without_data_sets_q_only() {
-        let mut bench = Bench::new(&[]);
+        let mut bench = Bench::new(0);
         assert_eq!(bench.give(tag(0, 0, 1, 0) | PRE), Ok(false));
         assert_eq!((bench.path.q, bench.path.place), (TAG_Q, Place::Idle));
         assert_eq!(bench.used, 0);
@@ -321,7 +367,7 @@ mod tests {
             nreg: 2,
             descriptors: 0xB0,
         };
-        let mut bench = Bench::new(&[]);
+        let mut bench = Bench::new(0);
         bench.path.place = Place::Data { tag: held, due: 1 };
         assert_eq!(bench.give(0), Err(30));
         bench.used = 1 << 63;
@@ -343,7 +389,7 @@ mod tests {
             (tag(1, 3, 0, 0), 1),
         ] {
             for eop in [false, true] {
-                let mut bench = Bench::new(&[0; 16]);
+                let mut bench = Bench::new(8);
                 let tag = if eop { tag | EOP } else { tag };
                 let mut closed = vec![bench.give(tag)];
                 closed.extend((0..data).map(|_| bench.give(7)));
@@ -358,7 +404,7 @@ mod tests {
     #[test]
     fn packet_closed_by_a_tag_without_data() {
         for flg in 0..4 {
-            let mut bench = Bench::new(&[]);
+            let mut bench = Bench::new(0);
             assert_eq!(bench.give(tag(0, flg, 1, 0xE) | PRE), Ok(false));
             assert_eq!(bench.give(tag(0, flg, 1, 0xE) | PRE | EOP), Ok(true));
         }
@@ -367,15 +413,17 @@ mod tests {
     /// What is refused closes nothing, and the packet stays open.
     #[test]
     fn refused_quadwords_close_nothing() {
-        let mut bench = Bench::new(&[0; 2]);
+        let mut bench = Bench::new(1);
         assert_eq!(bench.give(tag(2, 0, 1, 0xE) | EOP), Ok(false));
         assert_eq!(bench.give(7), Ok(false));
         assert_eq!(bench.give(7), Err(31));
-        bench.log.push(0);
-        assert_eq!(bench.give(7), Err(4));
+        for _ in 0..2 {
+            bench.log.push(0);
+            assert_eq!(bench.give(7), Err(4));
+        }
         bench.log.push(0);
         assert_eq!(bench.give(7), Ok(true));
-        let mut bench = Bench::new(&[0; 4]);
+        let mut bench = Bench::new(2);
         assert_eq!(bench.give(tag(1, 1, 2, 0xB1) | EOP), Ok(false));
         assert_eq!(bench.give(7), Err(30));
         assert_eq!(bench.used, 0);

@@ -1,7 +1,7 @@
 //! GIF case files and their results.
 
 use crate::compare;
-use crate::gif::{self, Path};
+use crate::gif::{self, Path, PathNumber};
 use crate::gif_counts::Counts;
 use crate::log;
 use crate::memory::cases::MOST_LOG;
@@ -9,10 +9,11 @@ use crate::refusals;
 use crate::state_block::{describe_path, read_path, write_path, PathBlock, PATH_WORDS};
 use crate::words::{self, number, put_number, put_quadword, put_word, word, QUADWORD, WORD};
 
-pub const MARK: u32 = 0x4649_4754;
+pub const MARK: u32 = 0x3249_4754;
 pub const MOST_QUADWORDS: u32 = 65_535;
-/// The word of a case at which the path block starts.
-const PATH_AT: usize = 7;
+/// The words of a case with the path's number, and at which the path block starts.
+pub const NUMBER_AT: usize = 7;
+const PATH_AT: usize = 8;
 /// The bytes of a case before its quadwords.
 pub const HEADER: usize = (PATH_AT + PATH_WORDS) * WORD;
 /// The words of a result at which the path block and the changes start.
@@ -27,6 +28,7 @@ pub struct Case {
     pub log_length: u32,
     pub used: u64,
     pub fill: u64,
+    pub number: PathNumber,
     pub block: PathBlock,
     pub quadwords: Vec<u128>,
 }
@@ -38,6 +40,7 @@ impl Case {
         put_word(out, self.log_length);
         put_number(out, self.used);
         put_number(out, self.fill);
+        put_word(out, self.number as u32);
         for &w in &self.block {
             put_word(out, w);
         }
@@ -56,6 +59,7 @@ pub fn fill_number(fill: u64, index: u64) -> u64 {
 pub struct Standing {
     /// None where the case's block exists in no path.
     pub path: Option<Path>,
+    pub number: PathNumber,
     given: PathBlock,
     pub used: u64,
     pub log: Vec<u64>,
@@ -65,6 +69,7 @@ impl Standing {
     pub fn new(case: &Case) -> Standing {
         Standing {
             path: read_path(&case.block),
+            number: case.number,
             given: case.block,
             used: case.used,
             log: (0..case.log_length as u64)
@@ -76,7 +81,10 @@ impl Standing {
     /// Gives a quadword; hands back whether it closed a packet, or the refusal.
     pub fn take(&mut self, quadword: u128) -> Result<bool, u32> {
         match &mut self.path {
-            Some(path) => gif::take(path, &mut self.used, &mut self.log, quadword),
+            Some(path) => {
+                let (used, log) = (&mut self.used, &mut self.log);
+                gif::take(self.number, path, used, log, quadword)
+            }
             None if !log::in_range(self.log.len(), self.used) => Err(refusals::LOG),
             None => Err(refusals::RANGE),
         }
@@ -112,22 +120,27 @@ enum Found {
     Damaged(Option<Case>),
 }
 
+/// The path of a case; none where its header is cut or has a mark, limit or path that is wrong.
+fn path_number(bytes: &[u8]) -> Option<PathNumber> {
+    let right = bytes.len() >= HEADER
+        && word(bytes, 0) == MARK
+        && word(bytes, 1) <= MOST_QUADWORDS
+        && word(bytes, 2) <= MOST_LOG;
+    right.then(|| PathNumber::from_number(word(bytes, NUMBER_AT)))?
+}
+
 fn first_case(bytes: &[u8]) -> Found {
-    if bytes.len() < HEADER {
+    let Some(path_number) = path_number(bytes) else {
         return Found::Damaged(None);
-    }
-    let count = word(bytes, 1);
-    let log_length = word(bytes, 2);
-    if word(bytes, 0) != MARK || count > MOST_QUADWORDS || log_length > MOST_LOG {
-        return Found::Damaged(None);
-    }
+    };
     let data = &bytes[HEADER..];
-    let wanted = count as usize * QUADWORD;
+    let wanted = word(bytes, 1) as usize * QUADWORD;
     let there = wanted.min(data.len());
     let case = Case {
-        log_length,
+        log_length: word(bytes, 2),
         used: number(bytes, 3),
         fill: number(bytes, 5),
+        number: path_number,
         block: std::array::from_fn(|i| word(bytes, PATH_AT + i)),
         quadwords: words::quadwords(&data[..there]),
     };
@@ -194,7 +207,7 @@ fn run_case(case: &Case, index: usize, results: &mut Results, counts: &mut Count
             quadword,
             taken,
             &standing,
-            changes.len(),
+            &changes,
         );
         for &(at, value) in &changes {
             log_before[at] = value;
@@ -313,6 +326,7 @@ pub fn describe_case(bytes: &[u8], last: usize) -> String {
 #[cfg(test)]
 mod tests {
     use super::*;
+    use crate::gif_generate::PRE;
     use crate::state_block::IDLE_PATH;
 
     fn own(case: &Case) -> Vec<u8> {
@@ -329,6 +343,7 @@ mod tests {
             log_length: log::length(1),
             used: 0,
             fill: 0,
+            number: PathNumber::Three,
             block: IDLE_PATH,
             quadwords: vec![0x8000, tag, 7 | 0x42 << 64, tag, 8],
         };
@@ -341,12 +356,37 @@ mod tests {
         let expected = [
             one(512, 0, idle, &[0]),
             one(0, 0, held, &[0]),
-            one(512, 1, idle, &[2, 0, 0x42, 0, 1, 7, 0]),
+            one(512, 1, idle, &[3, 0, 3, 0, 1, 0x42, 0, 2, 7, 0]),
             one(0, 1, held, &[0]),
             one(31, 1, held, &[0]),
         ];
         let words: Vec<u32> = (0..given.len() / WORD).map(|at| word(&given, at)).collect();
         assert_eq!(words, expected.concat());
         assert!(describe_result(&given).starts_with("answer 512, packet closed, entries"));
+    }
+
+    #[test]
+    fn paths_of_cases() {
+        let case = |number| Case {
+            log_length: log::length(1),
+            used: 0,
+            fill: 0,
+            number,
+            block: IDLE_PATH,
+            quadwords: vec![1 | PRE],
+        };
+        for (number, path) in [(PathNumber::Two, 2), (PathNumber::Three, 3)] {
+            let mut file = Vec::new();
+            case(number).write(&mut file);
+            assert_eq!((file.len(), word(&file, 7)), (4 * (17 + 4), path));
+            let given = results(&file, &mut Counts::default()).bytes;
+            // The first number of the log.
+            assert_eq!([13, 14, 15].map(|at| word(&given, at)), [0, path, 0]);
+            for wrong in [0, 1, 4, 258, u32::MAX] {
+                file[28..32].copy_from_slice(&wrong.to_le_bytes());
+                let given = results(&file, &mut Counts::default()).bytes;
+                assert_eq!(given, b"damaged case 0\n");
+            }
+        }
     }
 }

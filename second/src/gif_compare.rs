@@ -6,12 +6,13 @@ use crate::gif_counts::Counts;
 use crate::gif_generate::generate;
 use crate::memory::cases::MOST_LOG;
 use crate::packet_points;
+use crate::path_points;
 use crate::random::Random;
 
 /// Compares on the cases of each seed, which have the points worked by hand among them, and on
 /// damaged files made from them.
 pub fn compare(program: &Program, seeds: &[u64], quadwords: u64) -> Result<(), String> {
-    let points = packet_points::check()? as u64;
+    let points = (packet_points::check()? + path_points::check()?) as u64;
     let mut counts = Counts::default();
     let mut damaged_files = 0;
     for &seed in seeds {
@@ -25,7 +26,7 @@ pub fn compare(program: &Program, seeds: &[u64], quadwords: u64) -> Result<(), S
     }
     let mut rows = counts.rows();
     rows.push(("damaged files".to_string(), damaged_files));
-    rows.push(("points about packets".to_string(), points));
+    rows.push(("points about packets and paths".to_string(), points));
     report(&rows)
 }
 
@@ -127,6 +128,11 @@ fn damaged(file: &[u8], seed: u64) -> Vec<(String, Vec<u8>)> {
         spoil("L one above its limit", 2, MOST_LOG + 1);
         spoil("L the greatest", 2, u32::MAX);
         spoil("L at its limit", 2, MOST_LOG);
+        for path in [0, 1, 4, 5, 0x102, 0x10003, u32::MAX] {
+            spoil(&format!("path {path}"), gif_cases::NUMBER_AT, path);
+        }
+        let other = 5 - crate::words::word(&file[start..], gif_cases::NUMBER_AT);
+        spoil("the other path", gif_cases::NUMBER_AT, other);
     }
     made
 }

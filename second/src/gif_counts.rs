@@ -1,8 +1,9 @@
 //! What GIF cases reached.
 
-use crate::gif::{self, bits, Format, Path, Place, Tag};
+use crate::gif::{self, bits, Format, Path, PathNumber, Place, Tag, PATH_NUMBERS};
 use crate::gif_cases::Standing;
 use crate::log;
+use crate::log_counts;
 use crate::packet_counts;
 use crate::refusals;
 
@@ -14,7 +15,9 @@ pub struct Counts {
     tags: [u64; 4],
     /// Tags with NLOOP 0 by FLG.
     empty_tags: [u64; 4],
-    pre_writes: u64,
+    /// By path.
+    entries: [u64; 2],
+    pre_writes: [u64; 2],
     /// PRE set in a tag that doesn't write it, by the reason.
     pre_ignored_empty: u64,
     pre_ignored_reglist: u64,
@@ -28,10 +31,7 @@ pub struct Counts {
     dropped_b: u64,
     image: u64,
     completed: [u64; 3],
-    refused_log_odd: u64,
-    refused_log_long: u64,
-    refused_log_used: u64,
-    refused_log_used_doubled_wraps: u64,
+    logs: log_counts::Counts,
     refused_log_before_range: u64,
     refused_no_path: u64,
     refused_nloop: u64,
@@ -42,14 +42,19 @@ pub struct Counts {
     refused_b_second: u64,
     refused_b_and_full: u64,
     refused_room_tag: u64,
-    refused_room_packed: u64,
-    refused_room_reglist: u64,
-    refused_room_image: u64,
-    refused_room_one_free: u64,
+    /// By format, with no entry free and with one.
+    refused_room: [[u64; 2]; 3],
     exactly_full: u64,
     taken_while_full: u64,
-    unchanged: u64,
-    packets: packet_counts::Counts,
+    /// By place in the entry.
+    unchanged: [u64; log::ENTRY],
+    /// By path.
+    packets: [packet_counts::Counts; 2],
+}
+
+/// The place of a path in counts by path.
+fn place(number: PathNumber) -> usize {
+    (number == PathNumber::Three) as usize
 }
 
 impl Counts {
@@ -61,42 +66,31 @@ impl Counts {
         quadword: u128,
         taken: Result<bool, u32>,
         now: &Standing,
-        changed: usize,
+        changes: &[(usize, u64)],
     ) {
         self.quadwords += 1;
+        self.logs.note(now.log.len(), used);
         match taken {
-            Err(refusals::LOG) => self.note_log(before, used, now.log.len()),
+            Err(refusals::LOG) => {
+                let wrong = !before.is_some_and(gif::path_in_range);
+                self.refused_log_before_range += wrong as u64;
+            }
             Err(refusals::RANGE) => self.note_range(before),
             _ => {
                 let path = before.expect("only an existing path is stepped");
-                self.packets.note(path, quadword, taken);
+                self.packets[place(now.number)].note(path, quadword, taken);
                 let refusal = taken.err();
                 match &path.place {
-                    Place::Idle => self.note_tag(quadword, refusal),
+                    Place::Idle => self.note_tag(now.number, quadword, refusal),
                     Place::Data { tag, due } => {
                         let free = log::room(now.log.len(), used);
                         self.note_data(tag, *due, quadword, refusal, free);
                     }
                 }
                 if refusal.is_none() {
-                    self.note_writes(used, now, changed);
+                    self.note_writes(used, now, changes);
                 }
             }
-        }
-    }
-
-    fn note_log(&mut self, before: Option<&Path>, used: u64, length: usize) {
-        if !before.is_some_and(gif::path_in_range) {
-            self.refused_log_before_range += 1;
-        }
-        if !log::is_whole(length) {
-            self.refused_log_odd += 1;
-        } else if length > log::MOST_NUMBERS {
-            self.refused_log_long += 1;
-        } else if log::numbers_wrap(used) <= length as u64 {
-            self.refused_log_used_doubled_wraps += 1;
-        } else {
-            self.refused_log_used += 1;
         }
     }
 
@@ -119,7 +113,7 @@ impl Counts {
         }
     }
 
-    fn note_tag(&mut self, quadword: u128, refusal: Option<u32>) {
+    fn note_tag(&mut self, number: PathNumber, quadword: u128, refusal: Option<u32>) {
         if refusal.is_some() {
             self.refused_room_tag += 1;
             return;
@@ -135,7 +129,7 @@ impl Counts {
         self.nreg[bits(quadword, 60, 4) as usize] += 1;
         if pre {
             match flg {
-                0 => self.pre_writes += 1,
+                0 => self.pre_writes[place(number)] += 1,
                 1 => self.pre_ignored_reglist += 1,
                 _ => self.pre_ignored_image += 1,
             }
@@ -146,25 +140,21 @@ impl Counts {
         if refusal == Some(refusals::DESCRIPTOR) && free == 0 {
             self.refused_b_and_full += 1;
         }
-        if refusal == Some(refusals::ROOM) && free == 1 {
-            self.refused_room_one_free += 1;
+        if refusal == Some(refusals::ROOM) {
+            self.refused_room[tag.format as usize][free as usize] += 1;
+            return;
         }
         match tag.format {
-            Format::Packed => self.note_packed(tag.packed_descriptor(due), quadword, refusal),
+            Format::Packed => self.note_packed(tag.packed_descriptor(due), quadword),
             Format::Reglist => self.note_reglist(tag, tag.reglist_descriptors(due), refusal),
-            Format::Image if refusal.is_none() => self.image += 1,
-            Format::Image => self.refused_room_image += 1,
+            Format::Image => self.image += 1,
         }
         if refusal.is_none() && due == 1 {
             self.completed[tag.format as usize] += 1;
         }
     }
 
-    fn note_packed(&mut self, descriptor: u8, quadword: u128, refusal: Option<u32>) {
-        if refusal == Some(refusals::ROOM) {
-            self.refused_room_packed += 1;
-            return;
-        }
+    fn note_packed(&mut self, descriptor: u8, quadword: u128) {
         self.packed[descriptor as usize] += 1;
         match descriptor {
             4 | 5 => self.redirected[descriptor as usize - 4] += bits(quadword, 111, 1),
@@ -174,10 +164,6 @@ impl Counts {
     }
 
     fn note_reglist(&mut self, tag: &Tag, halves: (u8, Option<u8>), refusal: Option<u32>) {
-        if refusal == Some(refusals::ROOM) {
-            self.refused_room_reglist += 1;
-            return;
-        }
         if refusal == Some(refusals::DESCRIPTOR) {
             self.reglist[0xB] += 1;
             if halves.0 == 0xB {
@@ -198,12 +184,16 @@ impl Counts {
         }
     }
 
-    fn note_writes(&mut self, used: u64, now: &Standing, changed: usize) {
+    fn note_writes(&mut self, used: u64, now: &Standing, changes: &[(usize, u64)]) {
         let written = now.used - used;
+        self.entries[place(now.number)] += written;
         let full = log::is_full(now.log.len(), now.used);
         self.exactly_full += (full && written > 0) as u64;
         self.taken_while_full += (full && written == 0) as u64;
-        self.unchanged += (log::numbers(written) - changed) as u64;
+        for (i, unchanged) in self.unchanged.iter_mut().enumerate() {
+            let changed = changes.iter().filter(|(at, _)| at % log::ENTRY == i);
+            *unchanged += written - changed.count() as u64;
+        }
     }
 
     /// Every count by name.
@@ -222,7 +212,6 @@ impl Counts {
         for (n, &count) in self.nreg.iter().enumerate() {
             row(&format!("tags with data, NREG field {n}"), count);
         }
-        row("PRE writes", self.pre_writes);
         row(
             "PRE without a write, PACKED with NLOOP 0",
             self.pre_ignored_empty,
@@ -246,13 +235,6 @@ impl Counts {
         row("tags completed, PACKED", self.completed[0]);
         row("tags completed, REGLIST", self.completed[1]);
         row("tags completed, IMAGE", self.completed[2]);
-        row("refused 4, log length odd", self.refused_log_odd);
-        row("refused 4, log too long", self.refused_log_long);
-        row("refused 4, too many entries used", self.refused_log_used);
-        row(
-            "refused 4, twice the entries used wraps",
-            self.refused_log_used_doubled_wraps,
-        );
         row(
             "refused 4, path out of range too",
             self.refused_log_before_range,
@@ -266,14 +248,27 @@ impl Counts {
         row("refused 30, REGLIST second half", self.refused_b_second);
         row("refused 30 with the log full", self.refused_b_and_full);
         row("refused 31, at a tag", self.refused_room_tag);
-        row("refused 31, PACKED", self.refused_room_packed);
-        row("refused 31, REGLIST", self.refused_room_reglist);
-        row("refused 31, IMAGE", self.refused_room_image);
-        row("refused 31 with one entry free", self.refused_room_one_free);
+        for (format, free, count) in [
+            ("PACKED", "no entry", self.refused_room[0][0]),
+            ("REGLIST", "no entry", self.refused_room[1][0]),
+            ("REGLIST", "one entry", self.refused_room[1][1]),
+            ("IMAGE", "no entry", self.refused_room[2][0]),
+            ("IMAGE", "one entry", self.refused_room[2][1]),
+        ] {
+            row(&format!("refused 31, {format}, {free} free"), count);
+        }
         row("log exactly full after a write", self.exactly_full);
         row("taken without a write, log full", self.taken_while_full);
-        row("numbers written with the value held", self.unchanged);
-        rows.extend(self.packets.rows("GIF"));
+        for (name, count) in ["paths", "registers", "values"].iter().zip(self.unchanged) {
+            row(&format!("{name} written with the number held"), count);
+        }
+        rows.extend(self.logs.rows());
+        for number in PATH_NUMBERS {
+            let (i, of) = (place(number), format!("path {}", number as u32));
+            rows.push((format!("entries; {of}"), self.entries[i]));
+            rows.push((format!("PRE writes; {of}"), self.pre_writes[i]));
+            rows.extend(self.packets[i].rows(&of));
+        }
         rows
     }
 }

@@ -1,10 +1,11 @@
 //! GIF cases from a seed.
 
-use crate::gif::{Format, Path, Place, Tag};
+use crate::gif::{Format, Path, Place, Tag, PATH_NUMBERS};
 use crate::gif_cases::{fill_number, Case, Standing};
 use crate::log;
 use crate::memory::cases::MOST_LOG;
 use crate::packet_points;
+use crate::path_points;
 use crate::random::Random;
 use crate::state_block::{descriptors, path_word, write_path, PathBlock, IDLE_PATH};
 
@@ -18,7 +19,8 @@ pub fn generate(seed: u64, quadwords: u64) -> Vec<u8> {
     let mut file = Vec::new();
     let mut made = 0;
     let edges = edge_cases(&mut random);
-    let points = packet_points::in_gif_cases();
+    let mut points = packet_points::in_gif_cases();
+    points.extend(path_points::in_gif_cases());
     for case in fixed_cases().iter().chain(&points).chain(&edges) {
         made += case.quadwords.len() as u64;
         case.write(&mut file);
@@ -36,17 +38,21 @@ pub fn tag_quadword(nloop: u64, flg: u64, nreg: u64, descriptors: u64) -> u128 {
     (nloop | flg << 58 | nreg << 60) as u128 | (descriptors as u128) << 64
 }
 
+/// Cases that are the same in every file, on each path.
 fn fixed_cases() -> Vec<Case> {
-    let case = |entries, used, quadwords: &[u128]| Case {
-        log_length: log::length(entries),
-        used,
-        fill: 0x0123_4567_89AB_CDEF,
-        block: IDLE_PATH,
-        quadwords: quadwords.to_vec(),
+    let case = |entries, used, quadwords: &[u128]| {
+        PATH_NUMBERS.map(|number| Case {
+            log_length: log::length(entries),
+            used,
+            fill: 0x0123_4567_89AB_CDEF,
+            number,
+            block: IDLE_PATH,
+            quadwords: quadwords.to_vec(),
+        })
     };
     let halves = |low: u128, high: u128| low | high << 64;
     let pre = PRE | 0x5A5 << 47;
-    vec![
+    [
         // REGLIST, NREG 3, NLOOP 1: two quadwords, three writes.
         case(
             4,
@@ -94,6 +100,7 @@ fn fixed_cases() -> Vec<Case> {
         // No quadwords at all.
         case(0, 0, &[]),
     ]
+    .concat()
 }
 
 /// Each limit of the log and of held tags from both sides.
@@ -104,6 +111,7 @@ fn edge_cases(random: &mut Random) -> Vec<Case> {
             log_length,
             used,
             fill: 1,
+            number: PATH_NUMBERS[cases.len() % 2],
             block,
             quadwords,
         });
@@ -136,31 +144,31 @@ fn edge_cases(random: &mut Random) -> Vec<Case> {
 
 /// Lengths of logs and entries used at the limits of refusal 4.
 pub fn edge_logs() -> Vec<(u32, u64)> {
-    let one = log::length(1);
+    let [one, two, some] = [1, 2, 32].map(log::length);
     let most = log::MOST_NUMBERS as u32;
     let entries = log::MOST_ENTRIES;
-    vec![
-        (0, 0),
-        (0, 1),
-        (1, 0),
-        (one, 1),
-        (one, 2),
-        (one, log::WRAPS),
-        (one, log::WRAPS + 1),
-        (one, u64::MAX),
-        (log::length(32), 1 << 31),
-        (log::length(32), 1 << 32),
-        (most - 1, 0),
-        (most, entries - 3),
-        (most, entries - 2),
-        (most, entries - 1),
-        (most, entries),
-        (most, entries + 1),
-        (most + 1, 0),
-        (most + one, 0),
-        (most + one, entries + 1),
-        (MOST_LOG, 0),
-    ]
+    let mut logs = vec![(0, 0), (0, 1), (1, 0), (2, 0), (two, 3)];
+    // From one number short of an entry to one short of three.
+    logs.extend((one - 1..=two + 2).map(|length| (length, 1)));
+    logs.extend((one - 1..=two + 2).map(|length| (length, 2)));
+    let near = [log::WRAPS, log::WRAPS_TWICE].map(|used| [used - 1, used, used + 1]);
+    logs.extend(near.concat().iter().map(|&used| (one, used)));
+    // What 32 bits cannot hold, or not three times it.
+    for used in [1 << 31, 1 << 32, 0x5555_5556, 0xAAAA_AAAB] {
+        logs.push((some, used));
+    }
+    logs.extend([(one, u64::MAX), (some, u64::MAX)]);
+    // Round the most where an entry has two numbers.
+    logs.extend((131_071..=131_074).map(|length| (length, 43_690)));
+    for length in [most - one, most - 2, most - 1, most + 1, most + 2] {
+        logs.push((length, 0));
+    }
+    for free in 0..=3 {
+        logs.push((most, entries - free));
+    }
+    logs.extend([(most, entries + 1), (most + one, 0)]);
+    logs.extend([(most + one, entries + 1), (MOST_LOG, 0)]);
+    logs
 }
 
 /// A random case of at most about `left` quadwords.
@@ -173,14 +181,19 @@ fn random_case(random: &mut Random, left: u64) -> Case {
         log_length,
         used,
         fill: random.number(),
+        number: random.pick(&PATH_NUMBERS),
         block: random_block(random),
         quadwords: Vec::new(),
     };
-    if used < 1 << 32 && random.percent(25) {
-        // The next entry's register stands in the log already.
-        let register = likely_register(random, &case.block);
-        let at = (log::numbers(used) + log::REGISTER) as u64;
-        case.fill = register.wrapping_sub(fill_number(0, at));
+    if used < 1 << 32 && random.percent(30) {
+        // The next entry's path stands in the log already, or its register.
+        let (number, place) = if random.percent(20) {
+            (case.number as u64, log::PATH)
+        } else {
+            (likely_register(random, &case.block), log::REGISTER)
+        };
+        let at = (log::numbers(used) + place) as u64;
+        case.fill = number.wrapping_sub(fill_number(0, at));
     }
     let wanted = match random.below(20) {
         0 => random.below(2),
@@ -226,6 +239,7 @@ fn long_case(random: &mut Random) -> Case {
         log_length: log::length(1),
         used: 1,
         fill: random.number(),
+        number: random.pick(&PATH_NUMBERS),
         block,
         quadwords,
     }
@@ -248,7 +262,7 @@ pub fn random_log(random: &mut Random) -> (u32, u64) {
         925..=936 => long_log(random),
         937..=939 => too_long_log(random),
         940..=959 => {
-            let length = log::length(random.within(0..=32)) + 1;
+            let length = log::length(random.within(0..=32)) + random.pick(&[1, 2]);
             (length, random.within(0..=length as u64))
         }
         _ => {
@@ -271,7 +285,7 @@ fn long_log(random: &mut Random) -> (u32, u64) {
 }
 
 fn too_long_log(random: &mut Random) -> (u32, u64) {
-    let over = random.pick(&[1, 2, 2, 3, 4, 7, 8]);
+    let over = random.pick(&[1, 2, 3, 3, 4, 6, 8]);
     let most = log::MOST_ENTRIES;
     let used = random.pick(&[0, 1, most - 1, most, most + 1, most + 4, u64::MAX]);
     (log::length(most) + over, used)
@@ -279,11 +293,13 @@ fn too_long_log(random: &mut Random) -> (u32, u64) {
 
 /// More entries used than a log of so many has.
 fn too_many_used(random: &mut Random, entries: u64) -> u64 {
-    match random.below(9) {
+    match random.below(11) {
         0 | 1 => entries + 1,
         2 => entries + random.within(1..=100),
         3 => log::WRAPS + random.within(0..=entries),
         4 => log::WRAPS + entries + random.within(1..=3),
+        8 => log::WRAPS_TWICE + random.within(0..=entries),
+        9 => entries + random.within(1..=entries / 2 + 1),
         5 => u64::MAX - random.within(0..=3),
         6 => log::WRAPS - random.within(1..=3),
         7 => random.pick(&[1u64 << 31, 1 << 32, 1 << 33, 1 << 62]) + random.within(0..=entries),

@@ -1,11 +1,13 @@
 //! The GIF timing input.
 
-use crate::gif::{self, Path, Place};
+use crate::gif::{self, Path, PathNumber, Place};
 use crate::log;
 use crate::state_block::write_path;
 use crate::words::{put_number, put_word, quadwords, word, QUADWORD, WORD};
 
 pub const MOST_QUADWORDS: usize = 16_384;
+/// The path that the quadwords are given to.
+const NUMBER: PathNumber = PathNumber::Three;
 /// With more entries used than this, the count starts again.
 const ENTRIES_BEFORE_RESTART: u64 = 65_000;
 
@@ -45,7 +47,7 @@ pub fn result(input: &[u8]) -> Option<Vec<u8>> {
             if used > ENTRIES_BEFORE_RESTART {
                 used = 0;
             }
-            if gif::take(&mut path, &mut used, &mut log, quadword).is_err() {
+            if gif::take(NUMBER, &mut path, &mut used, &mut log, quadword).is_err() {
                 refused = refused.wrapping_add(1);
             }
         }

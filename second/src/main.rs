@@ -10,6 +10,7 @@ mod capture_counts;
 mod capture_generate;
 mod capture_packet_cases;
 mod capture_packet_counts;
+mod capture_path_counts;
 mod capture_points;
 mod chain;
 mod chain_time;
@@ -22,10 +23,12 @@ mod gif_counts;
 mod gif_generate;
 mod gif_time;
 mod log;
+mod log_counts;
 mod memory;
 mod model;
 mod packet_counts;
 mod packet_points;
+mod path_points;
 mod random;
 mod refusals;
 mod sheet;
@@ -57,17 +60,17 @@ const USAGE: &str = "\
 usage:
   second gif [--counts] < CASES > RESULTS
   second generate-gif SEED QUADWORDS > CASES
-  second points-gif packets > CASES
+  second points-gif packets|paths > CASES
   second compare-gif PROGRAM SEED[,SEED..] QUADWORDS
   second bench-gif PROGRAM
   second time-gif < INPUT > RESULT
   second vif [--counts] < CASES > RESULTS
   second generate-vif SEED WORDS > CASES
-  second points-vif mask|filling|vif0|upload|packets > CASES
+  second points-vif mask|filling|vif0|upload|packets|paths > CASES
   second compare-vif PROGRAM SEED[,SEED..] WORDS
   second capture [--counts] < CASES > RESULTS
   second generate-capture SEED RUNS > CASES
-  second points-capture mask|filling|vif0|upload|packets > CASES
+  second points-capture mask|filling|vif0|upload|packets|paths > CASES
   second compare-capture PROGRAM SEED[,SEED..] RUNS
   second bench-chain PROGRAM
   second time-chain < INPUT > RESULT
@@ -111,9 +114,9 @@ fn gif_command(arguments: &[&str]) -> Option<Result<(), String>> {
             seed.parse().ok()?,
             quadwords.parse().ok()?,
         )),
-        ["points-gif", "packets"] => {
+        ["points-gif", name] => {
             let mut file = Vec::new();
-            let cases = packet_points::in_gif_cases();
+            let cases = gif_point_cases(name)?;
             cases.iter().for_each(|case| case.write(&mut file));
             write(&file)
         }
@@ -196,21 +199,34 @@ fn sheet_command(arguments: &[&str]) -> Option<Result<(), String>> {
 }
 
 /// The points under a name; none for another name.
-fn vif_point_cases(name: &str) -> Option<Vec<vif_cases::Case>> {
-    if name == "packets" {
-        return Some(packet_points::in_vif_cases());
+fn gif_point_cases(name: &str) -> Option<Vec<gif_cases::Case>> {
+    match name {
+        "packets" => Some(packet_points::in_gif_cases()),
+        "paths" => Some(path_points::in_gif_cases()),
+        _ => None,
     }
-    let points = vif_points::named(name)?;
-    Some(points.iter().map(|point| point.case()).collect())
 }
 
-/// The same as captures.
-fn capture_point_cases(name: &str) -> Option<Vec<capture_cases::Case>> {
-    if name == "packets" {
-        return Some(packet_points::in_captures());
+fn vif_point_cases(name: &str) -> Option<Vec<vif_cases::Case>> {
+    match name {
+        "packets" => Some(packet_points::in_vif_cases()),
+        "paths" => Some(path_points::in_vif_cases()),
+        _ => {
+            let points = vif_points::named(name)?;
+            Some(points.iter().map(|point| point.case()).collect())
+        }
     }
-    let points = vif_points::named(name)?;
-    Some(points.iter().map(capture_points::case).collect())
+}
+
+fn capture_point_cases(name: &str) -> Option<Vec<capture_cases::Case>> {
+    match name {
+        "packets" => Some(packet_points::in_captures()),
+        "paths" => Some(path_points::in_captures()),
+        _ => {
+            let points = vif_points::named(name)?;
+            Some(points.iter().map(capture_points::case).collect())
+        }
+    }
 }
 
 fn gif_results(with_counts: bool) -> Result<(), String> {

@@ -3,6 +3,7 @@
 use crate::capture_cases::{self, Call};
 use crate::capture_generate::{plain_case as plain_capture, run, tagged};
 use crate::chain::{Stop, DONE, END};
+use crate::gif::{PathNumber, PATH_NUMBERS};
 use crate::gif_cases::{self, CLOSED as CLOSED_ANSWER};
 use crate::gif_generate::{tag_quadword, EOP, PRE};
 use crate::log;
@@ -184,14 +185,19 @@ impl Point {
         self.quadwords.iter().map(|&(given, _)| given).collect()
     }
 
-    fn gif_case(&self) -> gif_cases::Case {
+    fn gif_case(&self, number: PathNumber) -> gif_cases::Case {
         gif_cases::Case {
             log_length: log::length(self.entries),
             used: 0,
             fill: FILL,
+            number,
             block: IDLE_PATH,
             quadwords: self.given(),
         }
+    }
+
+    fn gif_cases(&self) -> [gif_cases::Case; 2] {
+        PATH_NUMBERS.map(|number| self.gif_case(number))
     }
 
     /// A code that takes the quadwords, each in a group of its own.
@@ -244,7 +250,9 @@ impl Point {
     }
 
     fn check(&self) -> Result<(), String> {
-        self.check_gif()?;
+        self.gif_cases()
+            .iter()
+            .try_for_each(|case| self.check_gif(case))?;
         self.vif_cases()
             .iter()
             .try_for_each(|case| self.check_vif(case))?;
@@ -257,8 +265,8 @@ impl Point {
         format!("point {}: {how}", self.name)
     }
 
-    fn check_gif(&self) -> Result<(), String> {
-        let mut standing = gif_cases::Standing::new(&self.gif_case());
+    fn check_gif(&self, case: &gif_cases::Case) -> Result<(), String> {
+        let mut standing = gif_cases::Standing::new(case);
         for (i, &(given, answer)) in self.quadwords.iter().enumerate() {
             let before = standing.block();
             let taken = standing.take(given);
@@ -305,7 +313,7 @@ impl Point {
 }
 
 pub fn in_gif_cases() -> Vec<gif_cases::Case> {
-    points().iter().map(Point::gif_case).collect()
+    points().iter().flat_map(Point::gif_cases).collect()
 }
 
 pub fn in_vif_cases() -> Vec<vif_cases::Case> {
@@ -346,7 +354,9 @@ mod tests {
                     Ok(closed) => Ok(!closed),
                     Err(refusal) => Err(61 - refusal),
                 };
-                assert!(point.check_gif().is_err());
+                for case in point.gif_cases() {
+                    assert!(point.check_gif(&case).is_err());
+                }
                 for case in point.vif_cases() {
                     assert!(point.check_vif(&case).is_err());
                 }

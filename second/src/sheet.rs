@@ -25,6 +25,9 @@ const MPG: u32 = 0x4A00_0000;
 const DIRECT: u32 = 0x5000_0000;
 const MSCAL: u32 = 0x1400_0000;
 const ENTRY_START: u64 = 256;
+/// The paths of GS entries and start entries.
+const PATH_GS: u64 = 2;
+const PATH_START: u64 = 0;
 
 #[derive(Clone, Copy, PartialEq, Eq, Debug)]
 pub enum Kind {
@@ -274,6 +277,7 @@ pub fn meaning(
             Kind::Code => record.put_instructions(code),
             Kind::Gs => entries.extend(record.body.chunks(16).map(gs_entry)),
             Kind::Start => entries.push(Entry {
+                path: PATH_START,
                 register: ENTRY_START,
                 value: record.address as u64,
             }),
@@ -303,6 +307,7 @@ impl Record<'_> {
 /// The log entry in 16 bytes of a GS record.
 fn gs_entry(bytes: &[u8]) -> Entry {
     Entry {
+        path: PATH_GS,
         register: bytes[8] as u64,
         value: u64::from_le_bytes(bytes[..8].try_into().unwrap()),
     }
@@ -328,15 +333,19 @@ mod tests {
             .collect()
     }
 
-    fn entry(register: u64, value: u64) -> Entry {
-        Entry { register, value }
+    fn entry(path: u64, register: u64, value: u64) -> Entry {
+        Entry {
+            path,
+            register,
+            value,
+        }
     }
 
     /// Memories and log entries, from one fill.
     fn machine() -> (Vec<u32>, Vec<u8>, Vec<Entry>) {
         let data = (0..DATA_WORDS as u32).map(|i| i * 77).collect();
         let code = (0..CODE_BYTES).map(|i| i as u8).collect();
-        (data, code, vec![entry(9, 9)])
+        (data, code, vec![entry(9, 9, 9)])
     }
 
     /// Builds and runs the chain; what it leaves is what the sheet means.
@@ -404,7 +413,7 @@ mod tests {
             ]
         );
         assert_eq!(steps(&sheet), Ok(6));
-        assert_eq!(run_and_compare(&sheet).2[1..], [entry(256, 5)]);
+        assert_eq!(run_and_compare(&sheet).2[1..], [entry(0, 256, 5)]);
     }
 
     #[test]
@@ -429,7 +438,7 @@ mod tests {
         assert_eq!(words[8..12], [0x0000_8001, 0x1000_0000, 0x0000_000E, 0]);
         assert_eq!(steps(&sheet), Ok(8));
         let (.., entries) = run_and_compare(&sheet);
-        assert_eq!(entries[1..], [entry(0x47, 0x0807_0605_0403_0201)]);
+        assert_eq!(entries[1..], [entry(2, 0x47, 0x0807_0605_0403_0201)]);
     }
 
     #[test]

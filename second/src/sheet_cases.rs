@@ -15,7 +15,7 @@ use crate::state_block::{self, describe_state, read_state, write_state, StateBlo
 use crate::vif;
 use crate::words::{number, put_number, put_word, word, WORD};
 
-pub const MARK: u32 = 0x3248_5354;
+pub const MARK: u32 = 0x3348_5354;
 pub const MOST_SHEET: u32 = 131_088;
 pub const MOST_OUTPUT: u32 = 1_048_608;
 /// The word of a case at which the state block starts.
@@ -487,10 +487,8 @@ mod tests {
         let code = 24 + DATA_WORDS;
         assert_eq!(given[WORD * code], fill(1, 0) as u8);
         let log_at = code + CODE_BYTES / WORD;
-        assert_eq!(
-            (number(&given, log_at), number(&given, log_at + 2)),
-            (256, 5)
-        );
+        let logged = [0, 2, 4].map(|at| number(&given, log_at + at));
+        assert_eq!(logged, [0, 256, 5]);
         // Build and run: answer, offset, steps, packets, channel, TADR, TTE, ended.
         let run = log_at + 2 * log::ENTRY;
         let head: Vec<u32> = (run..run + 10).map(|at| word(&given, at)).collect();

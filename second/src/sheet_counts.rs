@@ -5,6 +5,7 @@ use crate::chain::{self, State};
 use crate::compare::named_rows;
 use crate::gif::Place;
 use crate::log;
+use crate::log_counts;
 use crate::memory::{self, MOST_MAIN};
 use crate::refusals;
 use crate::sheet::{
@@ -56,6 +57,7 @@ pub struct Counts {
     wraps: [u64; 2],
     odd_code: u64,
     whole_steps: u64,
+    logs: log_counts::Counts,
 }
 
 impl Counts {
@@ -80,6 +82,7 @@ impl Counts {
         self.note_answers(case, outcome);
         self.note_vif0(case, outcome);
         self.note_lengths(case);
+        self.logs.note(case.log_length as usize, case.used());
         self.note_wrong_together(case);
         if outcome.ran.answer.is_ok() {
             self.note_run(case, outcome);
@@ -295,10 +298,7 @@ impl Counts {
 
     fn note_lengths(&mut self, case: &Case) {
         let (data, code) = (case.data_length as usize, case.code_length as usize);
-        let (log, main) = (case.log_length as usize, case.main_length as usize);
-        let used = case.used();
-        let odd = !log::is_whole(log);
-        let below = !log::holds(log, used);
+        let main = case.main_length as usize;
         let rows = [
             ("data memory empty", data == 0),
             ("data memory short", data > 0 && data < DATA_WORDS),
@@ -307,15 +307,6 @@ impl Counts {
             ("code memory short", code > 0 && code < CODE_BYTES),
             ("code memory long", code > CODE_BYTES),
             ("code memory no multiple of 4", code % 4 != 0),
-            ("log odd", odd && log < log::MOST_NUMBERS),
-            ("log too long", log > log::MOST_NUMBERS),
-            ("log of 131,072 numbers", log == log::MOST_NUMBERS),
-            ("log below twice the entries used", below && !odd),
-            ("entries used from 2^63", used >= log::WRAPS),
-            (
-                "entries used 2^63, log empty",
-                used == log::WRAPS && log == 0,
-            ),
             ("main memory empty", main == 0),
             ("main memory too long", main > MOST_MAIN),
             ("main memory no multiple of 16", main % 16 != 0),
@@ -515,6 +506,7 @@ impl Counts {
         row("data records that wrap".to_string(), self.wraps[0]);
         row("code records that wrap".to_string(), self.wraps[1]);
         row("code records, n odd".to_string(), self.odd_code);
+        rows.extend(self.logs.rows());
         rows.extend(named_rows(&self.by_name, names()));
         rows
     }
@@ -708,15 +700,9 @@ const NAMES: &[&str] = &[
     "code memory short",
     "code memory long",
     "code memory no multiple of 4",
-    "log odd",
-    "log too long",
-    "log of 131,072 numbers",
-    "log below twice the entries used",
     "log short after packets",
     "log short by one entry",
     "log short by more",
-    "entries used from 2^63",
-    "entries used 2^63, log empty",
     "main memory empty",
     "main memory too long",
     "main memory no multiple of 16",

@@ -345,22 +345,30 @@ impl Edges<'_> {
             case.log_length = log::length(case.used() + room);
             self.cases.push(case);
         }
-        let (one, twenty) = (log::length(1), log::length(20));
+        let [one, two, twenty] = [1, 2, 20].map(log::length);
+        let most = log::MOST_NUMBERS as u32;
         let refused = [
             (0, 1),
-            (0, log::WRAPS),
-            (1, 0),
             (one, 2),
             (one, log::WRAPS),
-            (one, log::WRAPS + 1),
+            (one, log::WRAPS_TWICE),
             (one, u64::MAX),
-            (twenty, 1 << 32),
-            (twenty, 1 << 31),
-            (twenty + 1, 3),
-            (twenty - 1, 20),
+            // 1, 2, 4 and 5 numbers free.
+            (one + 1, 1),
+            (one + 2, 1),
+            (two + 1, 1),
+            (two + 2, 1),
+            // Twice the entries used, and all but one of them.
+            (two, 3),
             (twenty, 21),
+            (twenty - 1, 20),
+            (twenty, 1 << 32),
+            (twenty, 0x5555_5556),
+            (most + 1, 0),
+            (most + one, 0),
         ];
-        for (length, used) in refused {
+        // And one that is longer than two numbers an entry would allow.
+        for (length, used) in refused.into_iter().chain([(131_073, 0)]) {
             let mut case = self.whole_case();
             case.log_length = length;
             set_used(&mut case.state, used);
@@ -421,7 +429,7 @@ impl Edges<'_> {
         }
         if wrong & 8 != 0 {
             let entries = log::room(case.log_length as usize, 0);
-            let used = entries + self.random.pick(&[1, log::WRAPS]);
+            let used = self.random.pick(&[entries + 1, log::WRAPS]);
             set_used(&mut case.state, used);
         } else if (wrong & 0x11).count_ones() == 1 {
             // No room for any entry.
@@ -718,6 +726,7 @@ mod tests {
             });
             assert!(met, "{number}");
         }
-        assert!(cases.len() < 670, "{}", cases.len());
+        // As many as a file of 2,000 cases has.
+        assert!(cases.len() <= 680, "{}", cases.len());
     }
 }

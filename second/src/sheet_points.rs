@@ -72,7 +72,7 @@ fn start_at_5() -> Point {
         packets: 0,
         data: &[],
         code: &[],
-        log: &[[256, 5]],
+        log: &[[0, 256, 5]],
         // DBF flips.
         state: &[ENDED, (VIF1 + unit_word::DBF, 1)],
     }
@@ -130,7 +130,7 @@ fn one_gs_write() -> Point {
         packets: 1,
         data: &[],
         code: &[],
-        log: &[[0x47, 0x8807_0605_0403_0201]],
+        log: &[[2, 0x47, 0x8807_0605_0403_0201]],
         // Q of path 2.
         state: &[ENDED, (PATH2 + path_word::Q, 0x3F80_0000)],
     }

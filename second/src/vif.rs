@@ -1,7 +1,7 @@
 //! A VIF unit by itself: it takes one word at a time, or one quadword inside DIRECT
 //! and DIRECTHL.
 
-use crate::gif;
+use crate::gif::{self, PathNumber};
 use crate::log::{self, Entries};
 use crate::model::Model;
 use crate::refusals;
@@ -269,7 +269,7 @@ pub fn take(
     };
     match given {
         Given::Quadword(quadword) if direct => {
-            taken.closed = gif::take(path, used, log, quadword)?;
+            taken.closed = gif::take(PathNumber::Two, path, used, log, quadword)?;
         }
         Given::Word { .. } if direct => return Err(refusals::PLACE),
         _ if waiting.is_upload() && given.number() % 2 == 1 => return Err(refusals::ALIGNMENT),
@@ -523,7 +523,7 @@ fn check_unpack(model: Model, registers: &Registers, add_tops: bool) -> Result<(
 
 /// The log entry of MSCAL, MSCALF and MSCNT; none of another code.
 fn start_entry(code: &Code) -> Entries {
-    let mut entry = Entries::default();
+    let mut entry = Entries::of_path(log::NO_PATH);
     match *code {
         Code::Mscal(imm) => entry.add(ENTRY_MSCAL, imm as u64),
         Code::Mscalf(imm) => entry.add(ENTRY_MSCALF, imm as u64),
@@ -563,7 +563,7 @@ mod tests {
                 },
                 data: vec![0; model.sizes().data_words()],
                 code: vec![0; model.sizes().code_bytes()],
-                log: vec![0; 8],
+                log: vec![0; log::numbers(4)],
                 used: 0,
                 number: 0,
             }
@@ -742,10 +742,8 @@ mod tests {
         bench.run(&[0x0400_03FF, 0x1700_0009]);
         (started.itops, started.itop) = (1_023, 1_023);
         assert_eq!(bench.unit.registers, started);
-        assert_eq!(
-            (bench.used, &bench.log[..4]),
-            (2, &[256, 65_535, 258, 0][..])
-        );
+        assert_eq!(bench.used, 2);
+        assert_eq!(bench.log[..6], [0, 256, 65_535, 0, 258, 0]);
         // The same on VIF1, with BASE 3 and OFST 2, changes TOP, DBF and TOPS as well.
         let mut bench = Bench::new();
         bench.run(&[0x0300_0003, 0x0200_0002, 0x1400_0000]);
@@ -832,6 +830,7 @@ mod tests {
             // NLOOP 0 without EOP and with it.
             assert_eq!(give(0), (false, false));
             assert_eq!(give(0x8000), (true, true));
+            assert_eq!(bench.log[..3], [2, 0, 7]);
         }
     }
 

@@ -15,7 +15,7 @@ use crate::vif::{self, Given, Unit};
 use crate::vif_counts::{Call, Counts, UnitCounts};
 use crate::words::{number, put_number, put_word, word, WORD};
 
-pub const MARK: u32 = 0x3249_5654;
+pub const MARK: u32 = 0x3349_5654;
 pub const MOST_GROUPS: u32 = 65_535;
 pub const MOST_WORDS: u32 = 262_144;
 pub const MOST_CALLS: u32 = 65_535;

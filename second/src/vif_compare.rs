@@ -3,6 +3,7 @@
 use crate::compare::{describe_ends, first_difference, report, Program};
 use crate::memory::cases::{MOST_CODE, MOST_DATA, MOST_LOG};
 use crate::packet_points;
+use crate::path_points;
 use crate::random::Random;
 use crate::vif_cases::{
     self, case_starts, describe_case, describe_group, first_case, Results, GROUPS, HEADER, MODEL,
@@ -16,7 +17,7 @@ use crate::words::{word, WORD};
 /// Compares on the cases of each seed, which have the points worked by hand among them, and on
 /// damaged files made from them.
 pub fn compare(program: &Program, seeds: &[u64], words: u64) -> Result<(), String> {
-    let points = (vif_points::check()? + packet_points::check()?) as u64;
+    let points = vif_points::check()? + packet_points::check()? + path_points::check()?;
     let mut counts = Counts::default();
     let mut damaged_files = 0;
     for &seed in seeds {
@@ -30,7 +31,7 @@ pub fn compare(program: &Program, seeds: &[u64], words: u64) -> Result<(), Strin
     }
     let mut rows = counts.rows();
     rows.push(("damaged files".to_string(), damaged_files));
-    rows.push(("points worked by hand".to_string(), points));
+    rows.push(("points worked by hand".to_string(), points as u64));
     report(&rows)
 }
 

@@ -4,6 +4,7 @@ use crate::compare::named_rows;
 use crate::gif::{self, Path, Place};
 use crate::gif_cases::CLOSED;
 use crate::log;
+use crate::log_counts;
 use crate::model::{Model, ONLY_VIF1};
 use crate::packet_counts;
 use crate::refusals;
@@ -152,6 +153,7 @@ pub struct UnitCounts {
     unpack: unpack_counts::Counts,
     /// By DIRECT and by DIRECTHL.
     packets: [packet_counts::Counts; 2],
+    logs: log_counts::Counts,
 }
 
 impl UnitCounts {
@@ -171,6 +173,7 @@ impl UnitCounts {
             completed: [0; 7],
             unpack: unpack_counts::Counts::default(),
             packets: Default::default(),
+            logs: Default::default(),
         }
     }
 
@@ -240,6 +243,9 @@ impl UnitCounts {
     pub fn note(&mut self, call: &Call) {
         self.calls += 1;
         let refusal = call.answer.checked_sub(REFUSED);
+        if call.first && !matches!(refusal, Some(refusals::DATA | refusals::CODE)) {
+            self.logs.note(call.now.log.len(), call.used_before);
+        }
         match refusal {
             Some(refusals::DATA | refusals::CODE | refusals::LOG) => {
                 self.note_lengths(call, refusal.unwrap());
@@ -305,9 +311,8 @@ impl UnitCounts {
             Some((next, _)) => format!("refused {refusal}, {next} would be next"),
             None => format!("refused {refusal}, nothing else wrong"),
         });
-        match refusal {
-            refusals::LOG => self.note_log(now),
-            _ => self.note_memory(now, refusal),
+        if refusal != refusals::LOG {
+            self.note_memory(now, refusal);
         }
     }
 
@@ -325,19 +330,6 @@ impl UnitCounts {
         self.add_if(&name, length == of_other);
         let both = (data, code) == (other.data_words(), other.code_bytes());
         self.add_if("refused 2, both memories the other unit's", both);
-    }
-
-    fn note_log(&mut self, now: &Standing) {
-        let length = now.log.len();
-        self.add(if !log::is_whole(length) {
-            "refused 4, log length odd"
-        } else if length > log::MOST_NUMBERS {
-            "refused 4, log too long"
-        } else if log::numbers_wrap(now.used) <= length as u64 {
-            "refused 4, twice the entries used wraps"
-        } else {
-            "refused 4, too many entries used"
-        });
     }
 
     fn note_range(&mut self, call: &Call) {
@@ -366,6 +358,8 @@ impl UnitCounts {
         let now = call.now;
         let written = now.used - call.used_before;
         let full = log::is_full(now.log.len(), now.used);
+        let start = written > 0 && call.answer & 1 == 0;
+        self.add_if("log entries of program starts", start);
         self.add_if("log exactly full after a write", full && written > 0);
         self.add_if("taken without a write, log full", full && written == 0);
     }
@@ -491,7 +485,10 @@ impl UnitCounts {
             (refusals::DESCRIPTOR, _) => self.add("refused 30 inside DIRECT"),
             (_, Place::Idle) => self.add("refused 31 inside DIRECT, at a tag"),
             (_, Place::Data { tag, .. }) => {
-                self.add(&format!("refused 31 inside DIRECT, {:?}", tag.format));
+                let name = format!("refused 31 inside DIRECT, {:?}", tag.format);
+                let one = log::room(call.now.log.len(), call.used_before) == 1;
+                self.add_if(&format!("{name}, one entry free"), one);
+                self.add(&name);
             }
         }
     }
@@ -575,6 +572,13 @@ impl UnitCounts {
             return;
         };
         self.packets[way as usize].note(path, quadword, call.taken());
+        let writes = call.now.used > call.used_before;
+        let pre = writes && path.place == Place::Idle;
+        self.add_if(
+            &format!("quadwords with log entries, {}", way.name()),
+            writes,
+        );
+        self.add_if(&format!("PRE writes, {}", way.name()), pre);
         if call.taken() != Ok(true) {
             return;
         }
@@ -616,6 +620,7 @@ impl UnitCounts {
             row(&format!("payloads completed, {kind}"), self.completed[i]);
         }
         rows.extend(self.unpack.rows());
+        rows.extend(self.logs.rows());
         if self.model.has(DIRECT) {
             for way in [Way::Direct, Way::Directhl] {
                 rows.extend(self.packets[way as usize].rows(way.name()));
@@ -812,6 +817,15 @@ fn vif1_names() -> Vec<String> {
     for format in ["Packed", "Reglist", "Image"] {
         add(format!("DIRECT quadwords, {format}"));
         add(format!("refused 31 inside DIRECT, {format}"));
+        if format != "Packed" {
+            add(format!(
+                "refused 31 inside DIRECT, {format}, one entry free"
+            ));
+        }
+    }
+    for way in [Way::Direct, Way::Directhl] {
+        add(format!("quadwords with log entries, {}", way.name()));
+        add(format!("PRE writes, {}", way.name()));
     }
     for number in 0..4 {
         add(format!("DIRECT in word {number}"));
@@ -847,10 +861,6 @@ const NAMES: &[&str] = &[
     "refused 3, 4 would be next",
     "refused 3, 5 would be next",
     "refused 3, nothing else wrong",
-    "refused 4, log length odd",
-    "refused 4, log too long",
-    "refused 4, twice the entries used wraps",
-    "refused 4, too many entries used",
     "refused 4, 5 would be next",
     "refused 4, nothing else wrong",
     "refused 5, several at once",
@@ -863,6 +873,7 @@ const NAMES: &[&str] = &[
     "refused 22, CL not 0",
     "refused 23",
     "codes refused with their bit 31 set",
+    "log entries of program starts",
     "log exactly full after a write",
     "taken without a write, log full",
     "ITOP changes",

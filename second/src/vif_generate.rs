@@ -9,6 +9,7 @@ use crate::log;
 use crate::memory::cases::{MOST_CODE, MOST_DATA};
 use crate::model::{Model, MODELS, ONLY_VIF1};
 use crate::packet_points;
+use crate::path_points;
 use crate::random::Random;
 use crate::refusals;
 use crate::state_block::{
@@ -38,6 +39,7 @@ pub fn generate(seed: u64, words: u64) -> Vec<u8> {
     }
     cases.extend(vif_points::all().iter().map(|point| point.case()));
     cases.extend(packet_points::in_vif_cases());
+    cases.extend(path_points::in_vif_cases());
     for model in MODELS {
         add_edge_cases(&mut random, model, &mut cases);
     }

@@ -1,7 +1,9 @@
 //! The ways on which quadwords come to a path.
 
 use crate::capture_generate::split;
-use crate::chain::State;
+use crate::chain::{Next, State};
+use crate::gif::Path;
+use crate::packet_counts;
 use crate::vif::Payload;
 use crate::vif_generate::code_word;
 
@@ -71,5 +73,33 @@ impl Way {
             Some(_) => 5,
             None => 1,
         }
+    }
+}
+
+/// A quadword that the next step gives to a path.
+pub struct Given<'a> {
+    pub way: Way,
+    pub path: &'a Path,
+    pub address: u32,
+}
+
+impl Given<'_> {
+    pub fn new(state: &State) -> Option<Given<'_>> {
+        let Next::Payload(pending) = state.next() else {
+            return None;
+        };
+        let waiting = state.vif1.waiting.as_ref();
+        let (way, path) = match state.channel {
+            1 => (Way::of_payload(&waiting?.payload)?, &state.path2),
+            2 => (Way::Channel2, &state.path3),
+            _ => return None,
+        };
+        let address = pending.address;
+        (address % 16 == 0).then_some(Given { way, path, address })
+    }
+
+    /// Whether the quadword closes a packet where it is taken.
+    pub fn closes(&self, quadword: u128) -> bool {
+        packet_counts::closes(self.path, quadword)
     }
 }
