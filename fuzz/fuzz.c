@@ -257,7 +257,7 @@ static void spoil(struct bytes *in, struct lengths *n) {
     *one = spoiled(in, *one);
 }
 
-/* The numbers of a log: few, sometimes many, rarely odd or above the most. */
+/* The numbers of a log: few, sometimes many, rarely no whole entries or above the most. */
 static size_t log_numbers(struct bytes *in) {
     uint32_t how = take8(in);
     if (how < 160) return TEJBORUN_ENTRY_NUMBERS * (size_t)how;
@@ -275,6 +275,8 @@ static uint64_t used_entries(struct bytes *in, size_t numbers) {
     if (how < 200) return take16(in) % (entries + 1);
     if (how < 248) return entries - (entries > how % 4 ? how % 4 : 0);
     if (how < 252) return entries + 1;
+    /* Their numbers pass 2^64 - 1 by so little that, worked out with wrapping, they might fit. */
+    if (how < 254) return UINT64_MAX / TEJBORUN_ENTRY_NUMBERS + 1 + take8(in) % 8;
     return take64(in);
 }
 
