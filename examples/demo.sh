@@ -68,4 +68,12 @@ show "$tejborun" run "$out/vif0.capture" -o "$out/vif0.result"
 show "$tejborun" import --data0 "$out/vu0.bin" --code0 "$out/micro0.bin" --log "$out/log0.bin" -o "$out/vif0-board.result"
 show "$tejborun" compare "$out/vif0.result" "$out/vif0-board.result" --only data0,code0,log
 
+echo "7. Two channels over one log: each entry says which path wrote it. A board that made the writes of channel 2 by path 2 is different in the path alone."
+echo
+show "$tejborun" assemble capture "$here/paths.capture.txt" -o "$out/paths.capture"
+show "$tejborun" run "$out/paths.capture" -o "$out/paths.result"
+"$tejborun" dump "$out/paths.result" | sed 's/ path=3 / path=2 /' > "$out/paths.txt"
+"$tejborun" assemble result "$out/paths.txt" -o "$out/path-2.result"
+show_different "$tejborun" compare "$out/paths.result" "$out/path-2.result" --only log --all
+
 echo "Shown: a sheet's chain leaves what the sheet means, and a board that loses one count a vector is caught at its first vector."

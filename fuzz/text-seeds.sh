@@ -10,11 +10,13 @@ seed() {
 "$command" play "$out/../s" -o "$out/../r" > /dev/null
 "$command" build "$out/../s" -o "$out/../h" > /dev/null
 head -c 6000 "$examples/difference.capture.txt" | seed 0 capture
-printf 'capture fill=5 whole=1\nstate mode=2\nquadword 3 1 2 3 4\ninstruction 5 6\nentry 0 PRIM 1\nstart channel=1\nrun\nend\n' | seed 0 capture-lines
+printf 'capture fill=5 whole=1\nstate mode=2\nquadword 3 1 2 3 4\ninstruction 5 6\nentry 0 path=2 PRIM 1\nstart channel=1\nrun\nend\n' | seed 0 capture-lines
 seed 0 capture-vif0 < "$examples/vif0.capture.txt"
+seed 0 capture-paths < "$examples/paths.capture.txt"
+printf 'capture log-entries=7 log-rest=2\nentry 0 path=3 PRIM 1\nentry 1 MSCNT 0\nstart\nrun\nend\n' | seed 0 capture-log
 printf 'capture vif0.data-words=8 vif0.code-bytes=16 fill=5\nstate channel=0 vif0.waiting=MPG vif0.due=2 vif0.count=1\nstart\nrun\nend\n' | seed 0 case-vif0
 "$command" dump "$out/../r" | seed 1 result
-printf 'result parts=data+log answer=0\nentry 0 MSCAL 5\nquadword 9 -1 0x7 3 4\n' | seed 1 parts
+printf 'result parts=data+log answer=0 log-numbers=64\nentry 0 MSCAL 5\nquadword 9 -1 0x7 3 4\n' | seed 1 parts
 printf 'result parts=log+data0+code0\nvif0.quadword 255 1 2 3 4\nvif0.instruction 511 5\n' | seed 1 parts-vif0
 seed 2 sheet < "$examples/all-kinds.sheet.txt"
 "$command" dump chain "$out/../h" | seed 3 chain

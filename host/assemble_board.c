@@ -6,8 +6,9 @@
 #include <string.h>
 
 #include "assemble.h"
+#include "kinds.h"
 #include "numbers.h"
-#include "shapes.h"
+#include "words.h"
 
 struct board_text new_board_text(struct counts count)
 {
@@ -70,16 +71,43 @@ static int instruction_line(const struct text *text, const struct line *line, st
     return status;
 }
 
+static const char path_field[] = "path=";
+
+/* Whether the line of an entry has its path, which stands before the register. */
+static bool has_path(const struct line *line)
+{
+    return line->count > 2 && strncmp(line->item[2], path_field, strlen(path_field)) == 0;
+}
+
+/* The path of an entry. Without one, as in text from before, it is a program start's; a write's is not guessed. */
+static int path_item(const struct text *text, const struct line *line, uint64_t log_register, uint64_t *path)
+{
+    char *const *item = line->item;
+    *path = 0;
+    if (has_path(line) && !read_number(item[2] + strlen(path_field), path))
+        return complain_at(text, line->number, "'%s': a path is 2 or 3 for a write of the GIF, 0 for a program start; give a number of 64 bits", item[2]);
+    if (has_path(line) || is_program_start(log_register))
+        return STATUS_DONE;
+    return complain_at(text, line->number,
+                       "entry %s has no path: write 'entry %s path=2 %s %s', or path=3 where path 3 wrote it; "
+                       "only MSCAL, MSCALF and MSCNT go without, with path 0",
+                       item[1], item[1], item[2], item[3]);
+}
+
 static int entry_line(const struct text *text, const struct line *line, struct board_text *memory, enum part part)
 {
-    size_t place;
-    int status = expect_items(text, line, 3, "its number, a register and a value");
+    size_t place, at = has_path(line) ? 3 : 2;
+    int status = expect_items(text, line, at + 1, "its number, path=P, a register and a value");
     if (status == STATUS_DONE)
         status = place_item(text, line, memory, part, &place);
+    if (status != STATUS_DONE)
+        return status;
+    uint64_t *entry = board_entry(&memory->board, place);
+    status = register_item(text, line, at, &entry[TEJBORUN_ENTRY_REGISTER]);
     if (status == STATUS_DONE)
-        status = register_item(text, line, 2, &board_entry(&memory->board, place)[TEJBORUN_ENTRY_REGISTER]);
+        status = number_item(text, line, at + 1, 64, &entry[TEJBORUN_ENTRY_VALUE]);
     if (status == STATUS_DONE)
-        status = number_item(text, line, 3, 64, &board_entry(&memory->board, place)[TEJBORUN_ENTRY_VALUE]);
+        status = path_item(text, line, entry[TEJBORUN_ENTRY_REGISTER], &entry[TEJBORUN_ENTRY_PATH]);
     return status;
 }
 
@@ -103,6 +131,32 @@ int board_line(const struct text *text, const struct line *line, struct board_te
         if (strcmp(lines[i].name, line->item[0]) == 0)
             return lines[i].read(text, line, memory, lines[i].part);
     *is_one = false;
+    return STATUS_DONE;
+}
+
+/* The whole entries of a log and the numbers beyond them, by the words of today or of before. */
+static struct log_text today(const struct log_text *log, bool before)
+{
+    if (!before)
+        return *log;
+    return (struct log_text){.entries = log->numbers / EARLIER_ENTRY_NUMBERS, .rest = log->numbers % EARLIER_ENTRY_NUMBERS};
+}
+
+int read_log_length(const struct text *text, const struct line *line, const struct shape *shape, const struct given *given, const struct log_text *log,
+                    size_t most, uint32_t *numbers)
+{
+    bool before = is_given(shape, given, "log-numbers");
+    const struct log_text length = today(log, before);
+    uint64_t count = (uint64_t)length.entries * TEJBORUN_ENTRY_NUMBERS + length.rest;
+    if (before && (is_given(shape, given, "log-entries") || is_given(shape, given, "log-rest")))
+        return complain_at(text, line->number, "'log-numbers' is of text from before, %d an entry: leave it out, the log's length is given already",
+                           EARLIER_ENTRY_NUMBERS);
+    if (length.rest >= TEJBORUN_ENTRY_NUMBERS)
+        return complain_at(text, line->number, "log-rest=%" PRIu32 ": the numbers beyond whole entries are less than an entry's %u", length.rest,
+                           TEJBORUN_ENTRY_NUMBERS);
+    if (count > most)
+        return complain_at(text, line->number, "%" PRIu32 " entries of the log are %" PRIu64 " numbers; the most is %zu", length.entries, count, most);
+    *numbers = (uint32_t)count;
     return STATUS_DONE;
 }
 

@@ -4,6 +4,7 @@
 
 #include "board.h"
 #include "fields.h"
+#include "shapes.h"
 #include "text.h"
 
 /* Which quadwords, instructions or entries were given. */
@@ -27,6 +28,10 @@ void free_board_text(struct board_text *memory);
 
 /* Reads a line state or one of these; says whether it is one. A status. */
 int board_line(const struct text *text, const struct line *line, struct board_text *memory, bool *is_one);
+
+/* The numbers of the log, of which there are at most so many, by the fields of a head that were given. A status. */
+int read_log_length(const struct text *text, const struct line *line, const struct shape *shape, const struct given *given, const struct log_text *log,
+                    size_t most, uint32_t *numbers);
 
 /* After the last line: the entries used are those given, without a gap, unless a state line says how many. A status. */
 int finish_board_text(const struct text *text, struct board_text *memory);

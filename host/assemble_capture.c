@@ -8,7 +8,6 @@
 #include "command.h"
 #include "numbers.h"
 #include "raw.h"
-#include "shapes.h"
 
 /* What the lines have given so far. */
 struct parts {
@@ -24,7 +23,12 @@ static int head_line(const struct text *text, const struct line *line, struct pa
     if (parts->has_head)
         return complain_at(text, line->number, "'capture' is given twice");
     parts->has_head = true;
-    return read_fields(text, line, &capture_heads[1], (uint32_t *)&parts->head, &parts->head_given);
+    struct capture_text head = {parts->head, log_text_of(parts->head.length[PART_LOG])};
+    int status = read_fields(text, line, &capture_heads[1], (uint32_t *)&head, &parts->head_given);
+    if (status == STATUS_DONE)
+        status = read_log_length(text, line, &capture_heads[1], &parts->head_given, &head.log, most_counts().of[PART_LOG], &head.head.length[PART_LOG]);
+    parts->head = head.head;
+    return status;
 }
 
 /* A call: a start without a channel is on channel 1, a run without an allowance has no limit. */

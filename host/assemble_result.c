@@ -5,7 +5,6 @@
 
 #include "assemble.h"
 #include "assemble_board.h"
-#include "shapes.h"
 
 /* What the lines have given so far. */
 struct parts {
@@ -20,9 +19,15 @@ static int head_line(const struct text *text, const struct line *line, struct pa
     if (parts->has_head)
         return complain_at(text, line->number, "'result' is given twice");
     parts->has_head = true;
-    int status = read_fields(text, line, &result_heads[1], (uint32_t *)&parts->head, &parts->head_given);
+    struct result_text head = {parts->head, log_text_of(parts->head.log_numbers)};
+    int status = read_fields(text, line, &result_heads[1], (uint32_t *)&head, &parts->head_given);
+    if (status == STATUS_DONE)
+        status = read_log_length(text, line, &result_heads[1], &parts->head_given, &head.log, TEJBORUN_LOG_NUMBERS, &head.head.log_numbers);
+    parts->head = head.head;
     if (status != STATUS_DONE)
         return status;
+    if (parts->head.log_numbers % TEJBORUN_ENTRY_NUMBERS != 0)
+        return complain_at(text, line->number, "log-numbers=%" PRIu32 ": a result keeps a log of whole entries", head.log.numbers);
     if (!is_given(&result_heads[1], &parts->head_given, "parts"))
         parts->head.parts = PARTS_ALL;
     else if (parts->head.parts == 0 || parts->head.parts > PARTS_ALL)
@@ -45,8 +50,7 @@ static int result_line(const struct text *text, const struct line *line, struct 
             return complain_at(text, line->number, "'%s': the result has %s alone", line->item[0], parts_words(parts->head.parts));
     size_t entries = parts->memory.units[PART_LOG].end;
     if (status == STATUS_DONE && TEJBORUN_ENTRY_NUMBERS * entries > parts->head.log_numbers)
-        return complain_at(text, line->number, "entry %zu: the log has %" PRIu32 " numbers, %u for each", entries - 1, parts->head.log_numbers,
-                           TEJBORUN_ENTRY_NUMBERS);
+        return complain_at(text, line->number, "entry %zu: the log has %" PRIu32 " entries", entries - 1, log_text_of(parts->head.log_numbers).entries);
     return status;
 }
 

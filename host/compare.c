@@ -22,6 +22,15 @@ void verdict_words(const struct rack *rack, const struct compared *compared, cha
         snprintf(words, VERDICT_TEXT, "%s%s in %s", text, comparison->verdict == VERDICT_DIFFERENT ? "; compared" : "", parts_words(comparison->parts));
 }
 
+void path_alone_words(const struct found *found, char words[PATHS_TEXT])
+{
+    words[0] = 0;
+    if (found->path_alone > 0 && found->path_alone == found->count)
+        snprintf(words, PATHS_TEXT, " (in the path alone)");
+    else if (found->path_alone > 0)
+        snprintf(words, PATHS_TEXT, " (%" PRIu64 " in the path alone)", found->path_alone);
+}
+
 void result_words(const struct result *result, char words[RESULT_TEXT])
 {
     char packets[PACKETS_TEXT] = "";

@@ -35,6 +35,10 @@ void compare_rack(const struct words_given *given, show_compared *show, struct r
 enum { VERDICT_TEXT = 256 };
 void verdict_words(const struct rack *rack, const struct compared *compared, char words[VERDICT_TEXT]);
 
+/* How many of the units that differ do so in the path alone, in words: " (2 in the path alone)"; nothing where none does. */
+enum { PATHS_TEXT = 48 };
+void path_alone_words(const struct found *found, char words[PATHS_TEXT]);
+
 /* A result's answer and steps in words, and the packets where it has some: a sheet's meaning and a board's own dumps have none, since nothing was run. */
 enum { RESULT_TEXT = 256 };
 void result_words(const struct result *result, char words[RESULT_TEXT]);

@@ -22,7 +22,8 @@ static void print_entry(const struct board *board, enum part part, size_t number
 {
     (void)part;
     const uint64_t *entry = board_entry(board, number);
-    printf("{\"register\": %" PRIu64 ", \"value\": \"0x%016" PRIX64 "\"}", entry[TEJBORUN_ENTRY_REGISTER], entry[TEJBORUN_ENTRY_VALUE]);
+    printf("{\"path\": %" PRIu64 ", \"register\": %" PRIu64 ", \"value\": \"0x%016" PRIX64 "\"}", entry[TEJBORUN_ENTRY_PATH],
+           entry[TEJBORUN_ENTRY_REGISTER], entry[TEJBORUN_ENTRY_VALUE]);
 }
 
 static void print_unit(const struct board *board, enum part part, size_t number)
@@ -35,7 +36,10 @@ static void print_unit(const struct board *board, enum part part, size_t number)
 
 static void print_difference(const struct board *a, const struct board *b, enum part part, size_t number)
 {
-    printf("{\"number\": %zu, \"result\": ", number);
+    printf("{\"number\": %zu, ", number);
+    if (part == PART_LOG)
+        printf("\"path_alone\": %s, ", is_path_alone(a, b, number) ? "true" : "false");
+    printf("\"result\": ");
     print_unit(a, part, number);
     printf(", \"board\": ");
     print_unit(b, part, number);
@@ -63,7 +67,8 @@ static int print_part(const struct rack *rack, const struct compared *compared, 
     const struct found *found = &compared->comparison.found[part];
     printf(",\n      \"%s\": {\"compared\": %" PRIu64 ", \"different\": %" PRIu64 ", ", part_shapes[part].name, found->compared, found->count);
     if (part == PART_LOG)
-        printf("\"result_entries\": %" PRIu64 ", \"board_entries\": %" PRIu64 ", ", board_used(&rack->result->board), board_used(&compared->board->board));
+        printf("\"path_alone\": %" PRIu64 ", \"result_entries\": %" PRIu64 ", \"board_entries\": %" PRIu64 ", ", found->path_alone,
+               board_used(&rack->result->board), board_used(&compared->board->board));
     printf("\"differences\": [");
     int status = print_differences(rack, compared, part);
     printf("]}");

@@ -1,11 +1,22 @@
 /* A rack of boards beside a result: the result's run, a row a board, and a summary. */
 #include <inttypes.h>
 #include <stdio.h>
+#include <string.h>
 
 #include "compare.h"
 #include "words.h"
 
 enum { VERDICT = 12, FIRST = 20 }; /* characters of a column */
+
+/* The paths of an entry that differs in them alone: ": path 3, not 2". */
+static void add_paths(const struct rack *rack, const struct compared *compared, uint64_t number, char *words, size_t room)
+{
+    const struct board *result = &rack->result->board, *board = &compared->board->board;
+    size_t length = strlen(words);
+    if (is_path_alone(result, board, number))
+        snprintf(words + length, room - length, ": path %" PRIu64 ", not %" PRIu64, board_entry(board, number)[TEJBORUN_ENTRY_PATH],
+                 board_entry(result, number)[TEJBORUN_ENTRY_PATH]);
+}
 
 /* The first difference in words: the lowest unit of the first part that differs, else the logs' lengths. */
 static void first_difference(const struct rack *rack, const struct compared *compared, char *words, size_t room)
@@ -16,6 +27,8 @@ static void first_difference(const struct rack *rack, const struct compared *com
         const struct part_shape *shape = &part_shapes[part_order[i]];
         if (found->count > 0) {
             snprintf(words, room, "%s%s %" PRIu64, shape->whose, shape->one, found->first);
+            if (part_order[i] == PART_LOG)
+                add_paths(rack, compared, found->first, words, room);
             return;
         }
     }
@@ -29,10 +42,12 @@ static void print_counts(const struct comparison *comparison)
     const char *between = "";
     for (size_t i = 0; i < PARTS; i++) {
         const struct part_shape *shape = &part_shapes[part_order[i]];
-        uint64_t count = comparison->found[part_order[i]].count;
-        if (count == 0)
+        const struct found *found = &comparison->found[part_order[i]];
+        char paths[PATHS_TEXT];
+        if (found->count == 0)
             continue;
-        printf("%s%" PRIu64 " %s%s", between, count, shape->whose, plural(count, shape->one, shape->many));
+        path_alone_words(found, paths);
+        printf("%s%" PRIu64 " %s%s%s", between, found->count, shape->whose, plural(found->count, shape->one, shape->many), paths);
         between = ", ";
     }
     if (comparison->parts != PARTS_ALL)

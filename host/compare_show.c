@@ -84,13 +84,14 @@ static void print_entry(const struct pair *pair, size_t which, size_t number)
     const char *name = register_name(log_register);
     printf("    ");
     print_name(pair->name[which], name_width(pair));
-    printf("  register 0x%02" PRIX64 " %s, value 0x%016" PRIX64 " (%" PRIu64 ")\n", log_register, name != NULL ? name : "(no name)", value, value);
+    printf("  path %" PRIu64 ", register 0x%02" PRIX64 " %s, value 0x%016" PRIX64 " (%" PRIu64 ")\n", entry[TEJBORUN_ENTRY_PATH], log_register,
+           name != NULL ? name : "(no name)", value, value);
 }
 
 static void show_entry(const struct pair *pair, enum part part, size_t number)
 {
     (void)part;
-    printf("  log entry %zu\n", number);
+    printf("  log entry %zu%s\n", number, is_path_alone(pair->board[0], pair->board[1], number) ? ", in the path alone" : "");
     print_entry(pair, 0, number);
     print_entry(pair, 1, number);
 }
@@ -118,12 +119,14 @@ static int show_all(const struct pair *pair, enum part part, const struct found 
 static int show_part(const struct pair *pair, enum part part, const struct found *found, bool all)
 {
     const struct part_shape *shape = &part_shapes[part];
+    char paths[PATHS_TEXT];
     if (found->count == 0) {
         printf("%s: the same, %" PRIu64 " %s compared\n", shape->words, found->compared, plural(found->compared, shape->one, shape->many));
         return STATUS_DONE;
     }
-    printf("%s: %" PRIu64 " %s %s, the first is %" PRIu64 "\n", shape->words, found->count, plural(found->count, shape->one, shape->many),
-           plural(found->count, "differs", "differ"), found->first);
+    path_alone_words(found, paths);
+    printf("%s: %" PRIu64 " %s %s%s, the first is %" PRIu64 "\n", shape->words, found->count, plural(found->count, shape->one, shape->many),
+           plural(found->count, "differs", "differ"), paths, found->first);
     if (all)
         return show_all(pair, part, found);
     show_unit(pair, part, found->first);

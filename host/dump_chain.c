@@ -61,7 +61,8 @@ static void print_capture(const struct capture *capture)
 {
     uint8_t *roles = allocate(capture->head.given, 1);
     follow_calls(capture, roles);
-    print_block(stdout, shape_of(capture_heads, capture->head.mark), (const uint32_t *)&capture->head);
+    const struct capture_text head = {capture->head, log_text_of(capture->head.length[PART_LOG])};
+    print_block(stdout, shape_of(capture_heads, capture->head.mark), (const uint32_t *)&head);
     putchar('\n');
     print_state(&capture->board.state);
     print_first(capture);

@@ -10,7 +10,8 @@
 
 static void print_head(const struct result *result)
 {
-    const struct result_head head = result_head_of(result);
+    struct result_text head = {.head = result_head_of(result)};
+    head.log = log_text_of(head.head.log_numbers);
     print_block(stdout, &result_heads[result->parts != PARTS_ALL], (const uint32_t *)&head);
     printf("  # %s\n", tejborun_message(result->answer));
 }
@@ -40,7 +41,7 @@ static void print_entry(const struct board *board, enum part part, size_t number
 {
     (void)part;
     const uint64_t *entry = board_entry(board, number);
-    printf("entry %zu ", number);
+    printf("entry %zu path=%" PRIu64 " ", number, entry[TEJBORUN_ENTRY_PATH]);
     print_register(entry[TEJBORUN_ENTRY_REGISTER]);
     printf(" 0x%016" PRIX64 "\n", entry[TEJBORUN_ENTRY_VALUE]);
 }

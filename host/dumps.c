@@ -1,4 +1,5 @@
 /* The commands import and export: a board's own dumps, and back. */
+#include <inttypes.h>
 #include <stdlib.h>
 #include <string.h>
 
@@ -8,6 +9,7 @@
 #include "files.h"
 #include "kinds.h"
 #include "raw.h"
+#include "words.h"
 
 /* Reads the dumps that are given into a result that has these parts alone. */
 static int read_dumps(const struct words_given *given, struct result *result)
@@ -27,6 +29,15 @@ static int read_dumps(const struct words_given *given, struct result *result)
     return status;
 }
 
+/* Says which parts were imported, and how the log was read. */
+static void print_import(const char *name, const struct result *result)
+{
+    uint64_t used = board_used(&result->board);
+    say("%s: %s\n", name, parts_words(result->parts));
+    if ((result->parts & PART_BIT(PART_LOG)) != 0)
+        say("  log: %" PRIu64 " %s of %u numbers: path, register and value\n", used, plural(used, "entry", "entries"), TEJBORUN_ENTRY_NUMBERS);
+}
+
 int command_import(const struct words_given *given)
 {
     struct result result = {.board = new_board(usual_counts(TEJBORUN_LOG_NUMBERS))};
@@ -39,7 +50,7 @@ int command_import(const struct words_given *given)
     if (status == STATUS_DONE)
         status = write_result(given->option[OPTION_OUTPUT], &result);
     if (status == STATUS_DONE)
-        say("%s: %s\n", given->option[OPTION_OUTPUT], parts_words(result.parts));
+        print_import(given->option[OPTION_OUTPUT], &result);
     free_board(&result.board);
     return status;
 }

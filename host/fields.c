@@ -69,7 +69,8 @@ void list_fields(const struct shape *shape, char text[NAMES_TEXT])
 {
     text[0] = 0;
     for (size_t i = 0; i < shape->fields; i++)
-        add_name(text, shape->field[i].name);
+        if ((shape->field[i].flags & FIELD_BEFORE) == 0)
+            add_name(text, shape->field[i].name);
 }
 
 void list_names(const struct names *names, char text[NAMES_TEXT])

@@ -11,8 +11,9 @@
 #include "state_shape.h"
 #include "text.h"
 
-enum { FIELD_SHOWN = 1, FIELD_HEX = 2, FIELD_LINE = 4 }; /* shown where it is 0; in hexadecimal; the first of a new line */
-enum { MOST_FIELDS = TEJBORUN_BLOCK_WORDS };             /* a state block has the most, at least a word each */
+/* Shown where it is 0; in hexadecimal; the first of a new line; of text from before alone, and not listed. */
+enum { FIELD_SHOWN = 1, FIELD_HEX = 2, FIELD_LINE = 4, FIELD_BEFORE = 8 };
+enum { MOST_FIELDS = TEJBORUN_BLOCK_WORDS }; /* a state block has the most, at least a word each */
 
 struct names {
     size_t count;

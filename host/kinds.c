@@ -34,14 +34,21 @@ static int complain_before_packets(const char *name, const char *kind)
     return complain(name, "a %s from before packets were counted: it has no number of packets closed; " WHAT_TO_DO, kind);
 }
 
+static int complain_before_paths(const char *name, const char *kind)
+{
+    return complain(name, "a %s from before log entries had a path: they have %d numbers, here they have %u; " WHAT_TO_DO ", with a path for each write of "
+                    "the GIF", kind, EARLIER_ENTRY_NUMBERS, TEJBORUN_ENTRY_NUMBERS);
+}
+
 /* The marks of earlier layouts, and what is said of such a file. */
 static const struct earlier {
     char mark[5];
     const char *kind;
     int (*complain)(const char *name, const char *kind);
 } earlier[] = {
-    {"TCAP", "capture", complain_before_vif0}, {"TCA2", "capture", complain_before_vif0},   {"TRES", "result", complain_before_vif0},
-    {"TRE2", "result", complain_before_vif0},  {"TRE3", "result", complain_before_packets},
+    {"TCAP", "capture", complain_before_vif0},  {"TCA2", "capture", complain_before_vif0},   {"TRES", "result", complain_before_vif0},
+    {"TRE2", "result", complain_before_vif0},   {"TRE3", "result", complain_before_packets}, {"TCA3", "capture", complain_before_paths},
+    {"TCP2", "capture", complain_before_paths}, {"TRE4", "result", complain_before_paths},
 };
 
 /* The earlier layout of a file; null where it has none. */

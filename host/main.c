@@ -46,8 +46,10 @@ static const struct command commands[] = {
      "  --unfinished  compares also where RESULT is of a run that did not end with done (0)\n"
      "  --quiet       prints no verdict: the exit status has it\n"
      "  --json        prints JSON\n"
-     "A verdict over some parts names them; equal alone is said of whole results. Answer, step count and packets closed are\n"
-     "shown and not compared; a sheet's meaning and a board's own dumps have no packets. Registers are neither.\n"},
+     "A verdict over some parts names them; equal alone is said of whole results. A log entry is its path (2 or 3 for a write\n"
+     "of the GIF, 0 for a program start), register and value; where entries differ in the path alone, that is said. Answer,\n"
+     "step count and packets closed are shown and not compared; a sheet's meaning and a board's own dumps have no packets.\n"
+     "Registers are neither.\n"},
     {"report", 2, SIZE_MAX, 0, TAKES(OPTION_OUTPUT) | TAKES(OPTION_FROM) | TAKES(OPTION_ONLY) | TAKES(OPTION_UNFINISHED), true, command_report,
      "report RESULT BOARD.. -o PAGE [--from RESULT] [--only PARTS] [--unfinished]",
      "Writes the comparison of boards with a result as one HTML page, to be looked at, printed on A4 and kept: verdicts, files with\n"
@@ -59,11 +61,12 @@ static const struct command commands[] = {
     {"import", 0, 0, 0, TAKES(OPTION_OUTPUT) | PART_FILES, true, command_import,
      "import -o RESULT [--data FILE] [--code FILE] [--data0 FILE] [--code0 FILE] [--log FILE]",
      "Makes a result of a board's own dumps, any of the five: the bytes of VIF1's data and code memory (16,384 each), of VIF0's\n"
-     "(--data0, --code0; 4,096 each) and of the log, little-endian. The result says which parts it has; its answer, steps and\n"
-     "packets closed are 0.\n"},
+     "(--data0, --code0; 4,096 each) and of the log, whole entries of 24: path, register and value, 64 bits each. All are\n"
+     "little-endian. The result says which parts it has; its answer, steps and packets closed are 0.\n"},
     {"export", 1, 1, 0, TAKES(OPTION_MAIN) | PART_FILES, false, command_export,
      "export FILE [--main FILE] [--data FILE] [--code FILE] [--data0 FILE] [--code0 FILE] [--log FILE]",
-     "Writes the memories and the log of a result as such dumps; of a capture those that it begins with, and its main memory.\n"},
+     "Writes the memories and the log of a result as such dumps, of the log the entries used; of a capture those that it begins\n"
+     "with, and its main memory.\n"},
     {"dump", 1, 2, 2, 0, false, command_dump, "dump [KIND] FILE",
      "Prints a file as text (docs/TEXT.md). KIND is sheet, chain, state, capture or result; it may be left out where the file\n"
      "begins with a mark (sheet, capture, result).\n"},

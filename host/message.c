@@ -5,7 +5,7 @@
 _Static_assert(TEJBORUN_MAIN_BYTES == 1048576, "the words of TEJBORUN_BAD_MAIN");
 _Static_assert(TEJBORUN_VIF1_DATA_WORDS == 4096 && TEJBORUN_VIF0_DATA_WORDS == 1024, "the words of TEJBORUN_BAD_DATA");
 _Static_assert(TEJBORUN_VIF1_CODE_BYTES == 16384 && TEJBORUN_VIF0_CODE_BYTES == 4096, "the words of TEJBORUN_BAD_CODE");
-_Static_assert(TEJBORUN_LOG_NUMBERS == 131072, "the words of TEJBORUN_BAD_LOG");
+_Static_assert(TEJBORUN_ENTRY_NUMBERS == 3 && TEJBORUN_LOG_NUMBERS == 196608, "the words of TEJBORUN_BAD_LOG");
 _Static_assert(TEJBORUN_SHEET_BYTES == 131072, "the words of TEJBORUN_LONG_SHEET");
 _Static_assert(TEJBORUN_BLOCK_WORDS == 95, "the words of TEJBORUN_SHORT");
 
@@ -14,7 +14,7 @@ static const char *const messages[] = {
     [TEJBORUN_BAD_MAIN] = "main memory has length 0, no multiple of 16 or more than 1,048,576 bytes",
     [TEJBORUN_BAD_DATA] = "data memory is not 4,096 words, of VIF0 (channel 0) not 1,024",
     [TEJBORUN_BAD_CODE] = "code memory is not 16,384 bytes, of VIF0 (channel 0) not 4,096",
-    [TEJBORUN_BAD_LOG] = "the log's length is no whole entries, above 131,072 numbers or below the entries used",
+    [TEJBORUN_BAD_LOG] = "the log's length is no multiple of 3, above 196,608 numbers or below three times the entries used",
     [TEJBORUN_BAD_VALUE] = "a state or start value is outside the range of its field",
     [TEJBORUN_BAD_TADR] = "TADR lies outside main memory",
     [TEJBORUN_BAD_ADDR] = "ADDR of the tag is no multiple of 16",

@@ -105,7 +105,8 @@ static void print_summary_row(FILE *rows, const struct rack *rack, const struct 
 static void print_entry(FILE *page, const uint64_t *entry)
 {
     const char *name = register_name(entry[TEJBORUN_ENTRY_REGISTER]);
-    fprintf(page, "0x%02" PRIX64 " %s 0x%016" PRIX64, entry[TEJBORUN_ENTRY_REGISTER], name != NULL ? name : "(no name)", entry[TEJBORUN_ENTRY_VALUE]);
+    fprintf(page, "path %" PRIu64 ", 0x%02" PRIX64 " %s 0x%016" PRIX64, entry[TEJBORUN_ENTRY_PATH], entry[TEJBORUN_ENTRY_REGISTER],
+            name != NULL ? name : "(no name)", entry[TEJBORUN_ENTRY_VALUE]);
 }
 
 static void print_unit(FILE *page, const struct board *board, enum part part, size_t number)
@@ -123,18 +124,32 @@ static void print_unit(FILE *page, const struct board *board, enum part part, si
 static void print_difference(FILE *page, const struct rack *rack, const struct compared *compared, enum part part)
 {
     const struct found *found = &compared->comparison.found[part];
+    const struct board *result = &rack->result->board, *board = &compared->board->board;
     fprintf(page, "<tr><th>");
     print_escaped(page, part_shapes[part].words);
     fprintf(page, "</th><td class=\"number\">%" PRIu64 "</td><td class=\"number\">%" PRIu64 "</td>", found->compared, found->count);
     if (found->count > 0) {
-        fprintf(page, "<td class=\"number\">%s %" PRIu64 "</td><td class=\"hex\">", part_shapes[part].one, found->first);
-        print_unit(page, &rack->result->board, part, found->first);
+        bool path_alone = part == PART_LOG && is_path_alone(result, board, found->first);
+        fprintf(page, "<td class=\"number\">%s %" PRIu64 "%s</td><td class=\"hex\">", part_shapes[part].one, found->first,
+                path_alone ? "<br/>in the path alone" : "");
+        print_unit(page, result, part, found->first);
         fprintf(page, "</td><td class=\"hex\">");
-        print_unit(page, &compared->board->board, part, found->first);
+        print_unit(page, board, part, found->first);
     } else {
         fprintf(page, "<td></td><td></td><td>");
     }
     fprintf(page, "</td></tr>\n");
+}
+
+/* How many entries each log has, and how many of those that differ do so in the path alone. */
+static void print_entries(FILE *page, const struct rack *rack, const struct compared *compared)
+{
+    const struct found *found = &compared->comparison.found[PART_LOG];
+    fprintf(page, "<p>Log entries: the result has <span class=\"number\">%" PRIu64 "</span>, ", board_used(&rack->result->board));
+    fprintf(page, "the board <span class=\"number\">%" PRIu64 "</span>.", board_used(&compared->board->board));
+    if (found->path_alone > 0)
+        fprintf(page, " Different in the path alone: <span class=\"number\">%" PRIu64 "</span>.", found->path_alone);
+    fprintf(page, "</p>\n");
 }
 
 static void print_differences(FILE *page, const struct rack *rack, const struct compared *compared)
@@ -144,10 +159,8 @@ static void print_differences(FILE *page, const struct rack *rack, const struct 
         if (has_part(&compared->comparison, part_order[i]))
             print_difference(page, rack, compared, part_order[i]);
     fprintf(page, "</table>\n");
-    if (!has_part(&compared->comparison, PART_LOG))
-        return;
-    fprintf(page, "<p>Log entries: the result has <span class=\"number\">%" PRIu64 "</span>, ", board_used(&rack->result->board));
-    fprintf(page, "the board <span class=\"number\">%" PRIu64 "</span>.</p>\n", board_used(&compared->board->board));
+    if (has_part(&compared->comparison, PART_LOG))
+        print_entries(page, rack, compared);
 }
 
 /* The map of a memory; of data memory that differs also the plot. */

@@ -1,9 +1,6 @@
 /* DMA tags, VIF codes, GIF tags, calls and records by their fields. */
 #include "shapes.h"
 
-#include "board.h"
-#include "capture.h"
-
 #define LIST(fields) sizeof(fields) / sizeof((fields)[0]), fields
 #define END {NULL, 0, 0, 0, 0, NULL}
 
@@ -137,33 +134,36 @@ const struct shape calls[] = {
     END,
 };
 
-#define CAPTURE(name, member, flags) MEMBER(struct capture_head, name, member, flags, NULL)
+#define CAPTURE(name, member, flags) MEMBER(struct capture_text, name, member, flags, NULL)
 
 /* The lengths of what follows are counted. */
 #define CAPTURE_FIELDS                                                                                                                            \
-    CAPTURE("main-bytes", main_bytes, FIELD_SHOWN), CAPTURE("data-words", length[PART_DATA], FIELD_SHOWN),                                        \
-        CAPTURE("code-bytes", length[PART_CODE], FIELD_SHOWN), CAPTURE("vif0.data-words", length[PART_DATA0], FIELD_SHOWN),                       \
-        CAPTURE("vif0.code-bytes", length[PART_CODE0], FIELD_SHOWN), CAPTURE("log-numbers", length[PART_LOG], FIELD_SHOWN)
+    CAPTURE("main-bytes", head.main_bytes, FIELD_SHOWN), CAPTURE("data-words", head.length[PART_DATA], FIELD_SHOWN),                              \
+        CAPTURE("code-bytes", head.length[PART_CODE], FIELD_SHOWN), CAPTURE("vif0.data-words", head.length[PART_DATA0], FIELD_SHOWN),             \
+        CAPTURE("vif0.code-bytes", head.length[PART_CODE0], FIELD_SHOWN), CAPTURE("log-entries", log.entries, FIELD_SHOWN),                       \
+        CAPTURE("log-rest", log.rest, 0), CAPTURE("log-numbers", log.numbers, FIELD_BEFORE)
 
 static const struct field capture_head[] = {CAPTURE_FIELDS};
 static const struct field test_case_head[] = {
     CAPTURE_FIELDS,
-    CAPTURE("fill", fill, FIELD_SHOWN | FIELD_HEX),
-    CAPTURE("whole", whole, FIELD_SHOWN),
+    CAPTURE("fill", head.fill, FIELD_SHOWN | FIELD_HEX),
+    CAPTURE("whole", head.whole, FIELD_SHOWN),
 };
 
-enum { CAPTURE_WORDS = TEJBORUN_WORDS_OF(struct capture_head) };
+enum { CAPTURE_WORDS = TEJBORUN_WORDS_OF(struct capture_text) };
 
 const struct shape capture_heads[] = {
-    {"capture", CAPTURE_WORDS, UINT32_MAX, UINT32_C(0x33414354), LIST(capture_head)},
-    {"capture", CAPTURE_WORDS, UINT32_MAX, UINT32_C(0x32504354), LIST(test_case_head)},
+    {"capture", CAPTURE_WORDS, UINT32_MAX, UINT32_C(0x34414354), LIST(capture_head)},
+    {"capture", CAPTURE_WORDS, UINT32_MAX, UINT32_C(0x33504354), LIST(test_case_head)},
     END,
 };
 
-#define RESULT(name, member) MEMBER(struct result_head, name, member, FIELD_SHOWN, NULL)
+#define RESULT(name, member, flags) MEMBER(struct result_text, name, member, flags, NULL)
 
 /* The state block has lines of its own. */
-#define RESULT_FIELDS RESULT("answer", answer), RESULT("steps", steps), RESULT("packets", packets), RESULT("log-numbers", log_numbers)
+#define RESULT_FIELDS                                                                                                                             \
+    RESULT("answer", head.answer, FIELD_SHOWN), RESULT("steps", head.steps, FIELD_SHOWN), RESULT("packets", head.packets, FIELD_SHOWN),           \
+        RESULT("log-entries", log.entries, FIELD_SHOWN), RESULT("log-numbers", log.numbers, FIELD_BEFORE)
 
 /* The sets of parts by their sums: those of VIF1's memories and the log, alone and with VIF0's. */
 #define WITHOUT_VIF0(more) "data" more, "code" more, "data+code" more, "log" more, "data+log" more, "code+log" more, "data+code+log" more
@@ -173,11 +173,18 @@ static const char *const parts_texts[PARTS_ALL + 1] = {
 static const struct names parts = {PARTS_ALL + 1, parts_texts};
 
 static const struct field result_head[] = {RESULT_FIELDS};
-static const struct field partial_result_head[] = {RESULT_FIELDS, MEMBER(struct result_head, "parts", parts, FIELD_SHOWN, &parts)};
+static const struct field partial_result_head[] = {RESULT_FIELDS, MEMBER(struct result_text, "parts", head.parts, FIELD_SHOWN, &parts)};
 
-#define RESULT_MARK UINT32_C(0x34455254)
+#define RESULT_MARK UINT32_C(0x35455254)
+enum { RESULT_WORDS = TEJBORUN_WORDS_OF(struct result_text) };
+
 const struct shape result_heads[] = {
-    {"result", RESULT_HEAD_WORDS, UINT32_MAX, RESULT_MARK, LIST(result_head)},
-    {"result", RESULT_HEAD_WORDS, UINT32_MAX, RESULT_MARK, LIST(partial_result_head)},
+    {"result", RESULT_WORDS, UINT32_MAX, RESULT_MARK, LIST(result_head)},
+    {"result", RESULT_WORDS, UINT32_MAX, RESULT_MARK, LIST(partial_result_head)},
     END,
 };
+
+struct log_text log_text_of(size_t numbers)
+{
+    return (struct log_text){.entries = (uint32_t)(numbers / TEJBORUN_ENTRY_NUMBERS), .rest = (uint32_t)(numbers % TEJBORUN_ENTRY_NUMBERS)};
+}

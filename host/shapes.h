@@ -2,6 +2,8 @@
 #ifndef SHAPES_H
 #define SHAPES_H
 
+#include "board.h"
+#include "capture.h"
 #include "fields.h"
 
 extern const struct shape dma_tags[];     /* by ID: every tag fits one */
@@ -12,6 +14,25 @@ extern const struct shape calls[];        /* a capture's */
 extern const struct shape capture_heads[]; /* of a capture, and of a test case */
 extern const struct shape result_heads[];  /* of a whole result, and of one that lacks parts; they have one mark */
 extern const struct shape state_blocks[];
+
+/* The length of a log in text: whole entries and the numbers beyond them; or, in text from before, the numbers, EARLIER_ENTRY_NUMBERS an entry. */
+struct log_text {
+    uint32_t entries, rest, numbers;
+};
+
+/* A log of so many numbers. */
+struct log_text log_text_of(size_t numbers);
+
+/* The heads of captures and results in text; the length of the log in it takes the place of the head's. */
+struct capture_text {
+    struct capture_head head;
+    struct log_text log;
+};
+
+struct result_text {
+    struct result_head head;
+    struct log_text log;
+};
 
 /* The names of formats by their numbers. */
 extern const struct names unpack_formats, gif_formats;

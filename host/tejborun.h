@@ -36,10 +36,11 @@ extern "C" {
 #define TEJBORUN_VIF0_DATA_WORDS (4u * TEJBORUN_VIF0_QUADWORDS)
 #define TEJBORUN_VIF0_CODE_BYTES (8u * TEJBORUN_VIF0_INSTRUCTIONS)
 
-/* An entry of the log by its numbers, and the longest log. */
-#define TEJBORUN_ENTRY_REGISTER 0u
-#define TEJBORUN_ENTRY_VALUE 1u
-#define TEJBORUN_ENTRY_NUMBERS 2u
+/* An entry of the log by its numbers, and the longest log. The path is 2 or 3 for a write of the GIF, 0 for a program start (registers 256 to 258). */
+#define TEJBORUN_ENTRY_PATH 0u
+#define TEJBORUN_ENTRY_REGISTER 1u
+#define TEJBORUN_ENTRY_VALUE 2u
+#define TEJBORUN_ENTRY_NUMBERS 3u
 #define TEJBORUN_LOG_ENTRIES 65536u
 #define TEJBORUN_LOG_NUMBERS (TEJBORUN_LOG_ENTRIES * TEJBORUN_ENTRY_NUMBERS)
 
@@ -55,7 +56,7 @@ enum tejborun_answer {
     TEJBORUN_BAD_MAIN = 1,  /* length of main memory: 0, no multiple of 16, or above TEJBORUN_MAIN_BYTES */
     TEJBORUN_BAD_DATA = 2,  /* length of data memory: not TEJBORUN_VIF1_DATA_WORDS, of VIF0 not TEJBORUN_VIF0_DATA_WORDS */
     TEJBORUN_BAD_CODE = 3,  /* length of code memory: not TEJBORUN_VIF1_CODE_BYTES, of VIF0 not TEJBORUN_VIF0_CODE_BYTES */
-    TEJBORUN_BAD_LOG = 4,   /* length of the log: no whole entries, above TEJBORUN_LOG_NUMBERS, or below the entries used */
+    TEJBORUN_BAD_LOG = 4,   /* length of the log: not a multiple of 3, above TEJBORUN_LOG_NUMBERS, or below three times the entries used */
     TEJBORUN_BAD_VALUE = 5, /* a state or start value outside the range of its field */
 
     /* tag step */
@@ -112,7 +113,8 @@ size_t tejborun_build(const uint8_t *sheet, size_t sheet_bytes, uint8_t *output,
 uint32_t tejborun_steps(const uint8_t *sheet, size_t sheet_bytes, uint64_t *result, size_t result_numbers);
 
 /* The plain meaning of a sheet: its records fed to VIF1's memories and to the log after its first `used` entries.
- * Answers 0, or 2, 3, 4 for the lengths, the sheet's refusal, or 31 where the log lacks room; a refusal changes no memory.
+ * Entries of GS records have path 2, those of starts path 0. Answers 0, or 2, 3, 4 for the lengths, the sheet's refusal, or 31 where the log lacks room; a
+ * refusal changes no memory.
  * result[0]: the entries used afterwards, as given where refused; result[1]: the offset of the refused record, 0 where there is none. */
 uint32_t tejborun_meaning(const uint8_t *sheet, size_t sheet_bytes, uint32_t *data, size_t data_words, uint8_t *code, size_t code_bytes, uint64_t *log,
                           size_t log_numbers, uint64_t used, uint64_t *result, size_t result_numbers);

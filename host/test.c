@@ -93,6 +93,10 @@ static uint64_t *entry(const struct lent *log, size_t number)
     return numbers(log) + TEJBORUN_ENTRY_NUMBERS * number;
 }
 
+/* An entry in the log's order. */
+_Static_assert(TEJBORUN_ENTRY_PATH == 0 && TEJBORUN_ENTRY_REGISTER == 1 && TEJBORUN_ENTRY_VALUE == 2 && TEJBORUN_ENTRY_NUMBERS == 3, "path, register, value");
+_Static_assert(TEJBORUN_LOG_ENTRIES == 65536 && TEJBORUN_LOG_NUMBERS == 196608, "the longest log");
+
 /* The word of a state block at which a member begins. */
 #define WORD(member) (offsetof(struct tejborun_state, member) / sizeof(uint32_t))
 
@@ -124,6 +128,20 @@ struct wrong {
 };
 
 #define LENGTH(name) offsetof(struct lengths, name)
+
+/* Lengths of a log of which two entries are used: no whole entries, whether odd or even, too many, and fewer than the entries used. */
+#define WRONG_LOG(numbers) {LENGTH(log), numbers, TEJBORUN_BAD_LOG}
+#define WRONG_LOGS                                                                                                                                     \
+    WRONG_LOG(ENTRIES *TEJBORUN_ENTRY_NUMBERS - 2), WRONG_LOG(ENTRIES *TEJBORUN_ENTRY_NUMBERS - 1), WRONG_LOG(ENTRIES *TEJBORUN_ENTRY_NUMBERS + 1),    \
+        WRONG_LOG(ENTRIES *TEJBORUN_ENTRY_NUMBERS + 2), WRONG_LOG(TEJBORUN_LOG_NUMBERS + 1), WRONG_LOG(TEJBORUN_LOG_NUMBERS + 2),                      \
+        WRONG_LOG(TEJBORUN_LOG_NUMBERS + TEJBORUN_ENTRY_NUMBERS), WRONG_LOG(2 * TEJBORUN_ENTRY_NUMBERS - 1), WRONG_LOG(1 * TEJBORUN_ENTRY_NUMBERS),   \
+        WRONG_LOG(0)
+
+/* Entries used that no log has; three times the first two, cut to 64 bits, are few. */
+static const uint64_t wrapping[] = {
+    UINT64_MAX / TEJBORUN_ENTRY_NUMBERS + 1, UINT64_C(0xAAAAAAAAAAAAAAAB), UINT64_C(1) << 63, UINT64_MAX - 1, UINT64_MAX,
+};
+enum { WRAPPING = sizeof wrapping / sizeof wrapping[0] };
 
 /* Lengths but for one; the good ones but for one. */
 static struct lengths but_for(struct lengths lengths, const struct wrong *wrong)
@@ -262,9 +280,9 @@ static bool holds_meaning(const struct bench *bench, size_t from)
 {
     static const uint8_t instruction[8] = {1, 2, 3, 4, 5, 6, 7, 8};
     static const uint64_t entries[][TEJBORUN_ENTRY_NUMBERS] = {
-        {[TEJBORUN_ENTRY_REGISTER] = 5, [TEJBORUN_ENTRY_VALUE] = UINT64_C(0x8000000000000009)},
-        {[TEJBORUN_ENTRY_REGISTER] = 255, [TEJBORUN_ENTRY_VALUE] = 1},
-        {[TEJBORUN_ENTRY_REGISTER] = 256, [TEJBORUN_ENTRY_VALUE] = 5},
+        {2, 5, UINT64_C(0x8000000000000009)},
+        {2, 255, 1},
+        {0, 256, 5},
     };
     const uint32_t *data = words(&bench->lent[DATA]), *last = data + 4 * LAST_QUADWORD;
     const uint8_t *code = bench->lent[CODE].at;
@@ -403,9 +421,7 @@ static void test_meaning(bool end)
         {LENGTH(code), TEJBORUN_VIF1_CODE_BYTES - 1, TEJBORUN_BAD_CODE},
         {LENGTH(code), TEJBORUN_VIF1_CODE_BYTES + 8, TEJBORUN_BAD_CODE},
         {LENGTH(code), 0, TEJBORUN_BAD_CODE},
-        {LENGTH(log), ENTRIES * TEJBORUN_ENTRY_NUMBERS - 1, TEJBORUN_BAD_LOG},
-        {LENGTH(log), TEJBORUN_LOG_NUMBERS + TEJBORUN_ENTRY_NUMBERS, TEJBORUN_BAD_LOG},
-        {LENGTH(log), 1 * TEJBORUN_ENTRY_NUMBERS, TEJBORUN_BAD_LOG},
+        WRONG_LOGS,
         {LENGTH(log), 2 * TEJBORUN_ENTRY_NUMBERS, TEJBORUN_LOG_FULL},
         {LENGTH(log), 4 * TEJBORUN_ENTRY_NUMBERS, TEJBORUN_LOG_FULL},
         {LENGTH(result), 1, TEJBORUN_SHORT},
@@ -416,7 +432,8 @@ static void test_meaning(bool end)
     try_meaning(sheet, sizeof sheet, good, ENTRIES - SHEET_ENTRIES, TEJBORUN_DONE, 0, end);
     try_meaning(sheet, sizeof sheet, good, ENTRIES - SHEET_ENTRIES + 1, TEJBORUN_LOG_FULL, 0, end);
     try_meaning(sheet, sizeof sheet, good, ENTRIES + 1, TEJBORUN_BAD_LOG, 0, end);
-    try_meaning(sheet, sizeof sheet, good, UINT64_MAX, TEJBORUN_BAD_LOG, 0, end);
+    for (size_t i = 0; i < WRAPPING; i++)
+        try_meaning(sheet, sizeof sheet, good, wrapping[i], TEJBORUN_BAD_LOG, 0, end);
     full.log = TEJBORUN_LOG_NUMBERS;
     try_meaning(sheet, sizeof sheet, full, TEJBORUN_LOG_ENTRIES - SHEET_ENTRIES, TEJBORUN_DONE, 0, end);
     try_meaning(sheet, sizeof sheet, full, TEJBORUN_LOG_ENTRIES - SHEET_ENTRIES + 1, TEJBORUN_LOG_FULL, 0, end);
@@ -566,8 +583,8 @@ enum { VIF0_STEPS = 1 + 24, LAST_QUADWORD0 = TEJBORUN_VIF0_QUADWORDS - 1, LAST_I
 static bool holds_vif0(const struct bench *bench)
 {
     static const uint64_t entries[][TEJBORUN_ENTRY_NUMBERS] = {
-        {[TEJBORUN_ENTRY_REGISTER] = 256, [TEJBORUN_ENTRY_VALUE] = 5},
-        {[TEJBORUN_ENTRY_REGISTER] = 258, [TEJBORUN_ENTRY_VALUE] = 0},
+        {0, 256, 5},
+        {0, 258, 0},
     };
     const uint32_t *data = words(&bench->lent[DATA]), *last = data + 4 * LAST_QUADWORD0;
     const uint8_t *code = bench->lent[CODE].at;
@@ -732,6 +749,77 @@ static void test_packets(bool end)
     }
 }
 
+/* A packet of each format, the first with PRE, and what they write. */
+static const uint32_t packets[][4] = {
+    {0x8001, 0x10034000, 0xE, 0}, {0x5000D, 0, 0x47, 0},                                                       /* PACKED: A+D */
+    {0x8001, 0x24000000, 0x51, 0}, {1, 0, 2, 0},                                                               /* REGLIST: RGBAQ, XYZ2 */
+    {0x8001, 0x08000000, 0, 0}, {3, 0, 4, 0},                                                                  /* IMAGE: HWREG twice */
+};
+static const uint64_t written[][2] = {{0, 6}, {0x47, 0x5000D}, {1, 1}, {5, 2}, {0x54, 3}, {0x54, 4}};
+enum { PACKET_QUADWORDS = sizeof packets / sizeof packets[0], WRITTEN = sizeof written / sizeof written[0], BOTH = WRITTEN + 3 + WRITTEN };
+
+/* Whether the log holds so many entries, those that the packets write on channel 1, between its program starts, and on channel 2, in the order of the runs;
+ * beyond them it is as it was. */
+static bool holds_paths(const struct bench *bench, bool on_2_first, size_t entries)
+{
+    uint64_t expected[BOTH][TEJBORUN_ENTRY_NUMBERS];
+    size_t at = 0;
+    for (int turn = 0; turn < 2; turn++) {
+        bool on_2 = (turn == 0) == on_2_first;
+        if (!on_2) {
+            memcpy(expected[at++], (const uint64_t[]){0, 256, 5}, sizeof expected[0]);
+            memcpy(expected[at++], (const uint64_t[]){0, 257, 6}, sizeof expected[0]);
+        }
+        for (size_t i = 0; i < WRITTEN; i++)
+            memcpy(expected[at++], (const uint64_t[]){on_2 ? 3 : 2, written[i][0], written[i][1]}, sizeof expected[0]);
+        if (!on_2)
+            memcpy(expected[at++], (const uint64_t[]){0, 258, 0}, sizeof expected[0]);
+    }
+    const struct lent *log = &bench->lent[LOG];
+    if (memcmp(log->at, expected, entries * sizeof expected[0]) != 0)
+        return false;
+    for (size_t i = entries * sizeof expected[0]; i < log->bytes; i++)
+        if (log->at[i] != FILL)
+            return false;
+    return state(&bench->lent[BLOCK])->chain.used[0] == entries;
+}
+
+/* Channels 1 and 2 over one log, in both orders, with room for every number of entries: 31 comes where three numbers an entry no longer fit. */
+static void try_paths(bool on_2_first, size_t entries, bool end)
+{
+    const uint32_t direct[][4] = {{0x70000000 | (PACKET_QUADWORDS + 2)}, {0x14000005, 0x15000006, 0, 0x50000000 | PACKET_QUADWORDS}};
+    const uint32_t after[][4] = {{0x17000000}, {0x70000000 | PACKET_QUADWORDS}};
+    struct lengths lengths = good;
+    struct bench bench;
+    uint32_t answer = TEJBORUN_DONE;
+    lengths.main = 16 * (4 + 2 * PACKET_QUADWORDS);
+    lengths.log = entries * TEJBORUN_ENTRY_NUMBERS;
+    new_bench(&bench, lengths, NULL, 0, end);
+    uint8_t *main = bench.lent[MAIN].at;
+    memcpy(main, direct, sizeof direct);
+    memcpy(main + 16 * 2, packets, sizeof packets);
+    memcpy(main + 16 * (2 + PACKET_QUADWORDS), after, sizeof after);
+    memcpy(main + 16 * (4 + PACKET_QUADWORDS), packets, sizeof packets);
+    remember_all(&bench);
+    for (int turn = 0; turn < 2 && answer == TEJBORUN_DONE; turn++) {
+        bool on_2 = (turn == 0) == on_2_first;
+        CHECK(tejborun_start(words(&bench.lent[BLOCK]), TEJBORUN_BLOCK_WORDS, on_2 ? 2 : 1, on_2 ? 16 * (3 + PACKET_QUADWORDS) : 0, 0) == TEJBORUN_DONE);
+        answer = call_run(&bench, UINT64_MAX);
+    }
+    size_t used = state(&bench.lent[BLOCK])->chain.used[0];
+    CHECK(all_kept_outside(&bench) && answer == (entries < BOTH ? TEJBORUN_LOG_FULL : TEJBORUN_DONE));
+    CHECK(used <= entries && used + 2 > (entries < BOTH ? entries : BOTH) && holds_paths(&bench, on_2_first, used));
+    free_bench(&bench);
+}
+
+static void test_paths(bool end)
+{
+    for (size_t entries = 0; entries <= BOTH + 1; entries++) {
+        try_paths(false, entries, end);
+        try_paths(true, entries, end);
+    }
+}
+
 /* Where a chain of so many words on a channel stands after so many steps, from a state on. */
 static void run_state(struct tejborun_state *state, const uint32_t *chain, size_t count, const uint32_t start[3], uint64_t steps)
 {
@@ -837,9 +925,7 @@ static const struct wrong wrong_entry[] = {
     {LENGTH(code), TEJBORUN_VIF1_CODE_BYTES - 1, TEJBORUN_BAD_CODE},
     {LENGTH(code), TEJBORUN_VIF1_CODE_BYTES + 1, TEJBORUN_BAD_CODE},
     {LENGTH(code), 0, TEJBORUN_BAD_CODE},
-    {LENGTH(log), ENTRIES * TEJBORUN_ENTRY_NUMBERS - 1, TEJBORUN_BAD_LOG},
-    {LENGTH(log), TEJBORUN_LOG_NUMBERS + TEJBORUN_ENTRY_NUMBERS, TEJBORUN_BAD_LOG},
-    {LENGTH(log), 1 * TEJBORUN_ENTRY_NUMBERS, TEJBORUN_BAD_LOG},
+    WRONG_LOGS,
     {LENGTH(block), TEJBORUN_BLOCK_WORDS - 1, TEJBORUN_SHORT},
     {LENGTH(block), TEJBORUN_BLOCK_WORDS + 1, TEJBORUN_SHORT},
     {LENGTH(block), 0, TEJBORUN_SHORT},
@@ -861,6 +947,25 @@ static void test_wrong_entry(bool end)
         CHECK(call_build_and_run(&bench, 0, UINT64_MAX) == wrong_entry[i].answer && all_unchanged(&bench) && (is_short || built_and_ran(&bench, 0, 0, 0)));
         CHECK(!is_short || unchanged(&bench.lent[RESULT]));
         free_bench(&bench);
+    }
+}
+
+/* Entries used whose numbers wrap: refused with 4, by runs on each channel. */
+static void test_wrapping(bool end)
+{
+    for (size_t i = 0; i < WRAPPING; i++) {
+        for (uint32_t channel = 0; channel < 3; channel++) {
+            struct bench bench;
+            new_bench(&bench, channel == 0 ? good0 : good, sheet, sizeof sheet, end);
+            struct tejborun_chain *chain = &state(&bench.lent[BLOCK])->chain;
+            chain->channel = channel;
+            chain->used[0] = (uint32_t)wrapping[i], chain->used[1] = (uint32_t)(wrapping[i] >> 32);
+            remember_all(&bench);
+            CHECK(call_run(&bench, UINT64_MAX) == TEJBORUN_BAD_LOG && all_unchanged(&bench) && ran(&bench, 0, 0));
+            CHECK(channel == 0 || call_build_and_run(&bench, 0, UINT64_MAX) == TEJBORUN_BAD_LOG);
+            CHECK(all_unchanged(&bench));
+            free_bench(&bench);
+        }
     }
 }
 
@@ -1100,11 +1205,19 @@ static void test_compare(bool end)
     entry(&pair.log[1], 2)[TEJBORUN_ENTRY_VALUE] ^= UINT64_C(1) << 63;
     all[4] = 2, all[5] = 1;
     try_parts(&pair, all, true);
+    for (size_t number = 0; number < TEJBORUN_ENTRY_NUMBERS; number++) {
+        entry(&pair.log[number % 2], 0)[number] ^= 1;
+        all[4] = 0, all[5] = 2;
+        try_parts(&pair, all, true);
+        entry(&pair.log[number % 2], 0)[number] ^= 1;
+    }
     pair.used[1] = 2;
-    all[5] = 0;
+    all[4] = 2, all[5] = 0;
     try_parts(&pair, all, true);
-    pair.used[1] = 5;
-    CHECK(call_compare(&pair, TEJBORUN_PARTS) == TEJBORUN_REFUSED + TEJBORUN_BAD_LOG);
+    for (size_t i = 0; i <= WRAPPING; i++) {
+        pair.used[1] = i < WRAPPING ? wrapping[i] : 5;
+        CHECK(call_compare(&pair, TEJBORUN_PARTS) == TEJBORUN_REFUSED + TEJBORUN_BAD_LOG);
+    }
     CHECK(call_compare(&pair, TEJBORUN_PARTS - TEJBORUN_PART_LOG) == TEJBORUN_DIFFERENT);
     free_pair(&pair);
 }
@@ -1120,6 +1233,8 @@ static void test_wrong_compare(bool end)
         {{LENGTH(data), 0, TEJBORUN_BAD_DATA}, TEJBORUN_PART_VIF1_DATA},
         {{LENGTH(code), TEJBORUN_VIF1_CODE_BYTES + 1, TEJBORUN_BAD_CODE}, TEJBORUN_PART_VIF1_CODE},
         {{LENGTH(code), 0, TEJBORUN_BAD_CODE}, TEJBORUN_PART_VIF1_CODE},
+        {{LENGTH(log), ENTRIES * TEJBORUN_ENTRY_NUMBERS - 2, TEJBORUN_BAD_LOG}, TEJBORUN_PART_LOG},
+        {{LENGTH(log), ENTRIES * TEJBORUN_ENTRY_NUMBERS + 2, TEJBORUN_BAD_LOG}, TEJBORUN_PART_LOG},
         {{LENGTH(log), ENTRIES * TEJBORUN_ENTRY_NUMBERS - 1, TEJBORUN_BAD_LOG}, TEJBORUN_PART_LOG},
         {{LENGTH(log), TEJBORUN_LOG_NUMBERS + TEJBORUN_ENTRY_NUMBERS, TEJBORUN_BAD_LOG}, TEJBORUN_PART_LOG},
         {{LENGTH(log), 0, TEJBORUN_BAD_LOG}, TEJBORUN_PART_LOG},
@@ -1231,7 +1346,9 @@ int main(void)
         test_vif0_stops(end);
         test_gif_stops(end);
         test_packets(end);
+        test_paths(end);
         test_wrong_entry(end);
+        test_wrapping(end);
         test_short_results(end);
         test_lengths_by_channel(end);
         test_wrong_state(end);
@@ -1248,6 +1365,7 @@ int main(void)
     test_sums();
     puts("C interface: every function with good, short and wrong buffers, guard pages behind and before them: as the header says");
     puts("packets: each way to close one, on both paths, with every allowance; at a mark and before a refusal");
+    puts("paths: 2, 3 and 0 in one log, in both orders of the channels, with room for every number of entries; entries used that wrap");
     puts("state block: every word under its name");
     return 0;
 }

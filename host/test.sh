@@ -72,6 +72,14 @@ word() {
     printf '%b' "$(printf '\\0%o' $(($1 & 255)) $(($1 >> 8 & 255)) $(($1 >> 16 & 255)) $(($1 >> 24 & 255)))"
 }
 
+# numbers NUMBER..: the eight bytes of each number, which is below 2^63.
+numbers() {
+    for number in "$@"; do
+        word "$number"
+        word $((number >> 32))
+    done
+}
+
 # The layout of files, from what the command itself writes: the bytes of a state block, the lengths of the memories and of the longest log, and the numbers of
 # a log entry. The head of a capture before the state block has 56 bytes, that of a test case and of a sheet case 48; a result has 24 before and 8 behind it. What a
 # run says before its state block, in a result of replay's and behind the mark of a result file, has 20: answer, steps, packets.
@@ -202,7 +210,7 @@ bench_points() {
     says out 'answer 0, done; 6 steps'
     says out 'log: 1 entry added, first 0, last 0'
     expect 0 dump start.result
-    says out 'entry 0 MSCAL 0x0000000000000005'
+    says out 'entry 0 path=0 MSCAL 0x0000000000000005'
     printf 'data addr=1023\nvector 1 2 3 4\nvector 5 6 7 8\n' > two.txt
     expect 0 assemble sheet two.txt -o two.sheet
     expect 0 build two.sheet -o two.chain
@@ -225,6 +233,7 @@ meanings() {
     says meanings.txt '# main memory has length 0, no multiple of 16 or more than 1,048,576 bytes'
     says meanings.txt '# data memory is not 4,096 words, of VIF0 (channel 0) not 1,024'
     says meanings.txt '# UNPACK with IMM bit 15 (TOPS) on VIF0'
+    says meanings.txt "# the log's length is no multiple of 3, above 196,608 numbers or below three times the entries used"
     says meanings.txt "# a state block that is not $((block_bytes / 4)) words, or a result with too few numbers"
     echo 'result answer=92' > meaning.txt
     expect 0 assemble result meaning.txt -o meaning.result
@@ -379,7 +388,7 @@ wanted_memories() {
 
 # wanted_result FILE OFFSET: what the run of the case has to leave, from the results, with the state block of a file.
 wanted_result() {
-    printf 'TRE4'
+    printf 'TRE5'
     if test "$run" = none; then head -c "$run_head" /dev/zero; else slice results "$run" "$run_head"; fi
     slice "$1" "$2" "$block_bytes"
     slice case 20 4
@@ -443,7 +452,7 @@ generated_captures() {
 }
 
 examples() {
-    for name in all-kinds.sheet difference.capture vif0.capture; do
+    for name in all-kinds.sheet difference.capture vif0.capture paths.capture; do
         kind=${name#*.}
         expect 0 assemble "$kind" "$here/../examples/$name.txt" -o "$name"
         expect 0 dump "$name"
@@ -509,16 +518,16 @@ comparisons() {
     expect 1 compare a board --all
     says out 'instruction 2000 (0x7D0)'
     says out 'board  0x00000000000000FF'
-    edited a.txt 's/^entry 3 TEST_1 .*/entry 3 0xFE 0x10/'
+    edited a.txt 's/^entry 3 path=2 TEST_1 .*/entry 3 path=2 0xFE 0x10/'
     expect 1 compare a board
     says out 'log: 1 entry differs, the first is 3'
-    says out 'a      register 0x47 TEST_1, value 0x000000000005000D'
-    says out 'board  register 0xFE (no name), value 0x0000000000000010 (16)'
+    says out 'a      path 2, register 0x47 TEST_1, value 0x000000000005000D'
+    says out 'board  path 2, register 0xFE (no name), value 0x0000000000000010 (16)'
     edited a.txt 's/used=7/used=5/'
     expect 1 compare a board
     says out 'log: the same, 5 entries compared'
     says out 'a has 7 entries, board 5; only a has 5 to 6'
-    says out 'a      register 0x100 MSCAL, value 0x00000000000007FF'
+    says out 'a      path 0, register 0x100 MSCAL, value 0x00000000000007FF'
     expect 1 compare board a
     says out 'only a has 5 to 6'
     edited a.txt "s/used=7/used=$((entries + 1))/"
@@ -647,6 +656,27 @@ earlier_of_run() {
     same earlier.result difference.result
 }
 
+# Files as they were written before entries had a path; their text makes those of today.
+earlier_of_paths() {
+    before_paths='log entries had a path: they have 2 numbers, here they have 3'
+    earlier capture TCA3 $((436 + 64)) "$before_paths" run broken -o broken.out
+    earlier capture TCP2 428 "$before_paths" export broken --main broken.out
+    earlier result TRE4 $((412 + 16384)) "$before_paths" compare difference.result broken
+    earlier result TRE4 412 "$before_paths" run difference.capture --from broken -o broken.out
+    earlier result TRE4 8 "$before_paths" report difference.result broken -o page.html
+    says err 'assemble the text here, with a path for each write of the GIF'
+    { printf 'TCA3'; slice difference.capture 4 24; word 64; tail -c +33 difference.capture; } > broken
+    expect 2 run broken -o broken.out
+    says err "broken: a capture from before $before_paths; "
+    for kind in capture result; do
+        "$command" dump difference.$kind | sed 's/log-entries=32/log-numbers=64/;s/^\(entry [0-9]*\) path=0/\1/' > earlier.txt
+        if grep -q -e path= -e log-entries earlier.txt || ! grep -q 'log-numbers=64' earlier.txt; then fail "the text of a $kind from before"; fi
+        expect 0 assemble $kind earlier.txt -o earlier.out
+        same earlier.out difference.$kind "the text of a $kind from before"
+    done
+    absent broken.out
+}
+
 # another_kind FILE KIND COMMAND..: the file is told by its mark to be of a kind.
 another_kind() {
     file=$1 kind=$2
@@ -667,6 +697,7 @@ other_layouts() {
     earlier result TRE3 404 "$before_packets" report difference.result broken -o page.html
     earlier result TRE3 8 "$before_packets" export broken --data broken.out
     earlier_of_run
+    earlier_of_paths
     head -c 252 /dev/zero > broken
     expect 2 dump state broken
     says err 'broken: a state from before VIF0: its state has 63 words'
@@ -684,7 +715,7 @@ other_layouts() {
     says err 'no state: '
     says err 'it begins with the mark of a capture'
     absent broken.out
-    echo "other layouts: files from before VIF0 and from before packets were counted, a log of no whole entries, another kind of file: each named"
+    echo "other layouts: files from before VIF0, before packets were counted and before entries had a path, a log of no whole entries, another kind of file: each named"
 }
 
 # bad_text KIND LINE MESSAGE TEXT: the text is not assembled; the message names the line.
@@ -743,9 +774,8 @@ bad_texts() {
     bad_text result 2 "vif0.quadword $quadwords0: the last is $((quadwords0 - 1))" "result\nvif0.quadword $quadwords0 1 2 3 4\n"
     bad_text result 2 "vif0.instruction $instructions0: the last is $((instructions0 - 1))" "result\nvif0.instruction $instructions0 1\n"
     bad_text result 2 "'vif1.quadword' is no line of a result: result, state, quadword, instruction, vif0.quadword" "result\nvif1.quadword 1 1 2 3 4\n"
-    bad_text result 2 "entry $entries: the last is $((entries - 1))" "result\nentry $entries 1 1\n"
-    bad_text result 2 "entry 2: the log has $((2 * entry_numbers)) numbers, $entry_numbers for each" "result log-numbers=$((2 * entry_numbers))\nentry 2 1 1\n"
-    bad_text result '' 'not written: a result keeps a log of whole entries' "result log-numbers=$((entry_numbers + 1))\n"
+    bad_text result 2 "entry $entries: the last is $((entries - 1))" "result\nentry $entries path=2 1 1\n"
+    bad_text result 2 'entry 2: the log has 2 entries' 'result log-entries=2\nentry 2 path=2 1 1\n'
     bad_text result '' "has no line 'result'" ''
     printf 'start addr=5\r\n\tstart addr=6 # no line end' > good.txt
     expect 0 assemble sheet good.txt -o good.sheet
@@ -828,23 +858,24 @@ beginnings() {
     expect 0 run zero.capture -o zero.result
     expect 0 dump zero.result
     if grep -e '^quadword' -e '^instruction' -e '^entry' out; then fail 'a memory that is not zero at first'; fi
-    capture_of filled.capture 'capture fill=0 log-numbers=8\nstart channel=1\nrun\nend\n'
-    test "$(head -c 4 filled.capture)" = TCP2 || fail 'the mark of a test case'
+    capture_of filled.capture 'capture fill=0 log-entries=4\nstart channel=1\nrun\nend\n'
+    test "$(head -c 4 filled.capture)" = TCP3 || fail 'the mark of a test case'
     "$replay" < filled.capture > results || fail 'a test case for replay'
-    test "$(head -c 4 zero.capture)" = TCA3 || fail 'the mark of a capture'
+    test "$(head -c 4 zero.capture)" = TCA4 || fail 'the mark of a capture'
     expect 0 run filled.capture -o filled.result
     expect 0 dump filled.result
     says out "quadword 1 0x"
     round capture filled.capture
-    capture_of given.capture 'capture log-numbers=64\nquadword 3 1 -2 3 4\ninstruction 7 0x123\nentry 0 MSCAL 5\nentry 1 PRIM 0\nstart channel=1\nrun\nend\n'
+    capture_of given.capture 'capture log-entries=32\nquadword 3 1 -2 3 4\ninstruction 7 0x123\nentry 0 path=0 MSCAL 5\nentry 1 path=2 PRIM 0\nstart channel=1\nrun\nend\n'
     round capture given.capture
     expect 0 run given.capture -o given.result
     says out 'log: nothing added, 2 used'
     expect 0 dump given.result
     says out 'quadword 3 0x00000001 0xFFFFFFFE 0x00000003 0x00000004'
     says out 'instruction 7 0x0000000000000123'
-    says out 'entry 0 MSCAL 0x0000000000000005'
-    capture_of zeros.capture 'capture\nstate used=1\nquadword 9 0 0 0 0\ninstruction 9 0\nentry 3 PRIM 0\n'
+    says out 'entry 0 path=0 MSCAL 0x0000000000000005'
+    says out 'entry 1 path=2 PRIM 0x0000000000000000'
+    capture_of zeros.capture 'capture\nstate used=1\nquadword 9 0 0 0 0\ninstruction 9 0\nentry 3 path=0 PRIM 0\n'
     round capture zeros.capture
     bad_text capture '' "has 'fill=' and gives a memory" 'capture fill=0\nquadword 1 1 2 3 4\n'
     bad_text capture '' "has 'whole=' without 'fill='" 'capture whole=1\n'
@@ -860,7 +891,7 @@ beginnings() {
 raw_beginnings() {
     head -c $((4 * data_words)) "$command" > raw.data
     head -c "$code_bytes" "$second" > raw.code
-    { word 256; word 0; word 7; word 0; } > raw.log
+    numbers 0 256 7 > raw.log
     { word 0x70000000; word 0; word 0; word 0; } > raw.main
     printf 'capture\nstart channel=1\nrun\n' > raw.txt
     expect 0 assemble capture raw.txt -o raw.capture --main raw.main --data raw.data --code raw.code --log raw.log
@@ -872,7 +903,7 @@ raw_beginnings() {
     same got raw.code
     expect 0 dump raw.result
     says out ' used=1'
-    says out 'entry 0 MSCAL 0x0000000000000007'
+    says out 'entry 0 path=0 MSCAL 0x0000000000000007'
     printf x >> raw.data
     expect 2 assemble capture raw.txt -o bad.out --data raw.data
     says err "raw.data: no dump of VIF1's data memory: $((4 * data_words + 1)) bytes; it has $((4 * data_words))"
@@ -1057,9 +1088,9 @@ well_formed() {
 
 # A rack: an equal board, a different one, one with a shorter log, one that is refused, one that is no result, one that is not there.
 boards() {
-    result_of expected 'result steps=6 packets=3\nquadword 0 1 2 3 4\nquadword 9 1 2 3 4\ninstruction 5 7\nentry 0 MSCAL 5\nentry 1 PRIM 6\n'
+    result_of expected 'result steps=6 packets=3\nquadword 0 1 2 3 4\nquadword 9 1 2 3 4\ninstruction 5 7\nentry 0 MSCAL 5\nentry 1 path=2 PRIM 6\n'
     cp expected good
-    result_of low 'result\nquadword 0 1 2 3 4\nquadword 9 0 2 3 4\ninstruction 5 8\nentry 0 MSCAL 5\nentry 1 PRIM 7\n'
+    result_of low 'result\nquadword 0 1 2 3 4\nquadword 9 0 2 3 4\ninstruction 5 8\nentry 0 MSCAL 5\nentry 1 path=2 PRIM 7\n'
     result_of short 'result\nquadword 0 1 2 3 4\nquadword 9 1 2 3 4\ninstruction 5 7\nentry 0 MSCAL 5\n'
     result_of refused "result\nstate used=$((entries + 1))\n"
     odd=$(printf 'na"m\\e\t<&>\377')
@@ -1106,7 +1137,7 @@ rack_json() {
     says out '"result": {"file": "expected", "answer": 0, "steps": 6, "packets": 3},'
     says out '"data": {"compared": 1024, "different": 1, "differences": ['
     says out '{"number": 9, "result": ["0x00000001", "0x00000002", "0x00000003", "0x00000004"], "board": ["0x00000000", "0x00000002", "0x00000003", "0x00000004"]}'
-    says out '{"number": 1, "result": {"register": 0, "value": "0x0000000000000006"}, "board": {"register": 0, "value": "0x0000000000000007"}}'
+    says out '{"number": 1, "path_alone": false, "result": {"path": 2, "register": 0, "value": "0x0000000000000006"}, "board": {"path": 2, "register": 0, "value": "0x0000000000000007"}}'
     says out '"result_entries": 2, "board_entries": 1'
     says out '"summary": {"boards": 3, "equal": 1, "equal_in_parts": 0, "different": 2, "refused": 0, "no_verdict": 0, "not_read": 0}'
     says out '"status": 1'
@@ -1155,10 +1186,10 @@ messages() {
 # Runs of several slices; an endless chain, stopped by Ctrl-C, that goes on afterwards.
 long_runs() {
     printf 'start channel=1\nrun allowance=2500000\nnext addr=0\n' > endless.txt
-    { echo 'capture fill=7 whole=1 main-bytes=16 log-numbers=8'; cat endless.txt; } > case.txt
+    { echo 'capture fill=7 whole=1 main-bytes=16 log-entries=4'; cat endless.txt; } > case.txt
     expect 0 assemble capture case.txt -o case
     "$replay" < case > results || fail 'replay'
-    replayed "$data_words" "$code_bytes" 8 "$data0_words" "$code0_bytes" 2
+    replayed "$data_words" "$code_bytes" $((4 * entry_numbers)) "$data0_words" "$code0_bytes" 2
     expect 3 run case -o result
     says out 'answer 90, the step allowance is used; 2500000 steps'
     wanted_result results "$block" > wanted
@@ -1313,7 +1344,7 @@ dumps() {
 
 # A result with something in each part, and its dumps.
 dump_files() {
-    printf 'capture main-bytes=8192 log-numbers=64\nstart channel=1\nrun\n' > calls.txt
+    printf 'capture main-bytes=8192 log-entries=32\nstart channel=1\nrun\n' > calls.txt
     expect 0 assemble capture calls.txt -o again.capture
     expect 0 assemble sheet "$here/../examples/all-kinds.sheet.txt" -o all.sheet
     expect 0 play all.sheet -o all.result
@@ -1341,7 +1372,7 @@ one_import() {
         set -- "$@" "--$part" "$(echo "$part" | sed 's/data/vu/;s/code/micro/').bin"
     done
     expect 0 import "$@" -o part.result
-    words=$(sed 's/^part.result: //' out)
+    words=$(sed -n 's/^part.result: //p' out)
     round result part.result
     expect 0 dump part.result
     says out "parts=$(echo "$parts" | tr ' ' '+')"
@@ -1454,7 +1485,7 @@ vif0() {
     says out 'vif0.quadword 0 0x00000005 0x00000006 0x00000007 0x00000008'
     says out 'vif0.instruction 511 0x8000033C000002FF'
     says out 'vif0.instruction 0 0x8000033C400002FF'
-    says out 'entry 0 MSCAL 0x0000000000000005'
+    says out 'entry 0 path=0 MSCAL 0x0000000000000005'
     if grep -e '^quadword' -e '^instruction' out; then fail "VIF1's memories on channel 0"; fi
     vif0_refusals
     vif0_lent
@@ -1562,7 +1593,7 @@ vif0_states() {
     round capture pending.capture
     expect 0 dump pending.result
     says out 'state vif0.row0=0x5000001 vif0.row1=0x2 vif0.row2=0x3 vif0.row3=0x4'
-    capture_of filled.capture 'capture fill=0x100000000 log-numbers=8\nstart channel=0\nrun\nend\n'
+    capture_of filled.capture 'capture fill=0x100000000 log-entries=4\nstart channel=0\nrun\nend\n'
     round capture filled.capture
     expect 0 export filled.capture --data0 filled.data --code0 filled.code
     words filled.data 0 2 | grep -q "^ *5 $((0x7F4A7C15 + 5))\$" || fail "the fill of VIF0's data memory: $(words filled.data 0 2)"
@@ -1656,7 +1687,7 @@ packets() {
     says out 'answer 0, done; 28 steps; 3 packets closed'
     words three.result 8 4 | grep -q '^ *28 *0 *3 *0$' || fail 'the packets in the result file'
     expect 0 dump three.result
-    says out 'result answer=0 steps=28 packets=3 log-numbers='
+    says out "result answer=0 steps=28 packets=3 log-entries=$entries "
     round result three.result
     expect 0 meaning three.sheet -o three.meaning
     expect 0 dump three.meaning
@@ -1703,7 +1734,7 @@ packets_of_stops() {
     expect 1 compare stop.result gif2.result --unfinished
     grep -q '^stop.result: answer 30, .*; 3 steps; 1 packet closed$' out || fail 'the packets of an unfinished result'
     says out 'gif2.result: answer 0, done; 16 steps; 5 packets closed'
-    capture_of stop.capture 'capture log-numbers=0\nstart channel=2\nrun\nend qwc=2\ngiftag nloop=1 eop=1 flg=IMAGE\nword 1 2 3 4\n'
+    capture_of stop.capture 'capture log-entries=0\nstart channel=2\nrun\nend qwc=2\ngiftag nloop=1 eop=1 flg=IMAGE\nword 1 2 3 4\n'
     expect 1 run stop.capture
     says out 'answer 31, refused: '
     says out '; 2 steps; no packet closed'
@@ -1746,9 +1777,9 @@ packets_as_text() {
     result_of some 'result packets=0x3 parts=data\n'
     round result some
     expect 0 dump some
-    says out 'result answer=0 steps=0 packets=3 log-numbers=0 parts=data'
+    says out 'result answer=0 steps=0 packets=3 log-entries=0 parts=data'
     bad_text result 1 "packets=0x10000000000000000: the field has 64 bits" 'result packets=0x10000000000000000\n'
-    bad_text result 1 "'result' has no field 'packet'; it has answer, steps, packets, log-numbers, parts" 'result packet=3\n'
+    bad_text result 1 "'result' has no field 'packet'; it has answer, steps, packets, log-entries, parts" 'result packet=3\n'
 }
 
 # Packets have no part in the verdict, and a result without says nothing of them; JSON has the number always.
@@ -1773,16 +1804,271 @@ packets_compared() {
     says out 'three.result: answer 0, done; 28 steps; 3 packets closed'
 }
 
+# Which path wrote it: in logs of sheets and captures, as text, of today and of before, in raw files, compared.
+paths() {
+    expect 0 assemble capture "$here/../examples/paths.capture.txt" -o paths.capture
+    round capture paths.capture
+    expect 0 run paths.capture -o paths.result
+    says out 'log: 8 entries added, first 0, last 7'
+    round result paths.result
+    capture_of plain.capture 'capture\n'
+    paths_logged
+    paths_of_sheets
+    log_lengths
+    paths_as_text
+    log_lengths_as_text
+    paths_raw
+    paths_compared
+    echo "paths: 2, 3 and 0 in one log, in a sheet's meaning, in files of $entry_numbers numbers an entry; text of today and of before, raw logs; differences in the path alone"
+}
+
+# entries_are FILE LINE..: the entries that a result has as text.
+entries_are() {
+    file=$1
+    shift
+    expect 0 dump "$file"
+    grep '^entry' out > got
+    printf 'entry %s\n' "$@" > wanted
+    same got wanted "the entries of $file"
+}
+
+# A capture over channels 1, 2 and 0: PRE's write, each format, each program start.
+paths_logged() {
+    entries_are paths.result '0 path=0 MSCAL 0x0000000000000005' '1 path=2 PRIM 0x0000000000000006' '2 path=2 TEST_1 0x000000000005000D' \
+        '3 path=2 FINISH 0x0000000000000000' '4 path=0 MSCNT 0x0000000000000000' '5 path=3 PRIM 0x0000000000000006' \
+        '6 path=3 TEST_1 0x000000000005000D' '7 path=3 FINISH 0x0000000000000000'
+    quads='giftag nloop=1 eop=1 flg=REGLIST nreg=2 regs=0x51\nword 1 0 2 0\ngiftag nloop=1 eop=1 flg=IMAGE\nword 3 0 4 0\n'
+    capture_of mixed.capture "capture\nstart channel=2 tadr=0x60\nrun\nstart channel=1\nrun\nstart channel=0 tadr=0xB0\nrun\nend qwc=5\nMSCALF imm=9\nNOP\nNOP\nDIRECTHL imm=4\n${quads}end qwc=4\n${quads}end qwc=1\nMSCAL imm=1\nMSCNT\n"
+    round capture mixed.capture
+    expect 0 run mixed.capture -o mixed.result
+    entries_are mixed.result '0 path=3 RGBAQ 0x0000000000000001' '1 path=3 XYZ2 0x0000000000000002' '2 path=3 HWREG 0x0000000000000003' \
+        '3 path=3 HWREG 0x0000000000000004' '4 path=0 MSCALF 0x0000000000000009' '5 path=2 RGBAQ 0x0000000000000001' '6 path=2 XYZ2 0x0000000000000002' \
+        '7 path=2 HWREG 0x0000000000000003' '8 path=2 HWREG 0x0000000000000004' '9 path=0 MSCAL 0x0000000000000001' '10 path=0 MSCNT 0x0000000000000000'
+    round result mixed.result
+}
+
+# The bench point, and a sheet with GS entries and starts: three numbers in its meaning, as played, and in the longest log.
+paths_of_sheets() {
+    as_sheet five.sheet '\236\121\4\0\5\0'
+    numbers 0 256 5 > point
+    expect 0 assemble sheet "$here/../examples/all-kinds.sheet.txt" -o all.sheet
+    for name in play meaning; do
+        expect 0 $name five.sheet -o five.result
+        expect 0 export five.result --log got
+        same got point "the bench point by $name"
+        test $(($(words five.result $((result_head - 8)) 1))) = 196608 || fail "the log's length by $name"
+        test $(($(wc -c < five.result))) = $((result_head + memory_bytes + memory0_bytes + 8 * 196608)) || fail "the file's length by $name"
+        expect 0 $name all.sheet -o all.result
+        entries_are all.result '0 path=2 PRIM 0x0000000000000006' '1 path=2 RGBAQ 0x3F80000080402010' '2 path=2 XYZ2 0x0000000080008000' \
+            '3 path=2 TEST_1 0x000000000005000D' '4 path=2 FINISH 0x0000000000000000' '5 path=0 MSCAL 0x00000000000007FF' '6 path=0 MSCAL 0x0000000000000000'
+    done
+}
+
+# Refusals 4 and 31 count three numbers an entry; a capture's log has 196,608 where it says nothing.
+log_lengths() {
+    test $(($(words plain.capture 28 1))) = 196608 || fail "a capture's log"
+    for words in 'log-entries=7 log-rest=1' 'log-entries=7 log-rest=2' 'log-entries=65536 log-rest=1' 'log-entries=65537' 'log-entries=65538 log-rest=2' \
+        'log-numbers=15' 'log-numbers=131073' 'log-numbers=131074' 'log-numbers=131077'; do
+        capture_of four.capture "capture $words\nstart\nrun\nend\n"
+        round capture four.capture
+        expect 1 run four.capture
+        says out "answer 4, refused: the log's length is no multiple of 3, above 196,608 numbers or below three times the entries used; 0 steps"
+        expect 2 run four.capture -o four.result
+        says err 'not written: a result keeps a log of whole entries, 3 numbers each, up to 196608 numbers'
+    done
+    for used in 8 6148914691236517205 6148914691236517206 18446744073709551615; do
+        capture_of four.capture "capture log-entries=7\nstate used=$used\nstart\nrun\nend\n"
+        expect 1 run four.capture
+        says out 'answer 4, refused: '
+    done
+    for entries_given in 0 1 2 3; do
+        capture_of room.capture "capture log-entries=$entries_given\nstart channel=2\nrun\nend qwc=3\ngiftag nloop=2 eop=1 pre=1 prim=6 nreg=1 regs=0xE\nword 1 0 5 0\nword 2 0 5 0\n"
+        if test $entries_given = 3; then status=0 answer=0; else status=1 answer=31; fi
+        expect $status run room.capture -o room.result
+        says out "answer $answer, "
+        expect 0 dump room.result
+        test "$(grep -c '^entry .* path=3 ' out)" = $entries_given || fail "$entries_given entries"
+    done
+    capture_of full.capture 'capture\nstart channel=2\nrun\nnext qwc=2 addr=0\ngiftag nloop=1 eop=1 flg=IMAGE\nword 1 0 2 0\n'
+    expect 1 run full.capture -o full.result
+    says out 'answer 31, refused: '
+    says out "log: $entries entries added, first 0, last $((entries - 1))"
+    expect 0 dump full.result
+    says out "entry $((entries - 1)) path=3 HWREG 0x0000000000000002"
+    round result full.result
+}
+
+# An entry has its path; text of before has it for program starts alone, and nothing is guessed.
+paths_as_text() {
+    result_of today 'result\nentry 0 path=0 MSCAL 5\nentry 1 path=0x0 0x101 6\nentry 2 path=0 MSCNT 0\n'
+    result_of before 'result\nentry 0 MSCAL 5\nentry 1 257 6\nentry 2 0x102 0\n'
+    same today before 'program starts without a path'
+    for register in PRIM 0 0x54 255 0xFF 259 0x200 18446744073709551615; do
+        bad_text result 3 "entry 1 has no path: write 'entry 1 path=2 $register 0x6', or path=3 where path 3 wrote it; only MSCAL, MSCALF and MSCNT go without" \
+            "result\nentry 0 MSCAL 5\nentry 1 $register 0x6\n"
+        bad_text capture 2 'entry 0 has no path: ' "capture\nentry 0 $register 6\n"
+        result_of given "result\nentry 0 path=3 $register 0x6\n"
+        round result given
+    done
+    result_of odd 'result\nentry 0 path=18446744073709551615 PRIM 1\nentry 1 path=7 MSCAL 2\nentry 2 path=0 PRIM 3\nentry 3 path=1 LABEL 4\n'
+    round result odd
+    entries_are odd '0 path=18446744073709551615 PRIM 0x0000000000000001' '1 path=7 MSCAL 0x0000000000000002' '2 path=0 PRIM 0x0000000000000003' \
+        '3 path=1 LABEL 0x0000000000000004'
+    for path in 'path=' 'path=two' 'path=-1' 'path=18446744073709551616' 'path=2,3'; do
+        bad_text result 2 "'$path': a path is 2 or 3 for a write of the GIF, 0 for a program start; give a number" "result\nentry 0 $path PRIM 6\n"
+    done
+    for rest in '' '5' 'path=2' 'path=2 PRIM' 'path=2 PRIM 6 7' 'PRIM 6 path=2' 'PRIM 6 7' '2 PRIM 6'; do
+        bad_text result 2 "after 'entry' come " "result\nentry 0 $rest\n"
+        says err 'its number, path=P, a register and a value'
+    done
+    bad_text result 2 "'NAME' is no register" 'result\nentry 0 path=2 NAME 6\n'
+}
+
+# The length of a log: entries, and numbers beyond them; in text of before numbers, two an entry.
+log_lengths_as_text() {
+    for words in ' 65536' 'log-entries=32 32' 'log-numbers=64 32' 'log-numbers=131072 65536' 'log-numbers=0 0' 'log-entries=0 0' 'log-numbers=0x10 8'; do
+        result_of length "result ${words% *}\n"
+        test $(($(words length $((result_head - 8)) 1))) = $((3 * ${words##* })) || fail "a result's log by '$words'"
+        expect 0 dump length
+        says out " log-entries=${words##* }"
+        if grep 'log-numbers' out; then fail 'the word of before'; fi
+        capture_of length.capture "capture ${words% *}\n"
+        test $(($(words length.capture 28 1))) = $((3 * ${words##* })) || fail "a capture's log by '$words'"
+        capture_of length.case "capture fill=1 ${words% *}\n"
+        test $(($(words length.case 20 1))) = $((3 * ${words##* })) || fail "a test case's log by '$words'"
+    done
+    for words in 'log-entries=2 log-rest=1 7' 'log-rest=2 196610' 'log-numbers=5 7' 'log-numbers=131073 196609'; do
+        capture_of length.capture "capture ${words% *}\n"
+        test $(($(words length.capture 28 1))) = "${words##* }" || fail "a capture's log by '$words'"
+        round capture length.capture
+        says round.txt ' log-rest='
+    done
+    for words in 'log-entries=3 log-numbers=6' 'log-numbers=6 log-entries=3' 'log-numbers=6 log-rest=0'; do
+        bad_text capture 1 "'log-numbers' is of text from before, 2 an entry: leave it out" "capture $words\n"
+    done
+    bad_text result 1 "'log-numbers' is of text from before" 'result log-numbers=4 log-entries=2\n'
+    bad_text capture 1 "log-rest=3: the numbers beyond whole entries are less than an entry's 3" 'capture log-rest=3\n'
+    bad_text result 1 "'result' has no field 'log-rest'" 'result log-rest=1\n'
+    bad_text result 1 'log-numbers=5: a result keeps a log of whole entries' 'result log-numbers=5\n'
+    bad_text capture 1 '65539 entries of the log are 196617 numbers; the most is 196616' 'capture log-entries=65539\n'
+    bad_text capture 1 '65539 entries of the log are 196617 numbers; the most is 196616' 'capture log-numbers=131078\n'
+    bad_text capture 1 '1431655766 entries of the log are 4294967298 numbers; the most is 196616' 'capture log-entries=1431655766\n'
+    bad_text result 1 '65537 entries of the log are 196611 numbers; the most is 196608' 'result log-entries=65537\n'
+    bad_text result 1 '1431655766 entries of the log are 4294967298 numbers; the most is 196608' 'result log-entries=1431655766\n'
+    bad_text capture 1 'log-entries=4294967296: the field has 32 bits' 'capture log-entries=4294967296\n'
+    bad_text capture '' 'damaged capture: 6 numbers given of the log; the most is 3' 'capture log-entries=1\nentry 0 MSCAL 1\nentry 1 MSCAL 1\n'
+}
+
+# told_two FILE ENTRIES: the raw log is told to have two numbers an entry.
+told_two() {
+    expect 2 import --log "$1" -o bad.out
+    case $2 in 1) told='1 entry' ;; *) told="$2 entries" ;; esac
+    says err "$1: no dump of a log: $((16 * $2)) bytes, which read as $told from before the path was logged, 2 numbers each, register and value; here an entry has 24 bytes, 3 numbers each, path, register and value"
+    expect 2 assemble capture plain.capture.txt -o bad.out --log "$1"
+    says err "$1: no dump of a log: $((16 * $2)) bytes, which read as $told from before the path was logged"
+    absent bad.out
+}
+
+# Raw logs: three numbers an entry, out and in; what is no whole entry, and what has two numbers an entry, is refused with the width.
+paths_raw() {
+    expect 0 export paths.result --log paths.log
+    numbers 0 256 5 2 0 6 2 71 327693 2 97 0 0 258 0 3 0 6 3 71 327693 3 97 0 > wanted
+    same paths.log wanted 'an exported log'
+    expect 0 import --log paths.log -o board.result
+    says out 'board.result: log'
+    says out '  log: 8 entries of 3 numbers: path, register and value'
+    expect 0 compare paths.result board.result
+    expect 0 assemble capture plain.capture.txt -o logged.capture --log paths.log
+    expect 0 export logged.capture --log got
+    same got paths.log 'the log of a capture'
+    for bytes in 1 8 23 25 40 191 193; do
+        head -c $bytes "$second" > cut.log
+        expect 2 import --log cut.log -o bad.out
+        says err "cut.log: no dump of a log: $bytes bytes; a log is whole entries of 24 bytes, 3 numbers each, path, register and value, at most 1572864 bytes"
+    done
+    numbers 2 0 6 2 71 > cut.log
+    expect 2 import --log cut.log -o bad.out
+    says err 'cut.log: no dump of a log: 40 bytes; a log is whole entries of 24 bytes, 3 numbers each'
+    numbers 0 6 256 5 > two.log && told_two two.log 2
+    numbers 256 5 > two.log && told_two two.log 1
+    numbers 0 6 71 327693 256 5 > two.log && told_two two.log 3
+    numbers 256 5 257 6 258 0 > two.log && told_two two.log 3
+    numbers 300 5 > cut.log
+    expect 2 import --log cut.log -o bad.out
+    says err 'cut.log: no dump of a log: 16 bytes; a log is whole entries of 24 bytes'
+    : > none.log
+    expect 0 import --log none.log -o none.result
+    says out '  log: 0 entries of 3 numbers'
+    numbers 0 256 5 > one.log
+    expect 0 import --log one.log -o one.result
+    says out '  log: 1 entry of 3 numbers'
+    for kept in '0 256 5 0 258 0' '2 256 5 1 256 5' '3 0 6 3 0 6' '2 1 999 77 5 1' '9 300 999 7 301 999'; do
+        numbers $kept > kept.log
+        expect 0 import --log kept.log -o kept.result
+        expect 0 export kept.result --log got
+        same got kept.log 'a raw log to a result and back'
+    done
+    absent bad.out
+}
+
+# Boards whose logs differ in the path alone, and in more.
+paths_compared() {
+    "$command" dump paths.result > paths.txt
+    edited paths.txt 's/^entry 5 path=3/entry 5 path=2/'
+    cp board one
+    expect 1 compare paths.result one
+    says out 'log: 1 entry differs (in the path alone), the first is 5'
+    says out '  log entry 5, in the path alone'
+    says out '    paths.result  path 3, register 0x00 PRIM, value 0x0000000000000006 (6)'
+    says out '    one           path 2, register 0x00 PRIM, value 0x0000000000000006 (6)'
+    test "$(tail -n 1 out)" = different || fail 'a path in the verdict'
+    expect 0 compare paths.result one --only data,code,data0,code0
+    edited paths.txt 's/^entry 2 path=2 TEST_1.*/entry 2 path=3 TEST_1 1/;s/^entry 5 path=3/entry 5 path=0/;s/^entry 4 path=0/entry 4 path=2/'
+    cp board three
+    expect 1 compare paths.result three --all
+    says out 'log: 3 entries differ (2 in the path alone), the first is 2'
+    grep -qx '  log entry 2' out || fail 'a value that differs too'
+    says out '  log entry 4, in the path alone'
+    says out '    three         path 2, register 0x102 MSCNT, value 0x0000000000000000 (0)'
+    edited paths.txt 's/^entry 7 path=3 FINISH/entry 7 path=2 SIGNAL/'
+    cp board other
+    expect 1 compare paths.result other
+    says out 'log: 1 entry differs, the first is 7'
+    cp paths.result good.result
+    expect 1 compare paths.result one three other good.result
+    says out 'one          different     entry 5: path 2, not 3  1 entry (in the path alone)'
+    says out 'three        different     entry 2               3 entries (2 in the path alone)'
+    says out 'other        different     entry 7               1 entry'
+    says out 'good.result  equal'
+    expect 1 compare paths.result one three other --json --all
+    well_formed json out
+    says out '"log": {"compared": 8, "different": 1, "path_alone": 1, "result_entries": 8, "board_entries": 8, "differences": ['
+    says out '"log": {"compared": 8, "different": 3, "path_alone": 2, '
+    says out '"log": {"compared": 8, "different": 1, "path_alone": 0, '
+    says out '{"number": 5, "path_alone": true, "result": {"path": 3, "register": 0, "value": "0x0000000000000006"}, "board": {"path": 2, "register": 0, "value": "0x0000000000000006"}}'
+    says out '{"number": 7, "path_alone": false, "result": {"path": 3, "register": 97, '
+    expect 1 report paths.result one three other -o page.html
+    well_formed page page.html
+    says page.html 'entry 5<br/>in the path alone</td><td class="hex">path 3, 0x00 PRIM 0x0000000000000006</td><td class="hex">path 2, 0x00 PRIM 0x0000000000000006</td>'
+    says page.html 'the board <span class="number">8</span>. Different in the path alone: <span class="number">2</span>.</p>'
+    says page.html 'entry 7</td><td class="hex">path 3, 0x61 FINISH'
+    test "$(grep -c 'in the path alone: ' page.html)" = 2 || fail 'a page of a board whose paths are the same'
+    sed 's/used=8/used=5/' paths.txt > short.txt
+    expect 0 assemble result short.txt -o short
+    expect 1 compare paths.result short
+    says out '    paths.result  path 3, register 0x00 PRIM'
+}
+
 # What is given twice; and every one of 65,536 differences shown in a moment.
 repeated() {
     bad_text result 3 'quadword 10 is given twice' 'result\nquadword 10 1 2 3 4\nquadword 10 1 2 3 4\n'
     bad_text result 3 'instruction 2047 is given twice' 'result\ninstruction 2047 1\ninstruction 0x7FF 1\n'
-    bad_text result 3 'entry 0 is given twice' 'result\nentry 0 1 1\nentry 0 1 2\n'
+    bad_text result 3 'entry 0 is given twice' 'result\nentry 0 path=3 1 1\nentry 0 path=3 1 2\n'
     bad_text capture 3 'quadword 10 is given twice' 'capture\nquadword 10 1 2 3 4\nquadword 10 1 2 3 4\n'
     echo result > long.txt
     cp long.txt other.txt
-    seq 0 $((entries - 1)) | sed 's/.*/entry & 1 1/' >> long.txt
-    seq 0 $((entries - 1)) | sed 's/.*/entry & 1 2/' >> other.txt
+    seq 0 $((entries - 1)) | sed 's/.*/entry & path=3 1 1/' >> long.txt
+    seq 0 $((entries - 1)) | sed 's/.*/entry & path=3 1 2/' >> other.txt
     expect 0 assemble result long.txt -o long
     expect 0 assemble result other.txt -o other
     timeout 10 "$command" compare long other --all > out 2> err
@@ -1792,7 +2078,7 @@ repeated() {
 }
 
 for name in ${TESTS:-layout state_words usage bench_points meanings refused_sheets examples comparisons damaged_files other_layouts bad_texts entries_used \
-    unfinished beginnings one_file outputs dashes repeated rack messages long_runs conventions report dumps vif0 packets generated_sheets generated_captures}; do
+    unfinished beginnings one_file outputs dashes repeated rack messages long_runs conventions report dumps vif0 packets paths generated_sheets generated_captures}; do
     "$name"
 done
 echo "host/test.sh: all as it has to be"

@@ -23,6 +23,22 @@ bool has_part(const struct comparison *comparison, enum part part)
     return is_compared(comparison->verdict) && (comparison->parts & PART_BIT(part)) != 0;
 }
 
+bool is_path_alone(const struct board *a, const struct board *b, size_t number)
+{
+    const uint64_t *x = board_entry(a, number), *y = board_entry(b, number);
+    return x[TEJBORUN_ENTRY_PATH] != y[TEJBORUN_ENTRY_PATH] && x[TEJBORUN_ENTRY_REGISTER] == y[TEJBORUN_ENTRY_REGISTER] &&
+           x[TEJBORUN_ENTRY_VALUE] == y[TEJBORUN_ENTRY_VALUE];
+}
+
+/* How many of the first entries do. */
+static uint64_t count_path_alone(const struct board *a, const struct board *b, uint64_t entries)
+{
+    uint64_t count = 0;
+    for (uint64_t i = 0; i < entries; i++)
+        count += is_path_alone(a, b, i);
+    return count;
+}
+
 /* What the library's numbers say of a part: it gives the number compared in place of the first where none differs. */
 static struct found found_in(const struct board *a, const struct board *b, enum part part, const uint64_t *numbers)
 {
@@ -31,6 +47,7 @@ static struct found found_in(const struct board *a, const struct board *b, enum 
         .compared = part == PART_LOG ? both : board_units(a, part),
         .count = numbers[2 * part + 1],
         .first = numbers[2 * part],
+        .path_alone = part == PART_LOG ? count_path_alone(a, b, both) : 0,
     };
 }
 

@@ -19,9 +19,9 @@ enum reason {
     REASON_PARTS,      /* a part that is asked for is lacking, or they have none in common */
 };
 
-/* What was found in a part: how many units differ, and the first of them. */
+/* What was found in a part: how many units differ, and the first of them; of the log also how many differ in the path alone. */
 struct found {
-    uint64_t compared, count, first;
+    uint64_t compared, count, first, path_alone;
 };
 
 struct comparison {
@@ -49,6 +49,9 @@ bool has_part(const struct comparison *comparison, enum part part);
 
 /* Asks the library for its verdict. The one place where a verdict is asked for. */
 struct comparison compare_results(const struct result *result, const struct result *board, const struct wanted *wanted);
+
+/* Whether an entry of two logs differs in the path alone. */
+bool is_path_alone(const struct board *a, const struct board *b, size_t number);
 
 /* The numbers of the units of a part that differ, as many as the library has counted; null where the boards have others. The caller frees them. */
 size_t *differing_units(const struct board *a, const struct board *b, enum part part, const struct found *found);

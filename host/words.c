@@ -21,7 +21,7 @@ static const struct named registers[] = {
     {0x46, "COLCLAMP"},   {0x47, "TEST_1"},     {0x48, "TEST_2"},    {0x49, "PABE"},       {0x4A, "FBA_1"},     {0x4B, "FBA_2"},
     {0x4C, "FRAME_1"},    {0x4D, "FRAME_2"},    {0x4E, "ZBUF_1"},    {0x4F, "ZBUF_2"},     {0x50, "BITBLTBUF"}, {0x51, "TRXPOS"},
     {0x52, "TRXREG"},     {0x53, "TRXDIR"},     {0x54, "HWREG"},     {0x60, "SIGNAL"},     {0x61, "FINISH"},    {0x62, "LABEL"},
-    {256, "MSCAL"},       {257, "MSCALF"},      {258, "MSCNT"},
+    {FIRST_START, "MSCAL"}, {257, "MSCALF"},    {LAST_START, "MSCNT"},
 };
 
 const char *register_name(uint64_t number)
@@ -52,6 +52,11 @@ const char *descriptor_name(unsigned descriptor)
         "CLAMP_1", "CLAMP_2", "FOG", "B",  "XYZF3", "XYZ3", "A+D",    "nothing",
     };
     return names[descriptor % 16];
+}
+
+bool is_program_start(uint64_t log_register)
+{
+    return log_register >= FIRST_START && log_register <= LAST_START;
 }
 
 const char *plural(uint64_t count, const char *one, const char *many)

@@ -2,6 +2,7 @@
 #ifndef WORDS_H
 #define WORDS_H
 
+#include <stdbool.h>
 #include <stddef.h>
 #include <stdint.h>
 
@@ -16,6 +17,10 @@ const char *listed_register(size_t place);
 
 /* The name of a GIF descriptor, 0 to 15. */
 const char *descriptor_name(unsigned descriptor);
+
+/* The registers of program starts in a log, MSCAL, MSCALF and MSCNT, which are its last; whether a register is one of them. */
+enum { FIRST_START = 256, LAST_START = 258 };
+bool is_program_start(uint64_t log_register);
 
 /* The one or the many, for counts: "entry" or "entries". */
 const char *plural(uint64_t count, const char *one, const char *many);
