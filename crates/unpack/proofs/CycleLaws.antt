@@ -82,6 +82,19 @@ module _ (cl wl : ℕ) where
         go false f = rw (add-one, plain-vectors i f, plain-vectors (suc i) f)
         go true f = let h = leb-false cl (i % wl) (rw f at e) in rw (add-one, vectors-here f, vectors-next f) (omega arith)
 
+    -- a fill comes after the CL writes that take a vector
+    pub fill-late : fills cl wl i ≡ true → cl ≤ i % wl
+    unfolding fills
+    fill-late e = leb-true cl (i % wl) (and-right (filling cl wl) _ e)
+
+    pub payload-early : fills cl wl i ≡ false → i % wl < cl
+    unfolding fills
+    payload-early e = go (filling cl wl) refl
+      where
+        go : (t : Bool) → filling cl wl ≡ t → i % wl < cl
+        go false f = let l = ltb-false cl wl f in let m = mod-lt i w in omega arith
+        go true f = leb-false cl (i % wl) (rw f at e)
+
     grows : vectorsBefore cl wl i ≤ vectorsBefore cl wl (suc i)
     grows = go (filling cl wl) refl
       where

@@ -8,3 +8,4 @@ pub mod StepLaws
 pub mod WholeLaws
 pub mod LengthLaws
 pub mod WordsLaws
+pub mod ShortLaws

@@ -418,7 +418,7 @@ plain-code : (r f : ℕ) → codeAt 0 r f ≡ 0
 unfolding codeAt
 plain-code r f = rw zero-div
 
-plain-codes : (c : ℕ) → plain (codeRow 0 c) 0 ≡ true
+pub plain-codes : (c : ℕ) → plain (codeRow 0 c) 0 ≡ true
 unfolding plain
 plain-codes c = simp plain-code
 
@@ -459,7 +459,7 @@ unfolding payloadVector vectorAt vectorBits fieldsOf fourWords if
 v4-vector usn h j =
     rw (v4-element usn h j 0 (4 * j) (omega arith), v4-element usn h j 1 (4 * j + 1) (omega arith), v4-element usn h j 2 (4 * j + 2) (omega arith), v4-element usn h j 3 (4 * j + 3) (omega arith))
 
-v4-words : (n : ℕ) → payloadWords V4x32 n ≡ 4 * n
+pub v4-words : (n : ℕ) → payloadWords V4x32 n ≡ 4 * n
 unfolding payloadWords vectorBits
 v4-words n = omega arith
 

@@ -9,3 +9,4 @@ pub mod Range
 pub mod Step
 pub mod Whole
 pub mod Inner
+pub mod Short

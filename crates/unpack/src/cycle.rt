@@ -20,7 +20,7 @@ pub(crate) fn place_in_cycle(wl: u32, i: u32) -> u32
     if wl == 1 { 0 } else { i % wl }
 }
 
-fn smaller(a: u32, b: u32) -> u32
+pub(crate) fn smaller(a: u32, b: u32) -> u32
     ensures { λ r. ⌜ r ≡ min a b ⌝ }
 {
     if a < b { a } else { b }

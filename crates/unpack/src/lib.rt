@@ -4,6 +4,7 @@ mod formats;
 mod mask;
 mod payload;
 mod range;
+mod short;
 mod step;
 mod vector;
 mod words;

@@ -17,6 +17,8 @@ use super::payload::vector_bits;
 use super::payload::whole_vectors;
 use super::range::cycle_in_range;
 use super::range::unpacking_in_range;
+use super::short::goes_short;
+use super::short::take_short;
 use super::vector::vector;
 use super::write::fill_at;
 use super::write::write_at;
@@ -131,6 +133,10 @@ fn take(
     requires { ⌜ CycleFits (r .cl) (r .wl) × UnpackingFits f (r .cl) (r .wl) u × MemoryFits size (now «data») ⌝ }
     ensures { λ rows. ⌜ written rows (now («data» .exit)) ≡ unpackWord size f u r word (written row (now («data» .entry))) ⌝ }
 {
+    if goes_short(f, u, r) {
+        take_short(size, u, r, word, data);
+        return row;
+    }
     let vectors = vectors_before(r.cl, r.wl, u.count);
     let k = payload_words(f, vectors) - u.due;
     let from = whole_vectors(f, vectors, k);

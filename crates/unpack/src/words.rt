@@ -7,6 +7,8 @@ use super::WordsTaken;
 use super::cycle::vectors_before;
 use super::payload::payload_words;
 use super::payload::whole_vectors;
+use super::short::goes_short;
+use super::short::take_all;
 use super::step::acceptable_input;
 use super::step::write_completed;
 use fields::word_at;
@@ -96,6 +98,14 @@ pub fn take_words(
     ensures { λ s. ⌜ wordsLeft s (now («data» .exit)) ≡ takeWordsOf size f u r (now (main .entry)) a n row (now («data» .entry)) ⌝ }
 {
     if words_acceptable(size, f, u, r, a, n, data) {
+        if goes_short(f, u, r) {
+            let rest = take_all(size, u, r, main, a, n, data);
+            return WordsTaken {
+                accepted: true,
+                row,
+                rest,
+            };
+        }
         take_each(size, f, u, r, main, a, n, row, data)
     } else {
         WordsTaken {

@@ -90,7 +90,7 @@ fn put_fields(
 }
 
 // Four words stored at a quadword.
-fn store_quadword(data: &mut [u32], quad: usize, words: [u32; 4])
+pub(crate) fn store_quadword(data: &mut [u32], quad: usize, words: [u32; 4])
     requires { ⌜ 4 * quad + 4 ≤ length (now «data») ⌝ }
     ensures { λ _. ⌜ now («data» .exit) ≡ storeQuadword (now («data» .entry)) quad words ⌝ }
 {
@@ -141,7 +141,7 @@ fn write_quadword(
 }
 
 // A place modulo the memory's size.
-fn wrapped(size: u32, at: u32) -> u32
+pub(crate) fn wrapped(size: u32, at: u32) -> u32
     requires { ⌜ 0 < size ⌝ }
     ensures { λ r. ⌜ r ≡ at % size ⌝ }
 {
@@ -158,7 +158,7 @@ fn position(size: u32, address: u32, cl: u32, wl: u32, i: u32) -> u32
 }
 
 // The quadword that write i goes to.
-fn place(size: u32, address: u32, cl: u32, wl: u32, i: u32) -> u32
+pub(crate) fn place(size: u32, address: u32, cl: u32, wl: u32, i: u32) -> u32
     requires { ⌜ CycleFits cl wl × (0 < size) × (address ≤ addressMost) × (i ≤ 255) ⌝ }
     ensures { λ r. ⌜ r ≡ positionOf size address cl wl i ⌝ }
 {

@@ -1,0 +1,358 @@
+// V4-32 with M clear and MODE 0 by a short way: a vector's four words are stored as they came, and no elements are split.
+use super::Format;
+use super::Registers;
+use super::Unpacking;
+use super::cycle::place_in_cycle;
+use super::cycle::smaller;
+use super::cycle::vectors_before;
+use super::cycle::writes_done;
+use super::words::held;
+use super::write::place;
+use super::write::store_quadword;
+use super::write::wrapped;
+use fields::word_at;
+ghost use mathlib.Core.Path.{_≡_};
+ghost use mathlib.Core.Bool.{Bool, true, false};
+ghost use mathlib.Core.List.{List, [], _∷_};
+ghost use Prim.Native.Nat.{ℕ, suc, _<_, _≤_, _+_, _*_, _-_, _/_, _%_, _^_};
+ghost use lib.ListN.{length};
+ghost use Rattle.fields.specs.Memory.{wordAt};
+ghost use Rattle.unpack.specs.Position.{addressMost, positionOf, vectorsBefore};
+ghost use Rattle.unpack.specs.Range.{CycleFits};
+ghost use Rattle.unpack.specs.Inner.{MemoryFits};
+ghost use Rattle.unpack.specs.Whole.{wordsFrom};
+ghost use Rattle.unpack.specs.Short.{isWhole, goesShort, quadFrom, storesFrom, wordsOfWrite, copyWords, ShortFits, CopyFits, Stride, ShortWord, ShortCopy, ShortWords, skipped};
+
+fn is_whole(f: Format) -> bool
+    ensures { λ r. ⌜ r ≡ isWhole f ⌝ }
+{
+    match f {
+        Format::S32 => false,
+        Format::S16 => false,
+        Format::S8 => false,
+        Format::V2x32 => false,
+        Format::V2x16 => false,
+        Format::V2x8 => false,
+        Format::V3x32 => false,
+        Format::V3x16 => false,
+        Format::V3x8 => false,
+        Format::V4x32 => true,
+        Format::V4x16 => false,
+        Format::V4x8 => false,
+        Format::V4x5 => false,
+    }
+}
+
+// Whether an UNPACK takes the short way.
+pub(crate) fn goes_short(f: Format, u: Unpacking, r: Registers) -> bool
+    ensures { λ b. ⌜ b ≡ goesShort f u r ⌝ }
+{
+    if u.masked {
+        return false;
+    }
+    if r.mode != 0 {
+        return false;
+    }
+    is_whole(f)
+}
+
+// Four words, of 32 bits each.
+fn four(a: u32, b: u32, c: u32, d: u32) -> [u32; 4]
+    ensures { λ r. ⌜ (r ≡ a ∷ b ∷ c ∷ d ∷ []) × (a < 2 ^ 32) × (b < 2 ^ 32) × (c < 2 ^ 32) × (d < 2 ^ 32) ⌝ }
+{
+    [a, b, c, d]
+}
+
+// The writes from number `first` to below `last`, all of one vector.
+fn store_each(
+    size: u32,
+    address: u32,
+    r: Registers,
+    first: u32,
+    last: u32,
+    words: [u32; 4],
+    data: &mut [u32],
+)
+    requires { ⌜ CycleFits (r .cl) (r .wl) × MemoryFits size (now «data») × (address ≤ addressMost) × (last ≤ 256) ⌝ }
+    ensures { λ _. ⌜ now («data» .exit)
+        ≡ storesFrom (positionOf size address (r .cl) (r .wl)) (λ (i : ℕ). words) (last - first) first (now («data» .entry)) ⌝ }
+{
+    let mut i = first;
+    while i < last {
+        let quad = place(size, address, r.cl, r.wl, i);
+        store_quadword(data, quad as usize, words);
+        i += 1;
+    }
+}
+
+// One payload word: the fourth of a vector stores the four.
+pub(crate) fn take_short(size: u32, u: Unpacking, r: Registers, word: u32, data: &mut [u32])
+    requires { ⌜ ShortFits size u r (now «data») ⌝ }
+    ensures { λ _. ⌜ ShortWord size u r word (now («data» .entry)) (now («data» .exit)) ⌝ }
+{
+    if u.due % 4 != 1 {
+        return;
+    }
+    let v = vectors_before(r.cl, r.wl, u.count) - u.due / 4 - 1;
+    let first = writes_done(r.cl, r.wl, v, u.count);
+    let last = writes_done(r.cl, r.wl, v + 1, u.count);
+    let words = four(u.first, u.second, u.third, word);
+    store_each(size, u.address, r, first, last, words, data);
+}
+
+fn wide(x: u8) -> u32
+    ensures { λ r. ⌜ (r ≡ x) × (r < 256) ⌝ }
+{
+    x as u32
+}
+
+// The word at a place that lies inside.
+fn word_inside(main: &[u8], at: usize) -> u32
+    requires { ⌜ at + 4 ≤ length (now main) ⌝ }
+    ensures { λ r. ⌜ r ≡ wordAt (now (main .entry)) at ⌝ }
+{
+    wide(main[at])
+        + wide(main[at + 1]) * 256
+        + wide(main[at + 2]) * 65536
+        + wide(main[at + 3]) * 16777216
+}
+
+// The four words at a place that lies inside.
+fn quad_inside(main: &[u8], at: usize) -> [u32; 4]
+    requires { ⌜ at + 16 ≤ length (now main) ⌝ }
+    ensures { λ r. ⌜ r ≡ quadFrom (now (main .entry)) at ⌝ }
+{
+    [
+        word_inside(main, at),
+        word_inside(main, at + 4),
+        word_inside(main, at + 8),
+        word_inside(main, at + 12),
+    ]
+}
+
+// n words from a byte on, one after another.
+fn copy_words(main: &[u8], a: usize, n: usize, data: &mut [u32], to: usize)
+    requires { ⌜ (a + 4 * n ≤ length (now main)) × (to + n ≤ length (now «data»)) ⌝ }
+    ensures { λ _. ⌜ now («data» .exit) ≡ copyWords (now (main .entry)) n a to (now («data» .entry)) ⌝ }
+{
+    let mut j: usize = 0;
+    while j < n {
+        data[to + j] = word_inside(main, a + 4 * j);
+        j += 1;
+    }
+}
+
+// Quadword after quadword, up to the wrap and on from it.
+fn copy_runs(
+    size: u32,
+    address: u32,
+    first: u32,
+    last: u32,
+    main: &[u8],
+    a: usize,
+    data: &mut [u32],
+)
+    requires { ⌜ MemoryFits size (now «data») × (address ≤ addressMost) × (last ≤ 256) × (first < last) × (a + 16 * (last - first) ≤ length (now main)) ⌝ }
+    ensures { λ _. ⌜ now («data» .exit)
+        ≡ storesFrom (λ (i : ℕ). (address + i) % size) (λ (i : ℕ). quadFrom (now (main .entry)) (a + 16 * suc i - 16 * suc first)) (last - first) first
+        (now («data» .entry)) ⌝ }
+{
+    let mut i = first;
+    let mut at = a;
+    while i < last {
+        let quad = wrapped(size, address + i);
+        let run = smaller(last - i, size - quad);
+        copy_words(main, at, 4 * run as usize, data, 4 * quad as usize);
+        at += 16 * run as usize;
+        i += run;
+    }
+}
+
+// How far the next write lies from one that is at a place of its cycle.
+fn stride(cl: u32, wl: u32, cycle: u32) -> u32
+    requires { ⌜ CycleFits cl wl × (cycle < wl) ⌝ }
+    ensures { λ d. ⌜ Stride cl wl cycle d ⌝ }
+{
+    if cl < wl {
+        return 1;
+    }
+    if cycle + 1 == wl { 1 + (cl - wl) } else { 1 }
+}
+
+// The place in its cycle of the write after one.
+fn next_in_cycle(wl: u32, cycle: u32) -> u32
+    requires { ⌜ (wl ≤ 255) × (cycle < wl) ⌝ }
+    ensures { λ d. ⌜ (cycle + 1 ≡ wl → d ≡ 0) × (cycle + 1 < wl → d ≡ cycle + 1) ⌝ }
+{
+    if cycle + 1 == wl { 0 } else { cycle + 1 }
+}
+
+// Where the vector of a write at a place of its cycle lies, from that of the write before it: a fill has the same.
+fn next_vector(cl: u32, cycle: u32, at: usize) -> usize
+    requires { ⌜ at < 2 ^ 33 ⌝ }
+    ensures { λ b. ⌜ (cycle < cl → b ≡ at + 16) × (cl ≤ cycle → b ≡ at) ⌝ }
+{
+    if cycle < cl { at + 16 } else { at }
+}
+
+// Write after write, their places advanced.
+fn copy_apart(
+    size: u32,
+    address: u32,
+    r: Registers,
+    first: u32,
+    last: u32,
+    main: &[u8],
+    a: usize,
+    data: &mut [u32],
+)
+    requires { ⌜ CopyFits size address (r .cl) (r .wl) first last a (now main) (now «data») ⌝ }
+    ensures { λ _. ⌜ now («data» .exit)
+        ≡ storesFrom (positionOf size address (r .cl) (r .wl)) (wordsOfWrite (now (main .entry)) a (r .cl) (r .wl) first) (last - first) first
+        (now («data» .entry)) ⌝ }
+{
+    let mut quad = place(size, address, r.cl, r.wl, first);
+    let mut cycle = place_in_cycle(r.wl, first);
+    let mut at = a;
+    let mut i = first;
+    while i < last {
+        let words = quad_inside(main, at);
+        store_quadword(data, quad as usize, words);
+        let next = wrapped(size, quad + stride(r.cl, r.wl, cycle));
+        quad = next;
+        let turn = next_in_cycle(r.wl, cycle);
+        cycle = turn;
+        let from = next_vector(r.cl, turn, at);
+        at = from;
+        i += 1;
+    }
+}
+
+// The writes from number `first` to below `last`.
+fn copy_writes(
+    size: u32,
+    address: u32,
+    r: Registers,
+    first: u32,
+    last: u32,
+    main: &[u8],
+    a: usize,
+    data: &mut [u32],
+)
+    requires { ⌜ CopyFits size address (r .cl) (r .wl) first last a (now main) (now «data») ⌝ }
+    ensures { λ _. ⌜ now («data» .exit)
+        ≡ storesFrom (positionOf size address (r .cl) (r .wl)) (wordsOfWrite (now (main .entry)) a (r .cl) (r .wl) first) (last - first) first
+        (now («data» .entry)) ⌝ }
+{
+    if r.cl == r.wl {
+        copy_runs(size, address, first, last, main, a, data);
+    } else {
+        copy_apart(size, address, r, first, last, main, a, data);
+    }
+}
+
+// The whole vectors of n payload words, which lie in main memory from byte a on, and the fills after them.
+fn copy_vectors(
+    size: u32,
+    u: Unpacking,
+    r: Registers,
+    n: u32,
+    main: &[u8],
+    a: usize,
+    data: &mut [u32],
+)
+    requires { ⌜ ShortFits size u r (now «data») × (u .due % 4 ≡ 0) × (4 ≤ n) × (n < u .due) × (a + 4 * n ≤ length (now main)) × (a < 2 ^ 32) ⌝ }
+    ensures { λ _. ⌜ ShortCopy size u r (wordsFrom (now (main .entry)) a n) (now («data» .entry)) (now («data» .exit)) ⌝ }
+{
+    let v = vectors_before(r.cl, r.wl, u.count) - u.due / 4;
+    let first = writes_done(r.cl, r.wl, v, u.count);
+    let last = writes_done(r.cl, r.wl, v + n / 4, u.count);
+    copy_writes(size, u.address, r, first, last, main, a, data);
+}
+
+// What waits after k words that end at a byte.
+fn skip(u: Unpacking, k: u32, main: &[u8], end: usize) -> Unpacking
+    requires { ⌜ (k ≤ u .due) × (12 ≤ end) × (end ≤ length (now main)) ⌝ }
+    ensures { λ rest. ⌜ rest
+        ≡ skipped u k (wordAt (now (main .entry)) (end - 12)) (wordAt (now (main .entry)) (end - 8)) (wordAt (now (main .entry)) (end - 4)) ⌝ }
+{
+    Unpacking {
+        address: u.address,
+        count: u.count,
+        due: u.due - k,
+        usn: u.usn,
+        masked: u.masked,
+        interrupt: u.interrupt,
+        first: word_inside(main, end - 12),
+        second: word_inside(main, end - 8),
+        third: word_inside(main, end - 4),
+    }
+}
+
+// n payload words, one after another.
+fn take_singly(
+    size: u32,
+    u: Unpacking,
+    r: Registers,
+    main: &[u8],
+    a: u32,
+    n: u32,
+    data: &mut [u32],
+) -> Unpacking
+    requires { ⌜ ShortFits size u r (now «data») × (n < u .due) × (a + 4 * n < 2 ^ 32) ⌝ }
+    ensures { λ rest. ⌜ ShortFits size rest r (now («data» .exit)) × (rest .due + n ≡ u .due)
+        × ShortWords size u r (wordsFrom (now (main .entry)) a n) (now («data» .entry)) rest (now («data» .exit)) ⌝ }
+{
+    let mut rest = u;
+    let mut k: u32 = 0;
+    while k < n {
+        let word = word_at(main, a + 4 * k);
+        take_short(size, rest, r, word, data);
+        rest = held(rest, word);
+        k += 1;
+    }
+    rest
+}
+
+// n payload words, from the start of a vector on where they are four or more: whole vectors are copied where they lie inside main memory.
+fn take_vectors(
+    size: u32,
+    u: Unpacking,
+    r: Registers,
+    main: &[u8],
+    a: u32,
+    n: u32,
+    data: &mut [u32],
+) -> Unpacking
+    requires { ⌜ ShortFits size u r (now «data») × (n < u .due) × (a + 4 * n < 2 ^ 32) × (4 ≤ n → u .due % 4 ≡ 0) ⌝ }
+    ensures { λ rest. ⌜ ShortWords size u r (wordsFrom (now (main .entry)) a n) (now («data» .entry)) rest (now («data» .exit)) ⌝ }
+{
+    let at = a as usize;
+    let end = at + 4 * n as usize;
+    if n < 4 {
+        return take_singly(size, u, r, main, a, n, data);
+    }
+    if main.len() < end {
+        return take_singly(size, u, r, main, a, n, data);
+    }
+    copy_vectors(size, u, r, n, main, at, data);
+    skip(u, n, main, end)
+}
+
+// The next n payload words, not the last: those up to a vector's end, and those after them.
+pub(crate) fn take_all(
+    size: u32,
+    u: Unpacking,
+    r: Registers,
+    main: &[u8],
+    a: u32,
+    n: u32,
+    data: &mut [u32],
+) -> Unpacking
+    requires { ⌜ ShortFits size u r (now «data») × (n < u .due) × (a ≤ 1048576) ⌝ }
+    ensures { λ rest. ⌜ ShortWords size u r (wordsFrom (now (main .entry)) a n) (now («data» .entry)) rest (now («data» .exit)) ⌝ }
+{
+    let lead = smaller(u.due % 4, n);
+    let begun = take_singly(size, u, r, main, a, lead, data);
+    take_vectors(size, begun, r, main, a + 4 * lead, n - lead, data)
+}
