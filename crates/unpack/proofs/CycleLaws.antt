@@ -261,3 +261,63 @@ module _ (cl wl : ℕ) (w : 1 ≤ wl) where
           let l = ltb-false n x e in
           let a = after in
           done-is v n x l (rw here (omega arith)) (λ b. a) ∙ omega arith
+
+-- ---- a vector's writes
+
+module _ (cl wl n : ℕ) (w : 1 ≤ wl) where
+  -- the writes done take no more vectors than are whole
+  pub done-below : (v : ℕ) → vectorsBefore cl wl (writesDone cl wl v n) ≤ v
+  done-below v = go (writesDone cl wl v n) refl
+    where
+      go : (d : ℕ) → writesDone cl wl v n ≡ d → vectorsBefore cl wl d ≤ v
+      go zero e = rw (vectors-none cl wl) (omega arith)
+      go (suc d) e =
+          let f = done-few cl wl w v n in
+          done-exactly cl wl w v n d (omega arith) .0 (omega arith)
+
+  -- where more vectors come, they take all that are, and the next write takes the next
+  pub record Done (v : ℕ) : Type 0 where
+    pub few : writesDone cl wl v n < n
+    pub here : vectorsBefore cl wl (writesDone cl wl v n) ≡ v
+    pub next : vectorsBefore cl wl (suc (writesDone cl wl v n)) ≡ suc v
+
+  one-more : (i : ℕ) → vectorsBefore cl wl (suc i) ≤ suc (vectorsBefore cl wl i)
+  one-more i = go (fills cl wl i) refl
+    where
+      go : (t : Bool) → fills cl wl i ≡ t → vectorsBefore cl wl (suc i) ≤ suc (vectorsBefore cl wl i)
+      go true e = let q = rw add-one at (fill-next cl wl w i e) in omega arith
+      go false e = let q = rw add-one at (payload-next cl wl w i e) in omega arith
+
+  pub done-vectors : (v : ℕ) → v < vectorsBefore cl wl n → Done v
+  done-vectors v h =
+      let b = done-below v in
+      let f = fewer (ltb (writesDone cl wl v n) n) refl in
+      let a = after f (ltb v (vectorsBefore cl wl (suc (writesDone cl wl v n)))) refl in
+      let o = one-more (writesDone cl wl v n) in
+      record { few = f; here = omega arith; next = omega arith }
+    where
+      fewer : (t : Bool) → ltb (writesDone cl wl v n) n ≡ t → writesDone cl wl v n < n
+      fewer true e = ltb-true _ _ e
+      fewer false e =
+          let l = ltb-false (writesDone cl wl v n) n e in
+          let f = done-few cl wl w v n in
+          let q : writesDone cl wl v n ≡ n = omega arith in
+          let b = rw q at (done-below v) in
+          absurd (omega arith)
+
+      after : writesDone cl wl v n < n → (t : Bool) → ltb v (vectorsBefore cl wl (suc (writesDone cl wl v n))) ≡ t
+          → v < vectorsBefore cl wl (suc (writesDone cl wl v n))
+      after f true e = ltb-true _ _ e
+      after f false e =
+          let d = done-exactly cl wl w v n (writesDone cl wl v n) f .1 (ltb-false _ _ e) in
+          absurd (omega arith)
+
+  -- and more of them more writes
+  pub done-more : (v m : ℕ) → v < vectorsBefore cl wl n → 1 ≤ m → writesDone cl wl v n < writesDone cl wl (v + m) n
+  done-more v m h l =
+      let d = done-vectors v h in
+      let x = d .next in
+      done-exactly cl wl w (v + m) n (writesDone cl wl v n) (d .few) .1 (omega arith)
+
+pub done-most : (cl wl v n : ℕ) {last : ℕ} → 1 ≤ wl → n ≤ 256 → last ≡ writesDone cl wl v n → last ≤ 256
+done-most cl wl v n w h e = let f = done-few cl wl w v n in omega arith

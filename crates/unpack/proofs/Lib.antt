@@ -8,4 +8,5 @@ pub mod StepLaws
 pub mod WholeLaws
 pub mod LengthLaws
 pub mod WordsLaws
+pub mod CopyLaws
 pub mod ShortLaws

@@ -1,4 +1,5 @@
 // UNPACK: the vectors that a payload word completes are written to data memory. What each function means is said by the definitions of specs/.
+mod copy;
 mod cycle;
 mod formats;
 mod mask;

@@ -6,7 +6,7 @@ use borrow.Author.Needs.{needs}
 use Rattle.unpack.specs.Position.{positionOf}
 use Rattle.unpack.specs.Short.{storesFrom}
 use Rattle.unpack.proofs.WriteLaws.{position-inside}
-use Rattle.unpack.proofs.ShortLaws.{stores-more, stores-none}
+use Rattle.unpack.proofs.CopyLaws.{stores-more, stores-none}
 use Rattle.unpack.proofs.short.store_each.Statement.{statement}
 use Rattle.unpack.proofs.short.store_each.Tie as tie
 

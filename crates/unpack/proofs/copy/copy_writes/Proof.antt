@@ -1,8 +1,8 @@
 use native.Mathlib.Omega.{arith}
 use borrow.Author.Needs.{needs}
-use Rattle.unpack.proofs.ShortLaws.{even-vectors, even-copied}
-use Rattle.unpack.proofs.short.copy_writes.Statement.{statement}
-use Rattle.unpack.proofs.short.copy_writes.Tie as tie
+use Rattle.unpack.proofs.CopyLaws.{even-vectors, even-copied}
+use Rattle.unpack.proofs.copy.copy_writes.Statement.{statement}
+use Rattle.unpack.proofs.copy.copy_writes.Tie as tie
 
 copy-runs-requires : tie.Need-copy-runs-requires
 copy-runs-requires c κs =

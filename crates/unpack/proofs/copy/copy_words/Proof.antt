@@ -4,9 +4,9 @@ use native.Mathlib.Omega.{arith}
 use lib.ListN.{length, length-set}
 use borrow.Author.Needs.{needs}
 use Rattle.unpack.specs.Short.{copyWords}
-use Rattle.unpack.proofs.ShortLaws.{copied-first, copied-more, copied-none}
-use Rattle.unpack.proofs.short.copy_words.Statement.{statement}
-use Rattle.unpack.proofs.short.copy_words.Tie as tie
+use Rattle.unpack.proofs.CopyLaws.{copied-first, copied-more, copied-none}
+use Rattle.unpack.proofs.copy.copy_words.Statement.{statement}
+use Rattle.unpack.proofs.copy.copy_words.Tie as tie
 
 abbrev Inv-loop : tie.InvT-loop
 Inv-loop main a n data₀ to j₀ «data» j =

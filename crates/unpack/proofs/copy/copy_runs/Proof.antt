@@ -5,9 +5,9 @@ use native.Mathlib.Omega.{arith}
 use lib.ListN.{length}
 use borrow.Author.Needs.{needs}
 use Rattle.unpack.specs.Short.{storesFrom, quadFrom}
-use Rattle.unpack.proofs.ShortLaws.{run-more, stores-none}
-use Rattle.unpack.proofs.short.copy_runs.Statement.{statement}
-use Rattle.unpack.proofs.short.copy_runs.Tie as tie
+use Rattle.unpack.proofs.CopyLaws.{run-more, stores-none}
+use Rattle.unpack.proofs.copy.copy_runs.Statement.{statement}
+use Rattle.unpack.proofs.copy.copy_runs.Tie as tie
 
 abbrev Inv-loop : tie.InvT-loop
 Inv-loop size address first last main a data₀ i₀ at₀ «data» i at =

@@ -1,7 +1,7 @@
 use Rattle.fields.specs.Memory.{wordAt}
 use borrow.Author.Needs.{needs}
-use Rattle.unpack.proofs.short.word_inside.Statement.{statement}
-use Rattle.unpack.proofs.short.word_inside.Tie as tie
+use Rattle.unpack.proofs.copy.word_inside.Statement.{statement}
+use Rattle.unpack.proofs.copy.word_inside.Tie as tie
 
 returns : tie.Need-returns
 unfolding wordAt

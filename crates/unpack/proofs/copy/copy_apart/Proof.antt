@@ -8,9 +8,9 @@ use borrow.Author.Needs.{needs}
 use Rattle.unpack.specs.Position.{vectorsBefore, positionOf}
 use Rattle.unpack.specs.Short.{storesFrom, wordsOfWrite}
 use Rattle.unpack.proofs.WriteLaws.{position-inside}
-use Rattle.unpack.proofs.ShortLaws.{copy-inside, copy-near, copy-words, next-cycle, next-place, next-vector, stores-more, stores-none}
-use Rattle.unpack.proofs.short.copy_apart.Statement.{statement}
-use Rattle.unpack.proofs.short.copy_apart.Tie as tie
+use Rattle.unpack.proofs.CopyLaws.{copy-inside, copy-near, copy-words, next-cycle, next-place, next-vector, stores-more, stores-none}
+use Rattle.unpack.proofs.copy.copy_apart.Statement.{statement}
+use Rattle.unpack.proofs.copy.copy_apart.Tie as tie
 
 abbrev Inv-loop : tie.InvT-loop
 Inv-loop size address r first last main a data₀ quad₀ cycle₀ at₀ i₀ «data» quad cycle at i =
