@@ -52,6 +52,7 @@ pub const LARGE: &str = "1 MiB V4-32";
 pub fn inputs() -> Vec<ChainInput> {
     let random = &mut Random::new(1);
     let word = |name, channel, payload| cnt_chain(name, Per::PayloadWord, channel, payload);
+    let cut = |name, quadwords, payload| cut_chain(name, Per::PayloadWord, 1, quadwords, payload);
     let step = |name, channel, payload| cnt_chain(name, Per::Step, channel, payload);
     let most = 4 * most_cnt_payload();
     // The same payload for both units.
@@ -63,7 +64,12 @@ pub fn inputs() -> Vec<ChainInput> {
     let instructions = mpg(random);
     vec![
         word("V4-32", 1, vectors.clone()),
-        word("V4-32, VIF0", 0, vectors),
+        word("V4-32, VIF0", 0, vectors.clone()),
+        word("V4-32 gaps", 1, v4_32_cycle(&mut Random::new(3), 4, 2)),
+        word("V4-32 filling", 1, v4_32_cycle(&mut Random::new(4), 3, 4)),
+        // Tags cut three of four UNPACKs inside a vector.
+        cut("V4-32, tags of 3", 3, vectors.clone()),
+        cut("V4-32, tags of 64", 64, vectors),
         word("V3-16 mask mode 2", 1, masked),
         word("S-8", 1, bytes.clone()),
         word("S-8, VIF0", 0, bytes),
@@ -84,10 +90,21 @@ fn most_cnt_payload() -> usize {
 }
 
 /// The payload behind cnt tags, then an end tag.
-fn cnt_chain(name: &'static str, per: Per, channel: u32, mut payload: Vec<u32>) -> ChainInput {
+fn cnt_chain(name: &'static str, per: Per, channel: u32, payload: Vec<u32>) -> ChainInput {
+    cut_chain(name, per, channel, CNT_QUADWORDS, payload)
+}
+
+/// The same with at most so many quadwords behind each tag.
+fn cut_chain(
+    name: &'static str,
+    per: Per,
+    channel: u32,
+    quadwords: usize,
+    mut payload: Vec<u32>,
+) -> ChainInput {
     pad(&mut payload);
     let mut main = Vec::new();
-    for part in payload.chunks(4 * CNT_QUADWORDS) {
+    for part in payload.chunks(4 * quadwords) {
         put_tagged(&mut main, CNT, 0, part);
     }
     main.extend(tag(END, 0, 0));
@@ -130,6 +147,22 @@ fn v4_32(random: &mut Random, count: usize) -> Vec<u32> {
         address = (address + 256) % ADDRESSES;
     }
     words.resize(count, NOP);
+    words
+}
+
+/// V4-32 of 256 writes under CL and WL; where WL is above CL the others fill.
+fn v4_32_cycle(random: &mut Random, cl: u32, wl: u32) -> Vec<u32> {
+    let vectors = if wl <= cl {
+        256
+    } else {
+        cl * (256 / wl) + (256 % wl).min(cl)
+    };
+    let mut words = vec![stcycl(cl, wl), code_word(STMOD, 0, 0)];
+    while words.len() < SMALL_WORDS {
+        let address = random.below(ADDRESSES as u64) as u32;
+        words.push(code_word(V4_32, 0, address));
+        put_random(random, &mut words, 4 * vectors as usize);
+    }
     words
 }
 
