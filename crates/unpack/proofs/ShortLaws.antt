@@ -1,8 +1,9 @@
--- The short way of V4-32 leaves what the general way leaves: `word-short` for a word, `vectors-short` for whole vectors, `words-join` for a burst of both.
+-- The short way of V4-32 leaves what the general way leaves: `word-short` for a word, `vectors-short` for whole vectors, `copy-join` for a burst that begins inside a vector.
 use mathlib.Core.Path.{_≡_, refl, sym, ap, _∙_}
 use mathlib.Core.Bool.{Bool, true, false, not}
 use mathlib.Core.List.{List, [], _∷_, _++_}
 use Prim.Native.Nat.{ℕ, zero, suc, _+_, _*_, _-_, _/_, _%_, _^_, _<_, _≤_}
+use native.Mathlib.Nat.{add-zero}
 use native.Mathlib.Numerals.{add-one}
 use native.Mathlib.Omega.{arith}
 use borrow.Author.Tests.{eqb-true, not-true}
@@ -24,7 +25,7 @@ use Rattle.unpack.specs.Write.{Written, written, writeVector, registersA
 use Rattle.unpack.specs.Step.{takenWords, holds, acting, heldVector, doneAfter, wordOf, unpackWord}
 use Rattle.unpack.specs.Inner.{MemoryFits, VectorIn, WriteIn}
 use Rattle.unpack.specs.Whole.{payloadVector, fourWords, storeQuadword, takeWords, heldAfter, wordsFrom, takenBy, WordsLeft}
-use Rattle.unpack.specs.Short.{isWhole, goesShort, quadFrom, storesFrom, wordsOfWrite, ShortFits, CopyFits, ShortWord, ShortCopy, ShortWords, skipped}
+use Rattle.unpack.specs.Short.{isWhole, goesShort, quadFrom, storesFrom, wordsOfWrite, ShortFits, Ended, CopyFits, ShortWord, ShortCopy, ShortWords, skipped}
 use Rattle.unpack.proofs.VectorLaws.{Words, four-words}
 use Rattle.unpack.proofs.CycleLaws.{done-below, done-vectors, done-more, vectors-few, vectors-some, done-few, done-mono}
 use Rattle.unpack.proofs.WriteLaws.{plain-rows, plain-quadword}
@@ -35,7 +36,7 @@ use Rattle.unpack.proofs.CopyLaws.{same-stores}
 
 -- ---- which UNPACKs go the short way
 
-differs : false ≡ true → ⊥
+pub differs : false ≡ true → ⊥
 differs e = let z : _≡_ {A = ℕ} 0 1 = cc in omega arith
 
 is-whole : (f : Format) → isWhole f ≡ true → f ≡ V4x32
@@ -362,11 +363,11 @@ numbers {size} {u} {r} x =
       few = f .few;
     }
 
-pub copy-fits : {size : ℕ} {u : Unpacking} {r : Registers} {mem main : List ℕ} {a n v first last : ℕ} → ShortFits size u r mem → u .due % 4 ≡ 0 → 4 ≤ n → n < u .due
+pub copy-fits : {size : ℕ} {u : Unpacking} {r : Registers} {mem main : List ℕ} {a n v first last : ℕ} → ShortFits size u r mem → 4 ≤ n → n + u .due % 4 < u .due
     → a + 4 * n ≤ length main → a < 4294967296 → v ≡ vectorsBefore (r .cl) (r .wl) (u .count) - u .due / 4
     → first ≡ writesDone (r .cl) (r .wl) v (u .count) → last ≡ writesDone (r .cl) (r .wl) (v + n / 4) (u .count)
     → CopyFits size (u .address) (r .cl) (r .wl) first last a main mem
-copy-fits {size} {u} {r} {mem} {main} {a} {n} {v} {first} {last} x h few due lies near ev ef el =
+copy-fits {size} {u} {r} {mem} {main} {a} {n} {v} {first} {last} x few due lies near ev ef el =
     let k = numbers x in
     let kd = k .due in
     let kl = k .left in
@@ -387,6 +388,39 @@ copy-fits {size} {u} {r} {mem} {main} {a} {n} {v} {first} {last} x h few due lie
       lies = rw (ef, el) (omega arith);
       near = near;
     }
+
+-- the same for the UNPACK once the vector is ended
+ended-fits : {size : ℕ} {u ended : Unpacking} {r : Registers} {mem : List ℕ} → ShortFits size u r mem → Ended u ended → 1 ≤ ended .due
+    → ShortFits size ended r mem
+ended-fits {u = u} {ended} {r} x e h =
+    let f = x .unpacking in
+    let d = e .due in
+    let m = f .most in
+    record {
+      cycle = x .cycle;
+      memory = x .memory;
+      unpacking =
+          record {
+            inside = rw (e .address) (f .inside);
+            some = rw (e .count) (f .some);
+            few = rw (e .count) (f .few);
+            left = h;
+            most = rw (e .count) (omega arith);
+          };
+      clear = e .masked ∙ x .clear;
+      plain = x .plain;
+    }
+
+pub vectors-after : {size : ℕ} {u ended : Unpacking} {r : Registers} {mem : List ℕ} (main : List ℕ) (a n : ℕ) {v first last : ℕ} {m : List ℕ}
+    → ((k : ℕ) → getD main k 0 < 256) → ShortFits size u r mem → Ended u ended → 4 ≤ n → n + u .due % 4 < u .due
+    → v ≡ vectorsBefore (r .cl) (r .wl) (u .count) - u .due / 4
+    → first ≡ writesDone (r .cl) (r .wl) v (u .count) → last ≡ writesDone (r .cl) (r .wl) (v + n / 4) (u .count)
+    → m ≡ storesFrom (positionOf size (u .address) (r .cl) (r .wl)) (wordsOfWrite main a (r .cl) (r .wl) first) (last - first) first mem
+    → ShortCopy size ended r (wordsFrom main a n) mem m
+vectors-after {u = u} {ended} {r} main a n {v} {first} {last} bytes x e some few ev ef el em =
+    let d = e .due in
+    let q : ended .due / 4 ≡ u .due / 4 = omega arith in
+    vectors-short main a n {v = v} {first = first} {last = last} bytes (ended-fits x e (omega arith)) (omega arith) (omega arith) (rw (e .count, q) ev) (rw (e .count) ef) (rw (e .count) el) (rw (e .address) em)
 
 -- ---- what waits
 
@@ -417,11 +451,6 @@ copied-words {u = u} main a n h c e =
     let t = rw (k, b1, b2, b3) at (held-on main (n - 3) a u) in
     record { leaves = λ row g. rw (c .leaves row g, t, e) }
 
-held-join : (u : Unpacking) (ws vs : List ℕ) → heldAfter u (ws ++ vs) ≡ heldAfter (heldAfter u ws) vs
-unfolding heldAfter
-held-join u [] vs = refl
-held-join u (x ∷ ws) vs = held-join (holds u x) ws vs
-
 words-append : (main : List ℕ) (m n a : ℕ) → wordsFrom main a (m + n) ≡ wordsFrom main a m ++ wordsFrom main (a + 4 * m) n
 unfolding wordsFrom
 words-append main zero n a =
@@ -434,29 +463,54 @@ words-append main (suc m) n a =
     rw (e, b) (ap (λ (ws : List ℕ). wordAt main a ∷ ws) (words-append main m n (a + 4)))
 
 -- words and then more of them
-pub words-join : {size : ℕ} {u begun rest : Unpacking} {r : Registers} {mem m o : List ℕ} (main : List ℕ) (a k n : ℕ) → k ≤ n
-    → ShortWords size u r (wordsFrom main a k) mem begun m → ShortWords size begun r (wordsFrom main (a + 4 * k) (n - k)) m rest o
-    → ShortWords size u r (wordsFrom main a n) mem rest o
+pub copy-join : {size : ℕ} {u : Unpacking} {r : Registers} {mem m o : List ℕ} (main : List ℕ) (a k n : ℕ) → k ≤ n
+    → ShortCopy size u r (wordsFrom main a k) mem m → ShortCopy size (heldAfter u (wordsFrom main a k)) r (wordsFrom main (a + 4 * k) (n - k)) m o
+    → ShortCopy size u r (wordsFrom main a n) mem o
+copy-join {size} {u} {r} {mem} main a k n h x y =
+    let e : k + (n - k) ≡ n = omega arith in
+    let s = rw e at (words-append main k (n - k) a) in
+    record {
+      leaves =
+          λ row g.
+          rw (s, take-join size V4x32 u r (wordsFrom main a k) (wordsFrom main (a + 4 * k) (n - k)) (written row mem), x .leaves row g) (y .leaves row g);
+    }
+
+-- what the words of a vector's end leave waiting
+after-words : (main : List ℕ) (n a : ℕ) (u : Unpacking) → n ≤ u .due
+    → (heldAfter u (wordsFrom main a n) .address ≡ u .address) × (heldAfter u (wordsFrom main a n) .count ≡ u .count)
+    × (heldAfter u (wordsFrom main a n) .masked ≡ u .masked)
+    × (heldAfter u (wordsFrom main a n) .due + n ≡ u .due)
+unfolding heldAfter wordsFrom
+after-words main zero a u h = (refl, refl, refl, add-zero (u .due))
+after-words main (suc n) a u h =
+    let i = after-words main n (a + 4) (holds u (wordAt main a)) (omega arith) in
+    let d = i .3 in
+    (i .0, i .1, i .2, omega arith)
+
+pub after-end : (main : List ℕ) (a : ℕ) (u : Unpacking) → Ended u (heldAfter u (wordsFrom main a (u .due % 4)))
+after-end main a u =
+    let i = after-words main (u .due % 4) a u (omega arith) in
+    record { address = i .0; count = i .1; masked = i .2; due = i .3 }
+
+-- no words
+pub copy-nothing : {size : ℕ} {u : Unpacking} {r : Registers} {mem : List ℕ} (main : List ℕ) (a n : ℕ) → n ≡ 0 → ShortCopy size u r (wordsFrom main a n) mem mem
+unfolding wordsFrom takeWords
+copy-nothing main a n e = record { leaves = λ row g. rw e }
+
+-- words without what waits after them
+pub words-copy : {size : ℕ} {u rest : Unpacking} {r : Registers} {ws mem m : List ℕ} → ShortWords size u r ws mem rest m → ShortCopy size u r ws mem m
 unfolding takenBy
-words-join {size} {u} {begun} {rest} {r} {mem} {m} {o} main a k n h x y =
-    record { leaves = λ row g. joined row g }
-  where
-    ws : List ℕ
-    ws = wordsFrom main a k
+words-copy x = record { leaves = λ row g. ap (λ (z : WordsLeft). written (z .row) (z .mem)) (x .leaves row g) }
 
-    vs : List ℕ
-    vs = wordsFrom main (a + 4 * k) (n - k)
-
-    split : wordsFrom main a n ≡ ws ++ vs
-    split = let e : k + (n - k) ≡ n = omega arith in rw e at (words-append main k (n - k) a)
-
-    joined : (row : List ℕ) → length row ≡ 4
-        → takenBy size V4x32 u r (wordsFrom main a n) (written row mem) ≡ record { accepted = true; row = row; mem = o; rest = rest }
-    joined row g =
-        let p = x .leaves row g in
-        let e : heldAfter u ws ≡ begun = ap (λ (z : WordsLeft). z .rest) p in
-        let q : takeWords size V4x32 u r ws (written row mem) ≡ written row m = ap (λ (z : WordsLeft). written (z .row) (z .mem)) p in
-        rw (split, take-join size V4x32 u r ws vs (written row mem), held-join u ws vs, e, q) (y .leaves row g)
+pub short-again : {size : ℕ} {u : Unpacking} {r : Registers} {mem m : List ℕ} → ShortFits size u r mem → length m ≡ length mem → ShortFits size u r m
+short-again x e =
+    record {
+      cycle = x .cycle;
+      memory = record { some = x .memory .some; most = x .memory .most; long = e ∙ x .memory .long };
+      unpacking = x .unpacking;
+      clear = x .clear;
+      plain = x .plain;
+    }
 
 -- one word less due
 pub short-on : {size : ℕ} {u : Unpacking} {r : Registers} {mem m : List ℕ} (word : ℕ) → ShortFits size u r mem → length m ≡ length mem → 1 < u .due

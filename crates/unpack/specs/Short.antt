@@ -64,6 +64,13 @@ pub record ShortFits (size : ℕ) (u : Unpacking) (r : Registers) (mem : List �
   pub clear : u .masked ≡ false
   pub plain : r .mode ≡ 0
 
+-- the UNPACK once a vector that it has begun is ended
+pub record Ended (u ended : Unpacking) : Type 0 where
+  pub address : ended .address ≡ u .address
+  pub count : ended .count ≡ u .count
+  pub masked : ended .masked ≡ u .masked
+  pub due : ended .due + u .due % 4 ≡ u .due
+
 -- what the writes from `first` to below `last` need, whose vectors lie inside main memory from address a on; the first of them is no fill
 pub record CopyFits (size address cl wl first last a : ℕ) (main mem : List ℕ) : Type 0 where
   pub cycle : CycleFits cl wl

@@ -4,7 +4,6 @@ use super::Registers;
 use super::Unpacking;
 use super::copy::copy_writes;
 use super::copy::word_inside;
-use super::cycle::smaller;
 use super::cycle::vectors_before;
 use super::cycle::writes_done;
 use super::words::held;
@@ -12,15 +11,17 @@ use super::write::place;
 use super::write::store_quadword;
 use fields::word_at;
 ghost use mathlib.Core.Path.{_≡_};
+ghost use mathlib.Core.Bool.{true};
 ghost use mathlib.Core.List.{[], _∷_};
 ghost use Prim.Native.Nat.{ℕ, _<_, _≤_, _+_, _*_, _-_, _%_, _^_};
 ghost use lib.ListN.{length};
 ghost use Rattle.fields.specs.Memory.{wordAt};
+ghost use Rattle.unpack.specs.declared.Unpacking.{Unpacking as UnpackingT};
 ghost use Rattle.unpack.specs.Position.{addressMost, positionOf};
 ghost use Rattle.unpack.specs.Range.{CycleFits};
 ghost use Rattle.unpack.specs.Inner.{MemoryFits};
 ghost use Rattle.unpack.specs.Whole.{wordsFrom};
-ghost use Rattle.unpack.specs.Short.{isWhole, goesShort, storesFrom, ShortFits, ShortWord, ShortCopy, ShortWords, skipped};
+ghost use Rattle.unpack.specs.Short.{isWhole, goesShort, storesFrom, ShortFits, Ended, ShortWord, ShortCopy, ShortWords, skipped};
 
 fn is_whole(f: Format) -> bool
     ensures { λ r. ⌜ r ≡ isWhole f ⌝ }
@@ -99,7 +100,7 @@ pub(crate) fn take_short(size: u32, u: Unpacking, r: Registers, word: u32, data:
     store_each(size, u.address, r, first, last, words, data);
 }
 
-// The whole vectors of n payload words, which lie in main memory from byte a on, and the fills after them.
+// The whole vectors of n payload words after those of a vector begun, which lie in main memory from byte a on, and the fills after them.
 fn copy_vectors(
     size: u32,
     u: Unpacking,
@@ -109,8 +110,9 @@ fn copy_vectors(
     a: usize,
     data: &mut [u32],
 )
-    requires { ⌜ ShortFits size u r (now «data») × (u .due % 4 ≡ 0) × (4 ≤ n) × (n < u .due) × (a + 4 * n ≤ length (now main)) × (a < 2 ^ 32) ⌝ }
-    ensures { λ _. ⌜ ShortCopy size u r (wordsFrom (now (main .entry)) a n) (now («data» .entry)) (now («data» .exit)) ⌝ }
+    requires { ⌜ ShortFits size u r (now «data») × (4 ≤ n) × (n + u .due % 4 < u .due) × (a + 4 * n ≤ length (now main)) × (a < 2 ^ 32) ⌝ }
+    ensures { λ _. ⌜ ((begun : UnpackingT) → Ended u begun
+        → ShortCopy size begun r (wordsFrom (now (main .entry)) a n) (now («data» .entry)) (now («data» .exit))) ⌝ }
 {
     let v = vectors_before(r.cl, r.wl, u.count) - u.due / 4;
     let first = writes_done(r.cl, r.wl, v, u.count);
@@ -148,8 +150,7 @@ fn take_singly(
     data: &mut [u32],
 ) -> Unpacking
     requires { ⌜ ShortFits size u r (now «data») × (n < u .due) × (a + 4 * n < 2 ^ 32) ⌝ }
-    ensures { λ rest. ⌜ ShortFits size rest r (now («data» .exit)) × (rest .due + n ≡ u .due)
-        × ShortWords size u r (wordsFrom (now (main .entry)) a n) (now («data» .entry)) rest (now («data» .exit)) ⌝ }
+    ensures { λ rest. ⌜ ShortWords size u r (wordsFrom (now (main .entry)) a n) (now («data» .entry)) rest (now («data» .exit)) ⌝ }
 {
     let mut rest = u;
     let mut k: u32 = 0;
@@ -162,32 +163,28 @@ fn take_singly(
     rest
 }
 
-// n payload words, from the start of a vector on where they are four or more: whole vectors are copied where they lie inside main memory.
-fn take_vectors(
-    size: u32,
-    u: Unpacking,
-    r: Registers,
-    main: &[u8],
-    a: u32,
-    n: u32,
-    data: &mut [u32],
-) -> Unpacking
-    requires { ⌜ ShortFits size u r (now «data») × (n < u .due) × (a + 4 * n < 2 ^ 32) × (4 ≤ n → u .due % 4 ≡ 0) ⌝ }
-    ensures { λ rest. ⌜ ShortWords size u r (wordsFrom (now (main .entry)) a n) (now («data» .entry)) rest (now («data» .exit)) ⌝ }
+// The n words that end a vector begun; none where no vector is.
+fn end_vector(size: u32, u: Unpacking, r: Registers, main: &[u8], a: u32, n: u32, data: &mut [u32])
+    requires { ⌜ ShortFits size u r (now «data») × (n < u .due) × (a + 4 * n < 2 ^ 32) ⌝ }
+    ensures { λ _. ⌜ ShortCopy size u r (wordsFrom (now (main .entry)) a n) (now («data» .entry)) (now («data» .exit)) ⌝ }
 {
-    let at = a as usize;
-    let end = at + 4 * n as usize;
-    if n < 4 {
-        return take_singly(size, u, r, main, a, n, data);
+    if n != 0 {
+        take_singly(size, u, r, main, a, n, data);
     }
-    if main.len() < end {
-        return take_singly(size, u, r, main, a, n, data);
-    }
-    copy_vectors(size, u, r, n, main, at, data);
-    skip(u, n, main, end)
 }
 
-// The next n payload words, not the last: those up to a vector's end, and those after them.
+// Whether n words from an address on lie inside main memory and have a whole vector after `lead` of them.
+fn has_vectors(main: &[u8], a: u32, lead: u32, n: u32) -> bool
+    requires { ⌜ (lead < 4) × (a ≤ 1048576) × (n ≤ 1024) ⌝ }
+    ensures { λ b. ⌜ (b ≡ true → (lead + 4 ≤ n) × (a + 4 * n ≤ length (now (main .entry)))) ⌝ }
+{
+    if n < lead + 4 {
+        return false;
+    }
+    a as usize + 4 * n as usize <= main.len()
+}
+
+// The next n payload words, not the last: those that end a vector begun, whole vectors copied, and those after them.
 pub(crate) fn take_all(
     size: u32,
     u: Unpacking,
@@ -200,7 +197,12 @@ pub(crate) fn take_all(
     requires { ⌜ ShortFits size u r (now «data») × (n < u .due) × (a ≤ 1048576) ⌝ }
     ensures { λ rest. ⌜ ShortWords size u r (wordsFrom (now (main .entry)) a n) (now («data» .entry)) rest (now («data» .exit)) ⌝ }
 {
-    let lead = smaller(u.due % 4, n);
-    let begun = take_singly(size, u, r, main, a, lead, data);
-    take_vectors(size, begun, r, main, a + 4 * lead, n - lead, data)
+    let lead = u.due % 4;
+    if has_vectors(main, a, lead, n) {
+        end_vector(size, u, r, main, a, lead, data);
+        let at = a + 4 * lead;
+        copy_vectors(size, u, r, n - lead, main, at as usize, data);
+        return skip(u, n, main, a as usize + 4 * n as usize);
+    }
+    take_singly(size, u, r, main, a, n, data)
 }

@@ -1,6 +1,6 @@
 use native.Mathlib.Omega.{arith}
 use borrow.Author.Needs.{needs}
-use Rattle.unpack.proofs.ShortLaws.{numbers, copy-fits, vectors-short}
+use Rattle.unpack.proofs.ShortLaws.{numbers, copy-fits, vectors-after}
 use Rattle.unpack.proofs.short.copy_vectors.Statement.{statement}
 use Rattle.unpack.proofs.short.copy_vectors.Tie as tie
 
@@ -28,8 +28,7 @@ writes-done-requires-2 c κs =
     let x = p .0 in
     let n = numbers x in
     let v = c .before .before .vectors-before .ensures in
-    let h = p .1 in
-    let f = p .3 in
+    let f = p .2 in
     (x .cycle, n .cycle, omega arith, omega arith)
 
 copy-writes-requires : tie.Need-copy-writes-requires
@@ -37,7 +36,7 @@ copy-writes-requires c κs =
     let w = c .before in
     let v = w .before .before .before in
     let p = v .before .before .before .pre in
-    copy-fits (p .0) (p .1) (p .2) (p .3) (p .4) (p .5) (rw (v .vectors-before .ensures)) (w .before .writes-done .ensures) (w .writes-done2 .ensures)
+    copy-fits (p .0) (p .1) (p .2) (p .3) (p .4) (rw (v .vectors-before .ensures)) (w .before .writes-done .ensures) (w .writes-done2 .ensures)
 
 returns : tie.Need-returns
 returns c =
@@ -46,8 +45,8 @@ returns c =
     let v = w .before .before .before in
     let k = v .before .before in
     let p = k .before .pre in
-    let l = p .3 in
-    vectors-short _ _ _ (λ j. let y = k .shared-slice-known .given j in omega arith) (p .0) (p .1) (omega arith) (rw (v .vectors-before .ensures)) (w .before .writes-done .ensures) (w .writes-done2 .ensures) (r .copy-writes .ensures)
+    λ begun e.
+    vectors-after _ _ _ (λ j. let y = k .shared-slice-known .given j in omega arith) (p .0) e (p .1) (p .2) (rw (v .vectors-before .ensures)) (w .before .writes-done .ensures) (w .writes-done2 .ensures) (r .copy-writes .ensures)
 
 pub copy-vectors-spec : {M : Type 1} → statement M
 copy-vectors-spec =

@@ -58,12 +58,7 @@ loop-again c =
     }
 
 returns : tie.Need-returns Inv-loop μ-loop
-returns c =
-    let i = c .before .loop .inv in
-    let f = i .few in
-    let l = i .left in
-    let h = c .loop-test .left in
-    (i .fits, omega arith, record { leaves = λ row g. sym (i .same row g) ∙ words-none _ _ _ _ _ _ _ _ _ h })
+returns c = record { leaves = λ row g. sym (c .before .loop .inv .same row g) ∙ words-none _ _ _ _ _ _ _ _ _ (c .loop-test .left) }
 
 pub take-singly-spec : {M : Type 1} → statement M
 take-singly-spec =
