@@ -5,5 +5,6 @@ pub mod StepLaws
 pub mod AfterLaws
 pub mod RunLaws
 pub mod Theorems
+pub mod ResumeLaws
 pub mod BurstLaws
 pub mod UnitLaws

@@ -7,4 +7,5 @@ pub mod Step
 pub mod Start
 pub mod Run
 pub mod Stops
+pub mod Resume
 pub mod Inner
