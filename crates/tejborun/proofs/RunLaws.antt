@@ -1,11 +1,13 @@
 -- Calls on a state block.
-use mathlib.Core.Path.{_≡_}
+use mathlib.Core.Path.{_≡_, refl, ap}
+use mathlib.Core.Bool.{not, _&&_, _||_}
 use mathlib.Core.List.{List, [], _∷_}
 use Prim.Native.Nat.{ℕ, _<_, _≤_}
 use borrow.Author.Tests.{eq-eqb, ne-eqb, lt-ltb, le-ltb}
 use lib.ListN.{length}
-use lib.Dec.{eqb}
+use lib.Dec.{eqb, ltb}
 use Rattle.fields.specs.Fields.{if}
+use Rattle.fields.proofs.ChoiceLaws.{if-ind, and-false}
 use Rattle.memories.specs.Lengths.{Lent}
 use Rattle.chain.specs.declared.State.{State}
 use Rattle.state_block.specs.declared.ReadState.{ReadState}
@@ -13,10 +15,12 @@ use Rattle.chain.specs.declared.StartResult.{StartResult}
 use Rattle.chain.specs.declared.RunResult.{RunResult}
 use Rattle.state_block.specs.Sizes.{stateSize}
 use Rattle.state_block.specs.StateBlock.{stateBlock, stateInBlock}
+use Rattle.chain.specs.Step.{Machine}
 use Rattle.chain.specs.Start.{resetState, startNumber, startOf}
 use Rattle.chain.specs.Run.{numberOf, leftBy, runOf}
-use Rattle.tejborun.specs.Buffers.{short, written, writtenBack}
-use Rattle.tejborun.specs.Runs.{blocked, resetCall, startCall, left, runCall}
+use Rattle.chain.proofs.ResumeLaws.{stopping-changes-nothing}
+use Rattle.tejborun.specs.Buffers.{short, wrongBlock, written, writtenBack}
+use Rattle.tejborun.specs.Runs.{blocked, resetCall, startCall, Left, left, runCall}
 
 module _ (block : List ℕ) where
   pub reset-short : (length block ≡ stateSize → ⊥) → blocked short block ≡ resetCall block
@@ -61,7 +65,7 @@ module _ (main : List ℕ) (m : Lent) (block : List ℕ) (allowance : ℕ) (resu
         → {x : RunResult} {m′ : Lent}
         → leftBy x m′ ≡ runOf main allowance (read .state) m
         → {after : List ℕ}
-        → after ≡ writtenBack (read .known) (x .state) block
+        → after ≡ writtenBack (read .known && not (eqb (x .counts .steps) 0)) (x .state) block
         → {numbers : List ℕ}
         → numbers ≡ written (x .counts .steps ∷ x .counts .packets ∷ []) result
         → {n : ℕ}
@@ -69,3 +73,13 @@ module _ (main : List ℕ) (m : Lent) (block : List ℕ) (allowance : ℕ) (resu
         → left n m′ after numbers ≡ runCall main m block allowance result
     unfolding runCall if
     run-done l e q b w k = rw (eq-eqb (length block) stateSize h, le-ltb (length result) 2 l, ← e, ← q, b, w, k)
+
+-- request 9, "an allowance of 0 changes nothing": the block stays word for word, and so do the memories and the log
+pub idle-run : (main : List ℕ) (m : Lent) (block result : List ℕ) → (runCall main m block 0 result .block ≡ block) × (runCall main m block 0 result .memories ≡ m)
+unfolding runCall writtenBack if
+idle-run main m block result =
+    let read = stateInBlock block in
+    let n = stopping-changes-nothing main (read .state) m 0 0 in (
+      if-ind (λ (x : Left). x .block ≡ block) (wrongBlock block || ltb (length result) 2) refl (rw (n .uncounted, and-false (read .known))),
+      if-ind (λ (x : Left). x .memories ≡ m) (wrongBlock block || ltb (length result) 2) refl (ap (λ (x : Machine). x .memories) (n .unmoved)),
+    )

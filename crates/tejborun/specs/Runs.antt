@@ -1,6 +1,6 @@
 -- Calls on a state block: reset, start and run.
 use Prim.Native.Nat.{ℕ}
-use mathlib.Core.Bool.{Bool, _||_}
+use mathlib.Core.Bool.{Bool, not, _&&_, _||_}
 use mathlib.Core.List.{List, [], _∷_}
 use lib.ListN.{length}
 use lib.Dec.{eqb, ltb}
@@ -52,10 +52,14 @@ pub record Left : Type 0 where
 abbrev pub left : ℕ → Lent → List ℕ → List ℕ → Left
 left n m block result = record { answer = n; memories = m; block = block; result = result }
 
+-- a run that completes no step leaves the block word for word; request 9: "an allowance of 0 changes nothing"
+abbrev pub movedBy : Ran → Bool → Bool
+movedBy x known = known && not (eqb (x .counts .steps) 0)
+
 -- the steps and the packets closed
 abbrev pub runLeft : Ran → Bool → List ℕ → List ℕ → Left
 runLeft x known block result =
-    left (numberOf (x .answer)) (x .after .memories) (writtenBack known (x .after .state) block) (written (x .counts .steps ∷ x .counts .packets ∷ []) result)
+    left (numberOf (x .answer)) (x .after .memories) (writtenBack (movedBy x known) (x .after .state) block) (written (x .counts .steps ∷ x .counts .packets ∷ []) result)
 
 -- a run on what was read from the block
 abbrev pub runOn : ReadState → List ℕ → Lent → List ℕ → ℕ → List ℕ → Left

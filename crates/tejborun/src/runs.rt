@@ -7,6 +7,8 @@ use chain::StartAnswer;
 use state_block::STATE_WORDS;
 use state_block::state_in_block;
 ghost use mathlib.Core.Path.{_≡_};
+ghost use mathlib.Core.Bool.{not, _&&_};
+ghost use lib.Dec.{eqb};
 ghost use Rattle.memories.specs.Lengths.{lent};
 ghost use Rattle.chain.specs.Start.{startNumber};
 ghost use Rattle.chain.specs.Run.{numberOf};
@@ -30,6 +32,16 @@ pub(crate) fn run_number(answer: Answer) -> u32
         Answer::Interrupt => 91,
         Answer::Refused(n) => n,
     }
+}
+
+// Whether a run left another state than that of a known block: one that completes no step leaves the block word for word.
+fn moved(known: bool, steps: u64) -> bool
+    ensures { λ r. ⌜ r ≡ (known && not (eqb steps 0)) ⌝ }
+{
+    if known {
+        return steps != 0;
+    }
+    false
 }
 
 #[no_mangle]
@@ -87,7 +99,7 @@ pub extern "C" fn tejborun_run(
     let r = chain::run(main, data, code, log, given, allowance);
     let answer = r.answer;
     let state = r.state;
-    put_back(block, known, state);
+    put_back(block, moved(known, r.counts.steps), state);
     put_two(result, r.counts.steps, r.counts.packets);
     run_number(answer)
 }

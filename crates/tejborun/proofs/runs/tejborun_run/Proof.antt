@@ -13,10 +13,11 @@ returns-3 : tie.Need-returns-3
 returns-3 c =
     let w = c .before .before .before in
     let p = w .before .before .before .before in
-    let s = p .before .before .before .before .before .before .before .before .before in
+    let told = p .before in
+    let s = told .before .before .before .before .before .before .before .before .before in
     let r = s .before .before .before .before .before in
     let t = r .before .before in
-    run-done _ _ _ _ _ (t .before .if1 .left) (t .if2 .left) (r .state-in-block .ensures) (s .run .ensures) (p .put-back .ensures) (w .put-two .ensures) (c .run-number .ensures)
+    run-done _ _ _ _ _ (t .before .if1 .left) (t .if2 .left) (r .state-in-block .ensures) (s .run .ensures) (rw (told .moved .ensures) at (p .put-back .ensures)) (w .put-two .ensures) (c .run-number .ensures)
 
 pub tejborun-run-spec : {M : Type 1} → statement M
 tejborun-run-spec =
@@ -24,6 +25,7 @@ tejborun-run-spec =
     (tie.spec
     returns
     returns-2
+    (λ c κs. search needs)
     (λ c κs. search needs)
     (λ c κs. search needs)
     (λ c κs. search needs)
