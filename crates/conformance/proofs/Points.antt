@@ -20,7 +20,8 @@ use Rattle.memories.specs.Lengths.{lengthsRefusal}
 use Rattle.vif.specs.Codes.{quadwordsOf as directQuadwordsOf, missingCode, plainCode, unpackNumbers, codeOf, decodeOf}
 use Rattle.vif.specs.Execute.{nextTops, startProgram, setMode, beginMpg, addressOf, unpackRefusal, beginUnpack}
 use Rattle.vif.specs.Payload.{completes, orNothing, wordPlace, mpgStored}
-use Rattle.vif.specs.Range.{registersInRange, waitingInRange, unitInRange, upTo}
+use Rattle.vif.specs.Range.{registersInRange, waitingInRange, unitInRange, directInRange, upTo}
+use Rattle.gif.specs.Range.{tagInRange}
 use Rattle.vif.specs.Step.{codeStep, giveQuadword, mpgRefused, mpgStep, unpackStep, vifStep}
 use Rattle.fields.specs.Memory.{wordAt, longAt}
 use Rattle.vif.specs.Words.{incomingAt}
@@ -36,7 +37,7 @@ use Rattle.sheet.specs.Sizes.{sheetSteps}
 use Rattle.sheet.specs.Layout.{laidOut, chainOf}
 use Rattle.sheet.specs.Build.{buildOf}
 use Rattle.conformance.specs.Demand.{recordsOf}
-use Rattle.conformance.specs.Points.{AllHold, runIn, runOfWords, builtFrom, sizeOf, chainBytes, wordsAt, chainWords, runOfSheet, stepsFor, loggedIn, quadwordIn, instructionIn, allZero, partsWritten, quadwordsFrom, instructionsFrom, dueIn, rowIn, answerIn, runOfVif0, answersTo, programStart, startedIn, tagTransferred, runOn7, left0, left1, runFrom, second, third, playedFrom0, tagUpload, uploadAcrossTags, resumed, drawn, drawnBy, packetsIn, mixed1, mixed2, mixed0, logOf, overflowing, points, requestPoints}
+use Rattle.conformance.specs.Points.{AllHold, runIn, runOfWords, builtFrom, sizeOf, chainBytes, wordsAt, chainWords, runOfSheet, stepsFor, loggedIn, quadwordIn, instructionIn, allZero, partsWritten, quadwordsFrom, instructionsFrom, dueIn, rowIn, answerIn, runOfVif0, answersTo, programStart, startedIn, tagTransferred, runOn7, left0, left1, runFrom, second, third, playedFrom0, tagUpload, uploadAcrossTags, resumed, drawn, drawnBy, packetsIn, stoppedAt, resumedAt, mixed1, mixed2, mixed0, logOf, overflowing, points, requestPoints}
 use Rattle.conformance.specs.Play.{playRefusal, playOf}
 
 -- ---- the definitions that the table computes through
@@ -62,7 +63,7 @@ unfolding zerosAt padsZero marked kindOf rowRefusal recordRefusal readingAt reco
 sheetOpen = tt
 
 benchOpen : Unit {0}
-unfolding recordsOf runIn runOfWords builtFrom sizeOf chainBytes wordsAt chainWords runOfSheet stepsFor loggedIn quadwordIn instructionIn allZero partsWritten quadwordsFrom instructionsFrom dueIn rowIn answerIn runOfVif0 answersTo startedIn tagTransferred runOn7 runFrom second third playRefusal playOf playedFrom0 tagUpload uploadAcrossTags resumed drawn drawnBy packetsIn mixed1 mixed2 mixed0 logOf overflowing
+unfolding recordsOf runIn runOfWords builtFrom sizeOf chainBytes wordsAt chainWords runOfSheet stepsFor loggedIn quadwordIn instructionIn allZero partsWritten quadwordsFrom instructionsFrom dueIn rowIn answerIn runOfVif0 answersTo startedIn tagTransferred runOn7 runFrom second third playRefusal playOf playedFrom0 tagUpload uploadAcrossTags resumed drawn drawnBy packetsIn stoppedAt resumedAt mixed1 mixed2 mixed0 logOf overflowing
 benchOpen = tt
 
 opened : Unit {0}
@@ -127,10 +128,15 @@ requestsOpened : Unit {0}
 unfolding opened requestPoints
 requestsOpened = tt
 
+-- request 9
+stops : AllHold (drop 51 requestPoints)
+unfolding requestsOpened nextStack wordsInRange directInRange upTo tagInRange
+stops = (refl, (refl, tt))
+
 -- request 11
 paths : AllHold (drop 45 requestPoints)
 unfolding requestsOpened nextStack
-paths = (refl, (refl, (refl, (refl, (refl, (refl, tt))))))
+paths = (refl, (refl, (refl, (refl, (refl, (refl, stops))))))
 
 -- request 1
 packets : AllHold (drop 38 requestPoints)

@@ -24,6 +24,7 @@ use Rattle.chain.specs.declared.State.{State}
 use Rattle.chain.specs.Setters.{withPending}
 use Rattle.chain.specs.Start.{resetPath, resetUnit, resetState, startOf}
 use Rattle.chain.specs.Run.{Ran, numberOf, runOf}
+use Rattle.chain.specs.Resume.{resumed as resumedRun}
 use Rattle.sheet.specs.Layout.{wordsBytes, tagWords}
 use Rattle.sheet.specs.Build.{Left, buildOf, exportedNumber}
 use Rattle.conformance.specs.Demand.{stepsMeant}
@@ -452,6 +453,16 @@ logOf numbers n = runFrom (leftOn 1 n resetUnit resetUnit) 1 (replicate numbers 
 unfoldable pub overflowing : Ran
 overflowing = runFrom resetState 1 (replicate 6 0) 1 (0x14000001 ∷ 0x14000002 ∷ 0x14000003 ∷ 0 ∷ [])
 
+-- DIRECT of one packet by a chain, with an allowance; and with another on what that left
+abbrev pub stopping : List ℕ
+stopping = wordsBytes (tagWords 1 3 ++ (0 ∷ 0 ∷ 0 ∷ 0x50000002 ∷ []) ++ packetOf 0xe ++ tagWords 7 0)
+
+unfoldable pub stoppedAt : ℕ → Ran
+stoppedAt a = runOf stopping a (startOf resetState 1 0 false .state) blank
+
+unfoldable pub resumedAt : ℕ → ℕ → Ran
+resumedAt a b = resumedRun stopping b (stoppedAt a)
+
 unfoldable pub requestPoints : List Point
 requestPoints =
     -- request 2: "in MODE 2 a field's ROW is replaced only where that field's mask code is 0." Only X has code 0: 10 + 1, then 11 + 2.
@@ -537,4 +548,7 @@ requestPoints =
     ∷ point (answerIn (logOf 8 0) ++ answerIn (logOf 9 3) ++ answerIn (logOf 9 4) ++ answerIn (logOf 9 0x5555555555555556)) (4 ∷ 0 ∷ 4 ∷ 4 ∷ [])
     -- "31 counts three numbers an entry": after the tag two program starts are taken, the third is not
     ∷ point (answerIn overflowing ++ (overflowing .counts .steps ∷ loggedIn overflowing)) (31 ∷ 3 ∷ 0 ∷ 256 ∷ 1 ∷ 0 ∷ 256 ∷ 2 ∷ [])
+    -- request 9: a run that answers 90, between a GIF tag and its data; gone on with, and in one; an allowance of 0
+    ∷ point (packetsIn (stoppedAt 6) ++ packetsIn (resumedAt 6 94) ++ packetsIn (stoppedAt 100)) (90 ∷ 6 ∷ 0 ∷ 0 ∷ 8 ∷ 1 ∷ 0 ∷ 8 ∷ 1 ∷ [])
+    ∷ point (packetsIn (stoppedAt 0) ++ packetsIn (stoppedAt 8) ++ packetsIn (stoppedAt 200)) (90 ∷ 0 ∷ 0 ∷ 0 ∷ 8 ∷ 1 ∷ 0 ∷ 8 ∷ 1 ∷ [])
     ∷ []
