@@ -4,7 +4,10 @@ use crate::capture_cases::{
     self, case_starts, describe_case, describe_result, first_case, Results, HEADER,
 };
 use crate::capture_counts::Counts;
-use crate::capture_generate::generate;
+use crate::capture_cut_check;
+use crate::capture_cut_counts;
+use crate::capture_cuts::{self, Family};
+use crate::capture_generate::{cases, file_of};
 use crate::compare::{describe_ends, first_difference, report, Program};
 use crate::memory::cases::{
     MOST_CODE, MOST_DATA, MOST_LOG, MOST_MAIN, MOST_VIF0_CODE, MOST_VIF0_DATA,
@@ -17,32 +20,51 @@ use crate::words::{word, WORD};
 /// Damaged files with longer runs are left out.
 const MOST_STEPS: u64 = 1_000_000;
 
-/// Compares on the cases of each seed, which have the points worked by hand among them, and on
-/// damaged files made from them.
+/// Compares on the cases of each seed, which have the points worked by hand among them, on damaged
+/// files made from them, and on some of them with their last run in parts.
 pub fn compare(program: &Program, seeds: &[u64], runs: u64) -> Result<(), String> {
     let points = (packet_points::check()? + path_points::check()?) as u64;
     let mut counts = Counts::default();
-    let mut damaged_files = 0;
+    let mut cuts = capture_cut_counts::Counts::default();
+    let (mut damaged_files, mut in_parts) = (0, 0);
     for &seed in seeds {
-        let file = generate(seed, runs);
+        let cases = cases(seed, runs);
+        let file = file_of(&cases);
         compare_file(program, &file, &mut counts).map_err(|e| format!("seed {seed}: {e}"))?;
         for (name, damaged) in damaged(&file, seed) {
             compare_file(program, &damaged, &mut Counts::default())
                 .map_err(|e| format!("seed {seed}, damaged file ({name}): {e}"))?;
             damaged_files += 1;
         }
+        let families = capture_cuts::families(seed, &cases, &mut cuts);
+        in_parts += compare_parts(program, &families)
+            .map_err(|e| format!("seed {seed}, runs in parts: {e}"))?;
     }
     let mut rows = counts.rows();
+    rows.extend(cuts.rows());
+    rows.push((
+        "runs in parts that give what the uncut run gives".to_string(),
+        in_parts,
+    ));
     rows.push(("damaged files".to_string(), damaged_files));
     rows.push(("points about packets and paths".to_string(), points));
     report(&rows)
 }
 
-fn compare_file(program: &Program, file: &[u8], counts: &mut Counts) -> Result<(), String> {
+/// Compares the results, then checks that parts give what the uncut run gives; hands back how many
+/// runs in parts there are.
+fn compare_parts(program: &Program, families: &[Family]) -> Result<u64, String> {
+    let file = capture_cuts::file_of(families);
+    let results = compare_file(program, &file, &mut Counts::default())?;
+    capture_cut_check::check(families, &results)
+}
+
+/// Hands back the results, which are both programs'.
+fn compare_file(program: &Program, file: &[u8], counts: &mut Counts) -> Result<Results, String> {
     let own = capture_cases::results(file, counts);
     let theirs = program.run(file)?;
     match first_difference(&own.bytes, &theirs) {
-        None => Ok(()),
+        None => Ok(own),
         Some(at) => Err(explain(file, &own, &theirs, at)),
     }
 }

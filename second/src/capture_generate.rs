@@ -39,21 +39,30 @@ pub const NO_LIMIT: u64 = u64::MAX;
 
 /// A capture file: the fixed cases, and cases by chance with about `runs` runs.
 pub fn generate(seed: u64, runs: u64) -> Vec<u8> {
-    let mut random = Random::new(seed);
+    file_of(&cases(seed, runs))
+}
+
+pub fn file_of(cases: &[Case]) -> Vec<u8> {
     let mut file = Vec::new();
+    cases.iter().for_each(|case| case.write(&mut file));
+    file
+}
+
+/// The cases of a file.
+pub fn cases(seed: u64, runs: u64) -> Vec<Case> {
+    let mut random = Random::new(seed);
     let mut cases = fixed_cases();
     cases.extend(vif_points::all().iter().map(capture_points::case));
     cases.extend(packet_points::in_captures());
     cases.extend(path_points::in_captures());
     add_edge_cases(&mut random, &mut cases);
-    cases.iter().for_each(|case| case.write(&mut file));
     let mut made = 0;
     while made < runs {
         let case = random_case(&mut random);
         made += runs_of(&case).max(1);
-        case.write(&mut file);
+        cases.push(case);
     }
-    file
+    cases
 }
 
 fn runs_of(case: &Case) -> u64 {

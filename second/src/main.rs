@@ -7,6 +7,10 @@ mod bench_sheet;
 mod capture_cases;
 mod capture_compare;
 mod capture_counts;
+mod capture_cut_check;
+mod capture_cut_counts;
+mod capture_cut_points;
+mod capture_cuts;
 mod capture_generate;
 mod capture_packet_cases;
 mod capture_packet_counts;
@@ -70,6 +74,7 @@ usage:
   second compare-vif PROGRAM SEED[,SEED..] WORDS
   second capture [--counts] < CASES > RESULTS
   second generate-capture SEED RUNS > CASES
+  second generate-cuts SEED RUNS > CASES
   second points-capture mask|filling|vif0|upload|packets|paths > CASES
   second compare-capture PROGRAM SEED[,SEED..] RUNS
   second bench-chain PROGRAM
@@ -162,6 +167,12 @@ fn capture_command(arguments: &[&str]) -> Option<Result<(), String>> {
             seed.parse().ok()?,
             runs.parse().ok()?,
         )),
+        ["generate-cuts", seed, runs] => {
+            let cases = capture_generate::cases(seed.parse().ok()?, runs.parse().ok()?);
+            let mut counts = capture_cut_counts::Counts::default();
+            let families = capture_cuts::families(seed.parse().ok()?, &cases, &mut counts);
+            write(&capture_cuts::file_of(&families))
+        }
         ["points-capture", name] => {
             let mut file = Vec::new();
             let cases = capture_point_cases(name)?;
