@@ -54,7 +54,8 @@ struct lent {
     bool memories[VIFS];
 };
 
-/* A long run is made in slices of so many steps, each on what the one before left; to the library that is one run (chain Theorems.run-from). */
+/* A long run is made in slices of so many steps, each on what the one before left, and their counts are added: the same as one run, also where it is
+ * interrupted between two (chain ResumeLaws.stopping-changes-nothing). */
 enum { SLICE = 1 << 20 };
 
 /* Runs for at most so many steps, or until it is interrupted, on the memories of the state's channel. */

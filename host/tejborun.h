@@ -10,7 +10,7 @@
  *
  * state_shape.h has the words of a state block by name, docs/FORMATS.md says what they hold; a struct tejborun_state is lent as (uint32_t *)&state. A start, a
  * run or a build and run on a block that is a state's writes back the state that it leaves, also where it is refused: the words that mean nothing are then
- * zero. On a block that is no state's it is refused with 5, or with a number that is tested before 5, and the block stays as it was. A reset writes any block.
+ * zero. A run that completes no step leaves the block word for word. On a block that is no state's it is refused with 5, or with a number that is tested before 5, and the block stays as it was. A reset writes any block.
  */
 #ifndef TEJBORUN_H
 #define TEJBORUN_H
