@@ -8,6 +8,8 @@ use crate::capture_cut_check;
 use crate::capture_cut_counts;
 use crate::capture_cuts::{self, Family};
 use crate::capture_generate::{cases, file_of};
+use crate::capture_long_cases;
+use crate::capture_long_counts;
 use crate::compare::{describe_ends, first_difference, report, Program};
 use crate::memory::cases::{
     MOST_CODE, MOST_DATA, MOST_LOG, MOST_MAIN, MOST_VIF0_CODE, MOST_VIF0_DATA,
@@ -21,11 +23,12 @@ use crate::words::{word, WORD};
 const MOST_STEPS: u64 = 1_000_000;
 
 /// Compares on the cases of each seed, which have the points worked by hand among them, on damaged
-/// files made from them, and on some of them with their last run in parts.
+/// files made from them, on some of them with their last run in parts, and on long captures.
 pub fn compare(program: &Program, seeds: &[u64], runs: u64) -> Result<(), String> {
     let points = (packet_points::check()? + path_points::check()?) as u64;
     let mut counts = Counts::default();
     let mut cuts = capture_cut_counts::Counts::default();
+    let mut long = capture_long_counts::Counts::default();
     let (mut damaged_files, mut in_parts) = (0, 0);
     for &seed in seeds {
         let cases = cases(seed, runs);
@@ -36,12 +39,16 @@ pub fn compare(program: &Program, seeds: &[u64], runs: u64) -> Result<(), String
                 .map_err(|e| format!("seed {seed}, damaged file ({name}): {e}"))?;
             damaged_files += 1;
         }
-        let families = capture_cuts::families(seed, &cases, &mut cuts);
+        compare_long(program, seed, &mut long)
+            .map_err(|e| format!("seed {seed}, long captures: {e}"))?;
+        let mut families = capture_cuts::families(seed, &cases, &mut cuts);
+        families.extend(capture_long_cases::families(seed, &mut cuts));
         in_parts += compare_parts(program, &families)
             .map_err(|e| format!("seed {seed}, runs in parts: {e}"))?;
     }
     let mut rows = counts.rows();
     rows.extend(cuts.rows());
+    rows.extend(long.rows());
     rows.push((
         "runs in parts that give what the uncut run gives".to_string(),
         in_parts,
@@ -49,6 +56,17 @@ pub fn compare(program: &Program, seeds: &[u64], runs: u64) -> Result<(), String
     rows.push(("damaged files".to_string(), damaged_files));
     rows.push(("points about packets and paths".to_string(), points));
     report(&rows)
+}
+
+fn compare_long(
+    program: &Program,
+    seed: u64,
+    counts: &mut capture_long_counts::Counts,
+) -> Result<(), String> {
+    let cases = capture_long_cases::cases(seed);
+    cases.iter().for_each(|case| counts.note_case(case));
+    compare_file(program, &file_of(&cases), &mut Counts::default())?;
+    Ok(())
 }
 
 /// Compares the results, then checks that parts give what the uncut run gives; hands back how many

@@ -68,6 +68,11 @@ pub struct Trace {
 impl Trace {
     /// None where a run is too long, or the last call is no run.
     pub fn of(case: &Case) -> Option<Trace> {
+        Trace::within(case, MOST_STEPS)
+    }
+
+    /// The same where no run takes more than so many steps.
+    fn within(case: &Case, most: u64) -> Option<Trace> {
         let mut standing = Standing::new(case);
         let (last, before) = case.calls.split_last()?;
         let Call::Run { allowance } = *last else {
@@ -78,13 +83,13 @@ impl Trace {
             answer = match *call {
                 Call::Start { channel, tadr, tte } => standing.start(channel, tadr, tte),
                 Call::Run { allowance } => {
-                    run_shortly(&mut standing, allowance, |_, _, _| {})?.answer
+                    run_shortly(&mut standing, allowance, most, |_, _, _| {})?.answer
                 }
             };
         }
         let mut steps = Vec::new();
         let watch = |old: &State, _: &State, tried| steps.push((*old, tried));
-        let stop = run_shortly(&mut standing, allowance, watch)?;
+        let stop = run_shortly(&mut standing, allowance, most, watch)?;
         Some(Trace {
             allowance,
             stop,
@@ -142,10 +147,11 @@ impl Trace {
 fn run_shortly(
     standing: &mut Standing,
     allowance: u64,
+    most: u64,
     watch: impl FnMut(&State, &State, Result<Step, u32>),
 ) -> Option<Stop> {
-    let stop = standing.run(allowance.min(MOST_STEPS), watch);
-    (stop.answer != ALLOWANCE_USED || allowance <= MOST_STEPS).then_some(stop)
+    let stop = standing.run(allowance.min(most), watch);
+    (stop.answer != ALLOWANCE_USED || allowance <= most).then_some(stop)
 }
 
 /// Captures with their siblings: of those made by hand, and of some of the cases.
@@ -211,7 +217,17 @@ fn up_to_a_run(random: &mut Random, case: &Case) -> Option<Case> {
 
 /// A capture that ends with a run, and its siblings; none where the run is too long.
 pub fn family(random: &mut Random, case: &Case, counts: &mut Counts) -> Option<Family> {
-    let trace = Trace::of(case)?;
+    family_within(random, case, MOST_STEPS, counts)
+}
+
+/// The same where no run takes more than so many steps.
+pub fn family_within(
+    random: &mut Random,
+    case: &Case,
+    most: u64,
+    counts: &mut Counts,
+) -> Option<Family> {
+    let trace = Trace::within(case, most)?;
     let mut family = Family {
         before: case.calls.len() - 1,
         members: Vec::new(),

@@ -12,6 +12,8 @@ mod capture_cut_counts;
 mod capture_cut_points;
 mod capture_cuts;
 mod capture_generate;
+mod capture_long_cases;
+mod capture_long_counts;
 mod capture_packet_cases;
 mod capture_packet_counts;
 mod capture_path_counts;
@@ -47,6 +49,7 @@ mod sheet_random;
 mod sheet_time;
 mod state_block;
 mod unpack_counts;
+mod unpack_kind;
 mod vif;
 mod vif_cases;
 mod vif_compare;
@@ -75,6 +78,7 @@ usage:
   second capture [--counts] < CASES > RESULTS
   second generate-capture SEED RUNS > CASES
   second generate-cuts SEED RUNS > CASES
+  second generate-long SEED > CASES
   second points-capture mask|filling|vif0|upload|packets|paths > CASES
   second compare-capture PROGRAM SEED[,SEED..] RUNS
   second bench-chain PROGRAM
@@ -172,6 +176,10 @@ fn capture_command(arguments: &[&str]) -> Option<Result<(), String>> {
             let mut counts = capture_cut_counts::Counts::default();
             let families = capture_cuts::families(seed.parse().ok()?, &cases, &mut counts);
             write(&capture_cuts::file_of(&families))
+        }
+        ["generate-long", seed] => {
+            let cases = capture_long_cases::cases(seed.parse().ok()?);
+            write(&capture_generate::file_of(&cases))
         }
         ["points-capture", name] => {
             let mut file = Vec::new();
