@@ -119,6 +119,16 @@ padWrong = 45
 abbrev pub outputShort : ℕ
 outputShort = 47
 
+-- ---- the console
+
+-- request 7: "50 for a number above 7"
+abbrev pub numberMissing : ℕ
+numberMissing = 50
+
+-- request 7: "then 51 if a code is waiting for payload"
+abbrev pub codeWaits : ℕ
+codeWaits = 51
+
 -- ---- answers of a run
 
 -- "else if the allowance is used, answer 90"

@@ -53,6 +53,10 @@ pub const SHEET_LONG: u32 = 46;
 
 pub const OUTPUT_SHORT: u32 = 47;
 
+pub const NUMBER_MISSING: u32 = 50;
+
+pub const CODE_WAITS: u32 = 51;
+
 pub const ALLOWANCE_USED: u32 = 90;
 
 pub const INTERRUPT_MET: u32 = 91;

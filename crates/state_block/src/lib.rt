@@ -24,13 +24,13 @@ pub const UNIT_WORDS: usize = REGISTER_WORDS + WAITING_WORDS;
 // The words of a state block: the chain's own, and then its parts, one after another.
 const CHAIN_WORDS: usize = 13;
 
-const VIF1_AT: usize = CHAIN_WORDS;
+pub const VIF1_AT: usize = CHAIN_WORDS;
 
 const PATH2_AT: usize = VIF1_AT + UNIT_WORDS;
 
 const PATH3_AT: usize = PATH2_AT + PATH_WORDS;
 
-const VIF0_AT: usize = PATH3_AT + PATH_WORDS;
+pub const VIF0_AT: usize = PATH3_AT + PATH_WORDS;
 
 pub const STATE_WORDS: usize = VIF0_AT + UNIT_WORDS;
 
