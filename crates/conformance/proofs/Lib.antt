@@ -11,3 +11,4 @@ pub mod NotEmpty
 pub mod AnswerLaws
 pub mod Points
 pub mod PlayLaws
+pub mod SetLaws

@@ -31,13 +31,14 @@ use Rattle.chain.specs.Tags.{nextStack, usesAddr, payloadAt, nextTadr, endsChai
 use Rattle.chain.specs.Start.{resetState, startOf}
 use Rattle.chain.specs.Step.{vifGiven, gifGiven, payloadStep, stepOf}
 use Rattle.chain.specs.Run.{done, stepsOf, runOf}
+use Rattle.console.specs.Register.{isWaiting, numberSet, setOf}
 use Rattle.sheet.specs.Records.{zerosAt, padsZero}
 use Rattle.sheet.specs.Reader.{marked, kindOf, rowRefusal, recordRefusal, readingAt, recordsFrom, contentsFrom, contentsOf}
 use Rattle.sheet.specs.Sizes.{sheetSteps}
 use Rattle.sheet.specs.Layout.{laidOut, chainOf}
 use Rattle.sheet.specs.Build.{buildOf}
 use Rattle.conformance.specs.Demand.{recordsOf}
-use Rattle.conformance.specs.Points.{AllHold, runIn, runOfWords, builtFrom, sizeOf, chainBytes, wordsAt, chainWords, runOfSheet, stepsFor, loggedIn, quadwordIn, instructionIn, allZero, partsWritten, quadwordsFrom, instructionsFrom, dueIn, rowIn, answerIn, runOfVif0, answersTo, programStart, startedIn, tagTransferred, runOn7, left0, left1, runFrom, second, third, playedFrom0, tagUpload, uploadAcrossTags, resumed, drawn, drawnBy, packetsIn, stoppedAt, resumedAt, mixed1, mixed2, mixed0, logOf, overflowing, points, requestPoints}
+use Rattle.conformance.specs.Points.{AllHold, runIn, runOfWords, builtFrom, sizeOf, chainBytes, wordsAt, chainWords, runOfSheet, stepsFor, loggedIn, quadwordIn, instructionIn, allZero, partsWritten, quadwordsFrom, instructionsFrom, dueIn, rowIn, answerIn, runOfVif0, answersTo, programStart, startedIn, tagTransferred, runOn7, left0, left1, runFrom, second, third, playedFrom0, tagUpload, uploadAcrossTags, resumed, drawn, drawnBy, packetsIn, stoppedAt, resumedAt, mixed1, mixed2, mixed0, logOf, overflowing, preset, masked, answerToSet, points, requestPoints}
 use Rattle.conformance.specs.Play.{playRefusal, playOf}
 
 -- ---- the definitions that the table computes through
@@ -63,7 +64,7 @@ unfolding zerosAt padsZero marked kindOf rowRefusal recordRefusal readingAt reco
 sheetOpen = tt
 
 benchOpen : Unit {0}
-unfolding recordsOf runIn runOfWords builtFrom sizeOf chainBytes wordsAt chainWords runOfSheet stepsFor loggedIn quadwordIn instructionIn allZero partsWritten quadwordsFrom instructionsFrom dueIn rowIn answerIn runOfVif0 answersTo startedIn tagTransferred runOn7 runFrom second third playRefusal playOf playedFrom0 tagUpload uploadAcrossTags resumed drawn drawnBy packetsIn stoppedAt resumedAt mixed1 mixed2 mixed0 logOf overflowing
+unfolding recordsOf runIn runOfWords builtFrom sizeOf chainBytes wordsAt chainWords runOfSheet stepsFor loggedIn quadwordIn instructionIn allZero partsWritten quadwordsFrom instructionsFrom dueIn rowIn answerIn runOfVif0 answersTo startedIn tagTransferred runOn7 runFrom second third playRefusal playOf playedFrom0 tagUpload uploadAcrossTags resumed drawn drawnBy packetsIn stoppedAt resumedAt mixed1 mixed2 mixed0 logOf overflowing preset masked answerToSet
 benchOpen = tt
 
 opened : Unit {0}
@@ -128,10 +129,15 @@ requestsOpened : Unit {0}
 unfolding opened requestPoints
 requestsOpened = tt
 
+-- request 7
+sets : AllHold (drop 53 requestPoints)
+unfolding requestsOpened isWaiting numberSet setOf
+sets = (refl, (refl, tt))
+
 -- request 9
 stops : AllHold (drop 51 requestPoints)
 unfolding requestsOpened nextStack wordsInRange directInRange upTo tagInRange
-stops = (refl, (refl, tt))
+stops = (refl, (refl, sets))
 
 -- request 11
 paths : AllHold (drop 45 requestPoints)

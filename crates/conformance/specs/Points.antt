@@ -25,6 +25,8 @@ use Rattle.chain.specs.Setters.{withPending}
 use Rattle.chain.specs.Start.{resetPath, resetUnit, resetState, startOf}
 use Rattle.chain.specs.Run.{Ran, numberOf, runOf}
 use Rattle.chain.specs.Resume.{resumed as resumedRun}
+use Rattle.console.specs.Register.{setNumber, setOf}
+use Rattle.console.specs.Block.{stateSet}
 use Rattle.sheet.specs.Layout.{wordsBytes, tagWords}
 use Rattle.sheet.specs.Build.{Left, buildOf, exportedNumber}
 use Rattle.conformance.specs.Demand.{stepsMeant}
@@ -463,6 +465,20 @@ stoppedAt a = runOf stopping a (startOf resetState 1 0 false .state) blank
 unfoldable pub resumedAt : ℕ → ℕ → Ran
 resumedAt a b = resumedRun stopping b (stoppedAt a)
 
+-- ROW 0, ROW 3 and COL 0 of a unit set on the reset state; and an UNPACK of one vector whose fields have the mask codes 1, 2, 2 and 1: STCYCL 1, 1; STMASK;
+-- UNPACK S-32, M, NUM 1; its word; three NOPs
+unfoldable pub preset : ℕ → State
+preset unit = stateSet unit (stateSet unit (stateSet unit resetState 0 21) 3 24) 4 17
+
+unfoldable pub masked : ℕ → Lent → Ran
+masked unit m =
+    runOf (wordsBytes (tagWords 1 2 ++ (0x01000101 ∷ 0x20000000 ∷ 0x69 ∷ 0x70010000 ∷ 9 ∷ 0 ∷ 0 ∷ 0 ∷ []) ++ tagWords 7 0)) 100
+    (startOf (preset unit) unit 0 false .state) m
+
+-- the answer to setting a number of a unit that waits for STROW's words, or for nothing
+unfoldable pub answerToSet : Waiting → ℕ → ℕ
+answerToSet w number = setNumber (setOf (withWaiting resetUnit w) number 5 .answer)
+
 unfoldable pub requestPoints : List Point
 requestPoints =
     -- request 2: "in MODE 2 a field's ROW is replaced only where that field's mask code is 0." Only X has code 0: 10 + 1, then 11 + 2.
@@ -551,4 +567,8 @@ requestPoints =
     -- request 9: a run that answers 90, between a GIF tag and its data; gone on with, and in one; an allowance of 0
     ∷ point (packetsIn (stoppedAt 6) ++ packetsIn (resumedAt 6 94) ++ packetsIn (stoppedAt 100)) (90 ∷ 6 ∷ 0 ∷ 0 ∷ 8 ∷ 1 ∷ 0 ∷ 8 ∷ 1 ∷ [])
     ∷ point (packetsIn (stoppedAt 0) ++ packetsIn (stoppedAt 8) ++ packetsIn (stoppedAt 200)) (90 ∷ 0 ∷ 0 ∷ 0 ∷ 8 ∷ 1 ∷ 0 ∷ 8 ∷ 1 ∷ [])
+    -- request 7: "Runs read the block as it stands": either unit
+    ∷ point (quadwordIn (masked 1 blank) 0 ++ quadwordIn (masked 0 blank0) 0) (21 ∷ 17 ∷ 17 ∷ 24 ∷ 21 ∷ 17 ∷ 17 ∷ 24 ∷ [])
+    -- "50 for a number above 7, then 51 if a code is waiting for payload"
+    ∷ point (answerToSet Nothing 7 ∷ answerToSet Nothing 8 ∷ answerToSet (RowDue 4 false) 7 ∷ answerToSet (RowDue 4 false) 8 ∷ []) (0 ∷ 50 ∷ 51 ∷ 50 ∷ [])
     ∷ []
