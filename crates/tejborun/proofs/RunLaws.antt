@@ -1,6 +1,6 @@
 -- Calls on a state block.
 use mathlib.Core.Path.{_≡_, refl, ap}
-use mathlib.Core.Bool.{not, _&&_, _||_}
+use mathlib.Core.Bool.{true, not, _&&_, _||_}
 use mathlib.Core.List.{List, [], _∷_}
 use Prim.Native.Nat.{ℕ, _<_, _≤_}
 use borrow.Author.Tests.{eq-eqb, ne-eqb, lt-ltb, le-ltb}
@@ -14,13 +14,19 @@ use Rattle.state_block.specs.declared.ReadState.{ReadState}
 use Rattle.chain.specs.declared.StartResult.{StartResult}
 use Rattle.chain.specs.declared.RunResult.{RunResult}
 use Rattle.state_block.specs.Sizes.{stateSize}
-use Rattle.state_block.specs.StateBlock.{stateBlock, stateInBlock}
+use Rattle.state_block.specs.StateBlock.{stateBlock, readState, stateInBlock}
 use Rattle.chain.specs.Step.{Machine}
 use Rattle.chain.specs.Start.{resetState, startNumber, startOf}
 use Rattle.chain.specs.Run.{numberOf, leftBy, runOf}
 use Rattle.chain.proofs.ResumeLaws.{stopping-changes-nothing}
+use Rattle.chain.specs.Range.{unitOf}
+use Rattle.chain.specs.Setters.{withUnit}
+use Rattle.console.specs.declared.SetAnswer.{SetAnswer}
+use Rattle.console.specs.Register.{setNumber, setOf}
+use Rattle.console.specs.Block.{unitHeld, setBlock, setInBlock}
+use Rattle.console.proofs.ReadLaws.{block-as-unit}
 use Rattle.tejborun.specs.Buffers.{short, wrongBlock, written, writtenBack}
-use Rattle.tejborun.specs.Runs.{blocked, resetCall, startCall, Left, left, runCall}
+use Rattle.tejborun.specs.Runs.{blocked, resetCall, startCall, setCall, Left, left, runCall}
 
 module _ (block : List ℕ) where
   pub reset-short : (length block ≡ stateSize → ⊥) → blocked short block ≡ resetCall block
@@ -50,6 +56,27 @@ module _ (block : List ℕ) (channel tadr tte : ℕ) where
       → blocked n after ≡ startCall block channel tadr tte
   unfolding startCall if
   start-done h l e q b k = rw (eq-eqb (length block) stateSize h, le-ltb 1 tte l, ← e, ← q, b, k)
+
+module _ (block : List ℕ) (unit number value : ℕ) where
+  pub set-short : (length block ≡ stateSize → ⊥) → blocked short block ≡ setCall block unit number value
+  unfolding setCall if
+  set-short h = rw (ne-eqb (length block) stateSize h)
+
+  pub set-done : length block ≡ stateSize → {a : SetAnswer} {after : List ℕ} → setBlock a after ≡ setInBlock block unit number value
+      → {n : ℕ}
+      → n ≡ setNumber a
+      → blocked n after ≡ setCall block unit number value
+  unfolding setCall if
+  set-done h e q = rw (eq-eqb (length block) stateSize h, ← e, q)
+
+  -- request 7, "Runs read the block as it stands": a start or a run after the call, which reads the state of the block, gets the register block that `setOf` leaves
+  pub set-seen : unit ≤ 1 → length block ≡ stateSize → stateInBlock block .known ≡ true
+      → stateInBlock (setCall block unit number value .block)
+      ≡ readState true
+      (withUnit (unitOf unit) (stateInBlock block .state) (setOf (unitHeld unit (stateInBlock block .state)) number value .block)
+      (stateInBlock block .state .path2) (stateInBlock block .state .used))
+  unfolding setCall if
+  set-seen k h known = rw (eq-eqb (length block) stateSize h) (block-as-unit block unit number value k h known .1)
 
 module _ (main : List ℕ) (m : Lent) (block : List ℕ) (allowance : ℕ) (result : List ℕ) where
   pub run-no-block : (length block ≡ stateSize → ⊥) → left short m block result ≡ runCall main m block allowance result

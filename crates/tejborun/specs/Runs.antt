@@ -1,4 +1,4 @@
--- Calls on a state block: reset, start and run.
+-- Calls on a state block: reset, start, set and run.
 use Prim.Native.Nat.{ℕ}
 use mathlib.Core.Bool.{Bool, not, _&&_, _||_}
 use mathlib.Core.List.{List, [], _∷_}
@@ -11,6 +11,8 @@ use Rattle.chain.specs.declared.StartResult.{StartResult}
 use Rattle.state_block.specs.StateBlock.{stateBlock, stateInBlock}
 use Rattle.chain.specs.Start.{resetState, startNumber, startOf}
 use Rattle.chain.specs.Run.{Ran, numberOf, runOf}
+use Rattle.console.specs.Register.{setNumber}
+use Rattle.console.specs.Block.{SetBlock, setInBlock}
 use Rattle.tejborun.specs.Buffers.{short, wrongBlock, written, writtenBack}
 
 -- ---- reset and start
@@ -39,6 +41,15 @@ startCall block channel tadr tte =
     if (wrongBlock block) (blocked short block)
     (if (ltb 1 tte) (blocked 5 block)
     (startOn (stateInBlock block) block channel tadr (eqb tte 1)))
+
+-- ---- set
+
+-- request 7, in the block of a state: the answer's number, and the block afterwards
+abbrev pub setLeft : SetBlock → Blocked
+setLeft x = blocked (setNumber (x .answer)) (x .block)
+
+unfoldable pub setCall : List ℕ → ℕ → ℕ → ℕ → Blocked
+setCall block unit number value = if (wrongBlock block) (blocked short block) (setLeft (setInBlock block unit number value))
 
 -- ---- run
 

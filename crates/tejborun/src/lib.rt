@@ -10,6 +10,7 @@ pub use boards::tejborun_compare;
 pub use play::tejborun_build_and_run;
 pub use runs::tejborun_reset;
 pub use runs::tejborun_run;
+pub use runs::tejborun_set;
 pub use runs::tejborun_start;
 pub use sheets::tejborun_build;
 pub use sheets::tejborun_meaning;

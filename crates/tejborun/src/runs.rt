@@ -1,9 +1,10 @@
-// Calls on a state block: reset, start and run.
+// Calls on a state block: reset, start, set and run.
 use super::blocks::put_back;
 use super::blocks::put_state;
 use super::results::put_two;
 use chain::Answer;
 use chain::StartAnswer;
+use console::SetAnswer;
 use state_block::STATE_WORDS;
 use state_block::state_in_block;
 ghost use mathlib.Core.Path.{_≡_};
@@ -12,7 +13,8 @@ ghost use lib.Dec.{eqb};
 ghost use Rattle.memories.specs.Lengths.{lent};
 ghost use Rattle.chain.specs.Start.{startNumber};
 ghost use Rattle.chain.specs.Run.{numberOf};
-ghost use Rattle.tejborun.specs.Runs.{blocked, resetCall, startCall, left, runCall};
+ghost use Rattle.console.specs.Register.{setNumber};
+ghost use Rattle.tejborun.specs.Runs.{blocked, resetCall, startCall, setCall, left, runCall};
 
 fn start_number(answer: StartAnswer) -> u32
     ensures { λ r. ⌜ r ≡ startNumber answer ⌝ }
@@ -73,6 +75,26 @@ pub extern "C" fn tejborun_start(block: &mut [u32], channel: u32, tadr: u32, tte
     let state = r.state;
     put_back(block, known, state);
     start_number(answer)
+}
+
+fn set_number(answer: SetAnswer) -> u32
+    ensures { λ r. ⌜ r ≡ setNumber answer ⌝ }
+{
+    match answer {
+        SetAnswer::Set => 0,
+        SetAnswer::Refused(n) => n,
+    }
+}
+
+#[no_mangle]
+pub extern "C" fn tejborun_set(block: &mut [u32], unit: u32, number: u32, value: u32) -> u32
+    ensures { λ r. ⌜ blocked r (now (block .exit)) ≡ setCall (now (block .entry)) unit number value ⌝ }
+{
+    if block.len() != STATE_WORDS {
+        return 60;
+    }
+    let answer = console::set_in_block(block, unit, number, value);
+    set_number(answer)
 }
 
 #[no_mangle]
