@@ -18,11 +18,12 @@ fn call_right(kind: u32) -> bool {
     match kind {
         1 => true,
         2 => true,
+        3 => true,
         _ => false,
     }
 }
 
-// Whether each call is a start or a run.
+// Whether each call is a start, a run or a set.
 fn calls_right(calls: &[u8], count: u32) -> bool {
     let mut k = 0;
     while k < count {

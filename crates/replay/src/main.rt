@@ -4,6 +4,7 @@ mod run;
 mod start;
 mod sums;
 
+use blocks::block_at;
 use cases::LOG_NUMBERS;
 use cases::fill_bytes;
 use cases::fill_memories;
@@ -26,10 +27,11 @@ struct Case {
     block: [u32; STATE_WORDS],
 }
 
-// Where the results stand, and the state that is given to the next call.
+// Where the results stand, the state that is given to the next call, and the block that shows it.
 struct Running {
     at: usize,
     state: State,
+    block: [u32; STATE_WORDS],
 }
 
 // Where the results stand after a case, and whether the case was whole.
@@ -51,6 +53,7 @@ fn running_of(header: &[u8], at: usize) -> Running {
     Running {
         at,
         state: state_of(header),
+        block: block_at(header, 48),
     }
 }
 

@@ -10,6 +10,9 @@ use cases::tell_changes;
 use chain::StartAnswer;
 use chain::StartResult;
 use chain::State;
+use console::SetAnswer;
+use console::set_in_block;
+use state_block::state_in_block;
 use wire::emit;
 use wire::emit_all;
 use wire::emit_long;
@@ -22,10 +25,16 @@ fn start_number(answer: StartAnswer) -> u32 {
     }
 }
 
-fn tell_state(out: &mut [u8; 65536], at: usize, case: Case, state: State) -> usize {
+// The state that a start or a run left, as a result shows it.
+fn tell_state(out: &mut [u8; 65536], at: usize, case: Case, state: State) -> Running {
     let given = case.block;
     let block = shown_block(given, state);
-    emit_all(out, at, &block)
+    let n = emit_all(out, at, &block);
+    Running {
+        at: n,
+        state,
+        block,
+    }
 }
 
 // A start; a TTE above 1 is out of range.
@@ -50,8 +59,30 @@ fn start_call(out: &mut [u8; 65536], s: Running, case: Case, calls: &[u8], k: u3
     let answer = r.answer;
     let left = r.state;
     let n = emit(out, s.at, start_number(answer));
-    let at = tell_state(out, n, case, left);
-    Running { at, state: left }
+    tell_state(out, n, case, left)
+}
+
+fn set_number(answer: SetAnswer) -> u32 {
+    match answer {
+        SetAnswer::Set => 0,
+        SetAnswer::Refused(n) => n,
+    }
+}
+
+// A unit's ROW or COL set in the block as it stands; the state goes on as that block has it.
+fn set_call(out: &mut [u8; 65536], s: Running, calls: &[u8], k: u32) -> Running {
+    let mut block = s.block;
+    let answer = set_in_block(
+        &mut block,
+        call_word(calls, k, 1),
+        call_word(calls, k, 2),
+        call_word(calls, k, 3),
+    );
+    let n = emit(out, s.at, set_number(answer));
+    let at = emit_all(out, n, &block);
+    let r = state_in_block(&block);
+    let state = r.state;
+    Running { at, state, block }
 }
 
 // Whole memories, or what a run changed in them and their sums.
@@ -100,8 +131,7 @@ fn run_chain(
     let a = emit(out, s.at, answer_number(answer));
     let n = emit_long(out, a, r.counts.steps);
     let b = emit_long(out, n, r.counts.packets);
-    let at = tell_state(out, b, case, left);
-    Running { at, state: left }
+    tell_state(out, b, case, left)
 }
 
 fn run_call(
@@ -118,7 +148,8 @@ fn run_call(
     log_before: &mut [u64],
 ) -> Running {
     let r = run_chain(out, s, case, allowance, main, data, code, log);
-    let left = r.state;
+    let state = r.state;
+    let block = r.block;
     let at = tell_memories(
         out,
         r.at,
@@ -130,7 +161,7 @@ fn run_call(
         code_before,
         log_before,
     );
-    Running { at, state: left }
+    Running { at, state, block }
 }
 
 fn call(
@@ -151,8 +182,12 @@ fn call(
     data0_before: &mut [u32],
     code0_before: &mut [u8],
 ) -> Running {
-    if call_word(calls, k, 0) == 1 {
+    let kind = call_word(calls, k, 0);
+    if kind == 1 {
         return start_call(out, s, case, calls, k);
+    }
+    if kind == 3 {
+        return set_call(out, s, calls, k);
     }
     let allowance = joined(call_word(calls, k, 1), call_word(calls, k, 2));
     if s.state.channel == 0 {
