@@ -9,6 +9,7 @@ use crate::memory::cases::{
 };
 use crate::model::Model;
 use crate::refusals;
+use crate::set;
 use crate::state_block::{
     self, bit, chain_word, describe_state, read_state, write_state, StateBlock, STATE_WORDS,
 };
@@ -30,6 +31,7 @@ const RUN_HEAD: usize = 5;
 pub enum Call {
     Start { channel: u32, tadr: u32, tte: u32 },
     Run { allowance: u64 },
+    Set { unit: u32, number: u32, value: u32 },
 }
 
 #[derive(Clone)]
@@ -80,6 +82,11 @@ impl Call {
         match *self {
             Call::Start { channel, tadr, tte } => [1, channel, tadr, tte],
             Call::Run { allowance } => [2, allowance as u32, (allowance >> 32) as u32, 0],
+            Call::Set {
+                unit,
+                number,
+                value,
+            } => [3, unit, number, value],
         }
     }
 
@@ -94,6 +101,11 @@ impl Call {
             2 => Some(Call::Run {
                 allowance: number(bytes, at + 1),
             }),
+            3 => Some(Call::Set {
+                unit: word(bytes, at + 1),
+                number: word(bytes, at + 2),
+                value: word(bytes, at + 3),
+            }),
             _ => None,
         }
     }
@@ -103,7 +115,9 @@ impl Call {
 pub struct Standing {
     /// None where the case's block exists in no state.
     pub state: Option<State>,
+    /// The case's block with what was set, until a start or a run writes it where there is a state.
     given: StateBlock,
+    written: bool,
     pub main: Vec<u8>,
     vif0: UnitMemories,
     vif1: UnitMemories,
@@ -117,6 +131,7 @@ impl Standing {
         Standing {
             state: read_state(&case.state),
             given: case.state,
+            written: false,
             main,
             vif0: UnitMemories::of_vif0(case.fill, case.vif0_data_length, case.vif0_code_length),
             vif1: UnitMemories::new(case.fill, case.data_length, case.code_length),
@@ -126,6 +141,7 @@ impl Standing {
 
     /// Makes a start; answers 0 or 5.
     pub fn start(&mut self, channel: u32, tadr: u32, tte: u32) -> u32 {
+        self.written = true;
         match (&mut self.state, bit(tte)) {
             (Some(state), Some(tte)) => chain::start(state, channel, tadr, tte).err().unwrap_or(0),
             _ => refusals::RANGE,
@@ -147,8 +163,33 @@ impl Standing {
         }
     }
 
+    /// Sets a register of a unit; answers 0, 50, 5 or 51.
+    pub fn set(&mut self, unit: u32, number: u32, value: u32) -> u32 {
+        let mut block = self.block();
+        let answer = set::set(&mut block, unit, number, value);
+        if answer.is_ok() {
+            self.state = read_state(&block);
+            self.given = block;
+        }
+        answer.err().unwrap_or(0)
+    }
+
+    /// Makes a call; hands back its answer.
+    pub fn make(&mut self, call: &Call) -> u32 {
+        match *call {
+            Call::Start { channel, tadr, tte } => self.start(channel, tadr, tte),
+            Call::Run { allowance } => self.run(allowance, |_, _, _| {}).answer,
+            Call::Set {
+                unit,
+                number,
+                value,
+            } => self.set(unit, number, value),
+        }
+    }
+
     /// The state, and the memories that a run on it is lent.
     pub fn lend(&mut self) -> (Option<&mut State>, Memories<'_>) {
+        self.written = true;
         let lent = match self.model() {
             Model::Vif0 => &mut self.vif0,
             Model::Vif1 => &mut self.vif1,
@@ -193,8 +234,8 @@ impl Standing {
 
     pub fn block(&self) -> StateBlock {
         match &self.state {
-            Some(state) => write_state(state),
-            None => self.given,
+            Some(state) if self.written => write_state(state),
+            _ => self.given,
         }
     }
 }
@@ -292,8 +333,8 @@ pub fn ends_within(file: &[u8], most: u64) -> bool {
         let mut standing = Standing::new(&case);
         for call in &case.calls {
             match *call {
-                Call::Start { channel, tadr, tte } => {
-                    standing.start(channel, tadr, tte);
+                Call::Start { .. } | Call::Set { .. } => {
+                    standing.make(call);
                 }
                 Call::Run { allowance } => {
                     let stop = standing.run(allowance.min(most), |_, _, _| {});
@@ -353,6 +394,17 @@ fn run_case(case: &Case, index: usize, results: &mut Results, counts: &mut Count
                 let before = standing.block();
                 let answer = standing.start(channel, tadr, tte);
                 counts.note_start(&before, (channel, tadr, tte), answer, &standing);
+                put_word(out, answer);
+                put_block(out, &standing);
+            }
+            Call::Set {
+                unit,
+                number,
+                value,
+            } => {
+                let before = standing.block();
+                let answer = standing.set(unit, number, value);
+                counts.note_set(&before, (unit, number, value), answer, &standing);
                 put_word(out, answer);
                 put_block(out, &standing);
             }
@@ -419,7 +471,7 @@ fn sums(numbers: impl Iterator<Item = u64>) -> (u64, u64) {
 pub fn describe_result(bytes: &[u8], call: &Call, case: &Case) -> String {
     let have = bytes.len() / WORD;
     let head = match call {
-        Call::Start { .. } => 1,
+        Call::Start { .. } | Call::Set { .. } => 1,
         Call::Run { .. } => RUN_HEAD,
     };
     if have < head + STATE_WORDS {
@@ -471,7 +523,7 @@ pub fn describe_case(case: &Case, last: usize) -> String {
     for (i, call) in case.calls[..=last].iter().enumerate() {
         let mut steps: Vec<String> = Vec::new();
         let answer = match *call {
-            Call::Start { channel, tadr, tte } => standing.start(channel, tadr, tte).to_string(),
+            Call::Start { .. } | Call::Set { .. } => standing.make(call).to_string(),
             Call::Run { allowance } => {
                 let watch = |old: &State, _: &State, tried| {
                     if i == last {
@@ -531,6 +583,7 @@ mod tests {
                     let stop = standing.run(allowance, |_, _, _| {});
                     runs.push((stop.answer, stop.steps, stop.packets));
                 }
+                Call::Set { .. } => panic!("a set among the turns"),
             }
         }
         assert_eq!(runs, [(0, 9, 0), (0, 9, 0), (0, 3, 1), (0, 9, 0)]);
@@ -555,6 +608,40 @@ mod tests {
             registers.map(|of| (of.itop, of.dbf)),
             [(9, false), (9, true)]
         );
+    }
+
+    /// The words of docs/FORMATS.md: 3, unit, number, value; the answer and the state block.
+    #[test]
+    fn a_set_in_a_file() {
+        for whole in [false, true] {
+            let mut case = plain_case(&State::reset(), &tag(7, 0, 0), 0, &[]);
+            case.whole = whole;
+            case.state[chain_word::PAYLOAD_AT] = 99;
+            let (mut file, mut wanted) = (Vec::new(), Vec::new());
+            case.write(&mut file);
+            // Two calls, put between the state block and main memory.
+            file[9 * WORD] = 2;
+            let main = file.split_off(HEADER * WORD);
+            for word in [3, 1, 6, 0x8000_0001, 3, 0, 9, 7] {
+                put_word(&mut file, word);
+            }
+            file.extend(main);
+            let mut block = case.state;
+            block[13 + 19] = 0x8000_0001;
+            for answer in [0, 50] {
+                put_word(&mut wanted, answer);
+                block.iter().for_each(|&word| put_word(&mut wanted, word));
+            }
+            let given = results(&file, &mut Counts::default());
+            assert!(given.bytes == wanted && given.damage.is_none());
+            let (read, length) = first_case(&file).unwrap();
+            let mut again = Vec::new();
+            read.write(&mut again);
+            assert!(length == file.len() && again == file);
+            file[HEADER * WORD] = 4;
+            let damaged = results(&file, &mut Counts::default());
+            assert_eq!(damaged.bytes, b"damaged case 0\n");
+        }
     }
 
     /// Word 0 of a block that exists in no state says whose lengths are tested.

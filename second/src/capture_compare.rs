@@ -17,6 +17,7 @@ use crate::memory::cases::{
 use crate::packet_points;
 use crate::path_points;
 use crate::random::Random;
+use crate::set_points;
 use crate::words::{word, WORD};
 
 /// Damaged files with longer runs are left out.
@@ -26,6 +27,7 @@ const MOST_STEPS: u64 = 1_000_000;
 /// files made from them, on some of them with their last run in parts, and on long captures.
 pub fn compare(program: &Program, seeds: &[u64], runs: u64) -> Result<(), String> {
     let points = (packet_points::check()? + path_points::check()?) as u64;
+    let set_points = set_points::check()? as u64;
     let mut counts = Counts::default();
     let mut cuts = capture_cut_counts::Counts::default();
     let mut long = capture_long_counts::Counts::default();
@@ -55,6 +57,7 @@ pub fn compare(program: &Program, seeds: &[u64], runs: u64) -> Result<(), String
     ));
     rows.push(("damaged files".to_string(), damaged_files));
     rows.push(("points about packets and paths".to_string(), points));
+    rows.push(("points about sets".to_string(), set_points));
     report(&rows)
 }
 
@@ -197,11 +200,12 @@ fn spoil_case(made: &mut Vec<(String, Vec<u8>)>, file: &[u8], start: usize, inde
     spoil("M just too short for P", 1, (4 * held(2)).saturating_sub(1));
     let calls = held(9) as usize;
     if calls > 0 {
-        for kind in [0, 3, 257, u32::MAX] {
+        for kind in [0, 3, 4, 257, 259, u32::MAX] {
             spoil(&format!("first call of kind {kind}"), HEADER, kind);
         }
         spoil("last call of kind 0", HEADER + 4 * (calls - 1), 0);
         spoil("last call of kind 3", HEADER + 4 * (calls - 1), 3);
+        spoil("last call of kind 4", HEADER + 4 * (calls - 1), 4);
     }
 }
 

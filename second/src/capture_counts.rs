@@ -10,6 +10,7 @@ use crate::log;
 use crate::memory::MOST_MAIN;
 use crate::model::{Model, ONLY_VIF1};
 use crate::refusals;
+use crate::set_counts;
 use crate::state_block::{
     chain_word, part, read_path, read_state, unit_word, used, waiting_name, waiting_number,
     write_state, StateBlock, DIRECT, DIRECTHL, PATHS, REGISTERS, STMASK, UNITS, UNPACK, VIF0, VIF1,
@@ -82,6 +83,7 @@ pub struct Counts {
     channels: [bool; 3],
     packets: capture_packet_counts::Counts,
     paths: capture_path_counts::Counts,
+    sets: set_counts::Counts,
 }
 
 impl Counts {
@@ -107,6 +109,7 @@ impl Counts {
         self.channels = [false; 3];
         self.packets.begin_case();
         self.paths.begin_case();
+        self.sets.begin_case(case.whole);
         self.add(if case.whole {
             "cases that show whole memories"
         } else {
@@ -155,6 +158,7 @@ impl Counts {
         let Ok(step) = tried else {
             return;
         };
+        self.sets.note_step(old);
         self.steps += 1;
         if !self.stepped {
             self.stepped = true;
@@ -370,6 +374,7 @@ impl Counts {
 
     pub fn note_run(&mut self, before: &StateBlock, allowance: u64, stop: &Stop, now: &Standing) {
         self.runs += 1;
+        self.sets.note_call("runs", before);
         let wrong = wrong_at_entry(before, now);
         let closes_next = now.state.is_some_and(|state| self.closes_next(&state));
         self.note_lent(before, wrong.first().copied(), now);
@@ -695,6 +700,7 @@ impl Counts {
         now: &Standing,
     ) {
         self.starts += 1;
+        self.sets.note_call("starts", before);
         let (channel, tadr, tte) = values;
         if answer != 0 {
             self.note_refused_start(before, &start_fields(channel, tadr, tte));
@@ -714,6 +720,18 @@ impl Counts {
         if let Some(refusal) = wrong_at_entry(before, now).first() {
             self.add(&format!("start where a run is refused {refusal}"));
         }
+    }
+
+    /// Notes a set by its unit, number and value.
+    pub fn note_set(
+        &mut self,
+        before: &StateBlock,
+        values: (u32, u32, u32),
+        answer: u32,
+        now: &Standing,
+    ) {
+        let refused = wrong_at_entry(before, now);
+        self.sets.note_set(before, values, answer, &refused);
     }
 
     /// Notes a refused start by the values that are out of range.
@@ -786,6 +804,7 @@ impl Counts {
         row("quadwords taken by path 3", self.path3_quadwords);
         rows.extend(self.packets.rows(&ENTRY));
         rows.extend(self.paths.rows());
+        rows.extend(self.sets.rows(&ENTRY));
         rows.extend(named_rows(&self.by_name, names()));
         rows
     }

@@ -4,7 +4,7 @@ use crate::capture_cases::{describe_case, describe_result, Call, Case, Results, 
 use crate::capture_cuts::{Family, Kind, Member};
 use crate::chain::{ALLOWANCE_USED, DONE};
 use crate::model::Model;
-use crate::state_block::{chain_word, part, StateBlock, STATE_WORDS};
+use crate::state_block::{chain_word, part, rewritten, StateBlock, STATE_WORDS};
 use crate::vif_cases::code_words;
 use crate::words::{number, word};
 
@@ -78,7 +78,7 @@ impl Seen {
             }
         };
         Seen {
-            block: standing.block(),
+            block: rewritten(&standing.block()),
             vif0: unit(Model::Vif0),
             vif1: unit(Model::Vif1),
             log: standing.log.clone(),
@@ -93,9 +93,10 @@ impl Seen {
         }
     }
 
-    fn read_start(&mut self, reader: &mut Reader) {
+    /// Reads what a start or a set left; words that mean nothing are left out.
+    fn read_other(&mut self, reader: &mut Reader) {
         reader.word();
-        self.block = reader.block();
+        self.block = rewritten(&reader.block());
         self.sums.clear();
     }
 
@@ -226,7 +227,7 @@ fn outcome(before: usize, member: &Member, bytes: &[u8]) -> Result<Outcome, Brok
     for (call, of_case) in member.case.calls.iter().enumerate() {
         let broken = |what: String| Err(Broken { call, what });
         let Call::Run { allowance } = *of_case else {
-            seen.read_start(&mut reader);
+            seen.read_other(&mut reader);
             continue;
         };
         let was = (allowance == 0).then(|| seen.clone());

@@ -81,7 +81,7 @@ impl Trace {
         let mut answer = DONE;
         for call in before {
             answer = match *call {
-                Call::Start { channel, tadr, tte } => standing.start(channel, tadr, tte),
+                Call::Start { .. } | Call::Set { .. } => standing.make(call),
                 Call::Run { allowance } => {
                     run_shortly(&mut standing, allowance, most, |_, _, _| {})?.answer
                 }
@@ -367,7 +367,7 @@ mod tests {
         let calls = &member.case.calls[before..before + member.parts];
         let allowance = |call: &Call| match *call {
             Call::Run { allowance } => allowance,
-            Call::Start { .. } => panic!("a start among the parts"),
+            Call::Start { .. } | Call::Set { .. } => panic!("another call among the parts"),
         };
         calls.iter().map(allowance).collect()
     }

@@ -17,6 +17,8 @@ use crate::packet_points;
 use crate::path_points;
 use crate::random::Random;
 use crate::refusals;
+use crate::set_cases;
+use crate::set_points;
 use crate::state_block::{
     self, chain_word, first_unused, limit, path_word, put_part, read_path, read_state, read_unit,
     unit_word, write_state, write_unit, StateBlock, UnitBlock, PATH2, PATH3, PATHS, PATH_WORDS,
@@ -55,7 +57,11 @@ pub fn cases(seed: u64, runs: u64) -> Vec<Case> {
     cases.extend(vif_points::all().iter().map(capture_points::case));
     cases.extend(packet_points::in_captures());
     cases.extend(path_points::in_captures());
+    cases.extend(set_points::in_captures());
+    let first = cases.len();
     add_edge_cases(&mut random, &mut cases);
+    set_cases::add_sets(&mut random, &mut cases[first..]);
+    cases.extend(set_cases::all(&mut random));
     let mut made = 0;
     while made < runs {
         let case = random_case(&mut random);
@@ -92,6 +98,14 @@ pub fn run(allowance: u64) -> Call {
 
 pub fn start(channel: u32, tadr: u32, tte: u32) -> Call {
     Call::Start { channel, tadr, tte }
+}
+
+pub fn set(unit: u32, number: u32, value: u32) -> Call {
+    Call::Set {
+        unit,
+        number,
+        value,
+    }
 }
 
 /// A case over these words of main memory, with a log of so many entries.
@@ -1328,6 +1342,15 @@ impl Maker {
         self.standing.start(channel, tadr, tte)
     }
 
+    /// Sets by chance.
+    fn some_sets(&mut self, random: &mut Random) {
+        for _ in 0..random.pick(&[1, 1, 1, 2, 8]) {
+            let call = set_cases::random_set(random);
+            self.case.calls.push(call);
+            self.standing.make(&call);
+        }
+    }
+
     /// Runs on, at most so many steps; hands back the answer and the steps.
     fn run(&mut self, random: &mut Random, most: u64) -> (u32, u64) {
         let mut steps = 0;
@@ -1813,6 +1836,9 @@ fn make_calls(random: &mut Random, mut maker: Maker) -> Case {
     }
     while left > 0 {
         left -= 1;
+        if random.percent(12) {
+            maker.some_sets(random);
+        }
         let most = match random.below(20) {
             0 => 0,
             1 => 1,

@@ -1,6 +1,6 @@
 //! Long captures of V4-32 and of what is nearly that, cut anywhere.
 
-use crate::capture_cases::{Call, Case, Standing};
+use crate::capture_cases::{Case, Standing};
 use crate::capture_cut_counts;
 use crate::capture_cuts::{self, Family};
 use crate::capture_generate::{plain_case, run, start, tag, NO_LIMIT};
@@ -332,25 +332,17 @@ fn pieces(random: &mut Random, words: &[u32], taste: &Taste) -> Vec<Piece> {
     pieces
 }
 
-/// Makes a call of the case.
-fn make(standing: &mut Standing, call: &Call) -> u32 {
-    match *call {
-        Call::Start { channel, tadr, tte } => standing.start(channel, tadr, tte),
-        Call::Run { allowance } => standing.run(allowance, |_, _, _| {}).answer,
-    }
-}
-
 /// The case with runs to the end of its chain, and one more.
 fn cut_anywhere(random: &mut Random, mut case: Case) -> Case {
     let mut standing = Standing::new(&case);
     for call in &case.calls {
-        make(&mut standing, call);
+        standing.make(call);
     }
     let most = random.pick(&[9, 90, 90, 900, 3_000]);
     loop {
         let call = run(some_allowance(random, most));
         case.calls.push(call);
-        let answer = make(&mut standing, &call);
+        let answer = standing.make(&call);
         if ![ALLOWANCE_USED, INTERRUPT].contains(&answer) {
             break;
         }
@@ -374,9 +366,9 @@ fn some_allowance(random: &mut Random, most: u64) -> u64 {
 fn from_a_block(random: &mut Random, mut case: Case, model: Model) -> Case {
     let mut standing = Standing::new(&case);
     for call in std::mem::take(&mut case.calls) {
-        make(&mut standing, &call);
+        standing.make(&call);
     }
-    make(&mut standing, &run(random.within(20..=400)));
+    standing.make(&run(random.within(20..=400)));
     case.state = standing.block();
     if random.percent(30) {
         let unit = match model {
@@ -397,7 +389,7 @@ mod tests {
     fn taken(case: &Case) -> Vec<u32> {
         let mut standing = Standing::new(case);
         for call in &case.calls {
-            make(&mut standing, call);
+            standing.make(call);
         }
         let main = standing.main.clone();
         let mut words = Vec::new();
@@ -432,7 +424,7 @@ mod tests {
     fn captures_end() {
         for case in cases(7) {
             let mut standing = Standing::new(&case);
-            let answers: Vec<u32> = case.calls.iter().map(|c| make(&mut standing, c)).collect();
+            let answers: Vec<u32> = case.calls.iter().map(|c| standing.make(c)).collect();
             assert_eq!(answers[answers.len() - 2..], [DONE; 2]);
         }
     }

@@ -126,8 +126,8 @@ impl Counts {
         self.add_if("long captures that begin inside a plain V4-32", inside);
         for call in &case.calls {
             match *call {
-                Call::Start { channel, tadr, tte } => {
-                    standing.start(channel, tadr, tte);
+                Call::Start { .. } | Call::Set { .. } => {
+                    standing.make(call);
                 }
                 Call::Run { allowance } => self.note_run(&main, &mut standing, allowance),
             }

@@ -37,6 +37,10 @@ mod packet_points;
 mod path_points;
 mod random;
 mod refusals;
+mod set;
+mod set_cases;
+mod set_counts;
+mod set_points;
 mod sheet;
 mod sheet_cases;
 mod sheet_check;
@@ -79,7 +83,7 @@ usage:
   second generate-capture SEED RUNS > CASES
   second generate-cuts SEED RUNS > CASES
   second generate-long SEED > CASES
-  second points-capture mask|filling|vif0|upload|packets|paths > CASES
+  second points-capture mask|filling|vif0|upload|packets|paths|sets > CASES
   second compare-capture PROGRAM SEED[,SEED..] RUNS
   second bench-chain PROGRAM
   second time-chain < INPUT > RESULT
@@ -241,6 +245,7 @@ fn capture_point_cases(name: &str) -> Option<Vec<capture_cases::Case>> {
     match name {
         "packets" => Some(packet_points::in_captures()),
         "paths" => Some(path_points::in_captures()),
+        "sets" => Some(set_points::in_captures()),
         _ => {
             let points = vif_points::named(name)?;
             Some(points.iter().map(capture_points::case).collect())

@@ -364,11 +364,9 @@ impl Mixed {
         put_entries(&mut wanted, &self.entries);
         let mut answer = DONE;
         for call in &self.case.calls {
-            match *call {
-                Call::Start { channel, tadr, tte } => {
-                    standing.start(channel, tadr, tte);
-                }
-                Call::Run { allowance } => answer = standing.run(allowance, |_, _, _| {}).answer,
+            let given = standing.make(call);
+            if matches!(call, Call::Run { .. }) {
+                answer = given;
             }
         }
         if standing.log != wanted || answer != self.answer {

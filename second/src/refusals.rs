@@ -43,3 +43,7 @@ pub const CUT: u32 = 44;
 pub const PAD: u32 = 45;
 pub const LONG: u32 = 46;
 pub const OUTPUT: u32 = 47;
+
+// Of setting a register.
+pub const NUMBER: u32 = 50;
+pub const WAITING: u32 = 51;

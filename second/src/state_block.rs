@@ -407,6 +407,11 @@ pub fn write_state(state: &State) -> StateBlock {
     block
 }
 
+/// A block as a start or a run writes it: where it exists, words that mean nothing are zero.
+pub fn rewritten(block: &StateBlock) -> StateBlock {
+    read_state(block).map_or(*block, |state| write_state(&state))
+}
+
 /// Entries used, also of a block that exists in no state.
 pub fn used(block: &StateBlock) -> u64 {
     number(block, chain_word::USED)
