@@ -766,6 +766,33 @@ static void fuzz_start(struct bytes *in) {
     call_start(in);
 }
 
+/* A set, mostly of a register that there is. */
+static uint32_t call_set(struct bytes *in) {
+    uint32_t how = take8(in);
+    uint32_t unit = how < 224 ? how % 2 : take_odd(in);
+    uint32_t number = how >= 16 && how < 240 ? how / 2 % 8 : take_odd(in);
+    uint32_t value = take32(in);
+    uint32_t proved = tejborun_set(PROVED(BLOCK), WORDS(BLOCK), unit, number, value);
+    agreed(proved, judge_set(JUDGED(BLOCK), WORDS(BLOCK), unit, number, value));
+    const struct tejborun_state *state = PROVED(BLOCK);
+    if (WORDS(BLOCK) == TEJBORUN_BLOCK_WORDS) show_kind(15, proved, unit * 8 + number, state->vif0.waiting * 8 + state->vif1.waiting);
+    return proved;
+}
+
+/* Sets on the block that is given, then a start and sets again. */
+static void fuzz_set(struct bytes *in) {
+    struct lengths n = lengths_of(TEJBORUN_MAIN_BYTES, 128 * TEJBORUN_ENTRY_NUMBERS, 2);
+    spoil(in, &n);
+    uint8_t calls_of[32];
+    for (size_t i = 0; i < sizeof calls_of; i++) calls_of[i] = (uint8_t)take8(in);
+    give_block(in, &n);
+    lend_all();
+    struct bytes order = {calls_of, sizeof calls_of};
+    for (uint32_t sets = 1 + take8(&order) % 3; sets > 0; sets--) call_set(&order);
+    call_start(&order);
+    call_set(&order);
+}
+
 /* The memories that a run is lent: a data memory, and a code memory. */
 struct memories {
     int data, code;
@@ -807,7 +834,7 @@ static void one_run(struct bytes *in) {
     keep_all();
 }
 
-/* Up to four runs, each on what the one before left; between them perhaps a start. */
+/* Up to four runs, each on what the one before left; between them perhaps a set or a start. */
 static void fuzz_run(struct bytes *in) {
     size_t bytes = main_bytes(in);
     struct lengths n = lengths_of(bytes, log_numbers(in), RUN_RESULT);
@@ -823,9 +850,11 @@ static void fuzz_run(struct bytes *in) {
     struct bytes order = {calls_of, sizeof calls_of};
     for (uint32_t runs = 1 + take8(&order) % 4; runs > 0; runs--) {
         one_run(&order);
-        if (take8(&order) < 192) continue;
+        uint32_t how = take8(&order);
+        if (how < 144) continue;
         lend_all();
-        call_start(&order);
+        if (how < 192) call_set(&order);
+        else call_start(&order);
         keep_all();
     }
 }
@@ -930,7 +959,7 @@ static void fuzz_compare(struct bytes *in) {
 
 /* ---- The program ---- */
 
-enum { entry_build, entry_steps, entry_meaning, entry_start, entry_run, entry_build_and_run, entry_compare };
+enum { entry_build, entry_steps, entry_meaning, entry_start, entry_set, entry_run, entry_build_and_run, entry_compare };
 
 static const struct {
     const char *name, *longest;
@@ -940,6 +969,7 @@ static const struct {
     {"steps", "most steps of a sheet", fuzz_steps},
     {"meaning", "most entries of a sheet", fuzz_meaning},
     {"start", "", fuzz_start},
+    {"set", "", fuzz_set},
     {"run", "longest run", fuzz_run},
     {"build_and_run", "longest run", fuzz_build_and_run},
     {"compare", "most differences", fuzz_compare},

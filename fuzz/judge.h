@@ -11,6 +11,7 @@ uint32_t judge_meaning(const uint8_t *sheet, size_t sheet_bytes, uint32_t *data,
                        size_t log_numbers, uint64_t used, uint64_t *result, size_t result_numbers);
 uint32_t judge_reset(uint32_t *block, size_t block_words);
 uint32_t judge_start(uint32_t *block, size_t block_words, uint32_t channel, uint32_t tadr, uint32_t tte);
+uint32_t judge_set(uint32_t *block, size_t block_words, uint32_t unit, uint32_t number, uint32_t value);
 uint32_t judge_run(const uint8_t *main, size_t main_bytes, uint32_t *data, size_t data_words, uint8_t *code, size_t code_bytes, uint64_t *log,
                    size_t log_numbers, uint32_t *block, size_t block_words, uint64_t allowance, uint64_t *result, size_t result_numbers);
 uint32_t judge_build_and_run(const uint8_t *sheet, size_t sheet_bytes, uint8_t *main, size_t main_bytes, uint32_t address, uint32_t *data, size_t data_words,

@@ -16,6 +16,8 @@ mod memory;
 mod model;
 #[path = "../../../second/src/refusals.rs"]
 mod refusals;
+#[path = "../../../second/src/set.rs"]
+mod set;
 #[path = "../../../second/src/sheet.rs"]
 mod sheet;
 #[path = "../../../second/src/state_block.rs"]
@@ -160,6 +162,20 @@ pub unsafe extern "C" fn judge_start(
     let started = chain::start(&mut state, channel, tadr, tte);
     *block = write_state(&state);
     started.err().unwrap_or(0)
+}
+
+#[no_mangle]
+pub unsafe extern "C" fn judge_set(
+    block: *mut u32,
+    block_words: usize,
+    unit: u32,
+    number: u32,
+    value: u32,
+) -> u32 {
+    let Some(block) = lent_block(block, block_words) else {
+        return SHORT;
+    };
+    set::set(block, unit, number, value).err().unwrap_or(0)
 }
 
 fn run(memories: &mut Memories, block: &mut StateBlock, allowance: u64) -> Stop {
