@@ -10,7 +10,8 @@
  *
  * state_shape.h has the words of a state block by name, docs/FORMATS.md says what they hold; a struct tejborun_state is lent as (uint32_t *)&state. A start, a
  * run or a build and run on a block that is a state's writes back the state that it leaves, also where it is refused: the words that mean nothing are then
- * zero. A run that completes no step leaves the block word for word. On a block that is no state's it is refused with 5, or with a number that is tested before 5, and the block stays as it was. A reset writes any block.
+ * zero. A run that completes no step leaves the block word for word, and a set changes one word of it or none. On a block that is no state's each is refused
+ * with 5, or with a number that is tested before 5, and the block stays as it was. A reset writes any block.
  */
 #ifndef TEJBORUN_H
 #define TEJBORUN_H
@@ -89,6 +90,10 @@ enum tejborun_answer {
     TEJBORUN_LONG_SHEET = 46, /* above TEJBORUN_SHEET_BYTES */
     TEJBORUN_LONG_CHAIN = 47, /* longer than the output */
 
+    /* set */
+    TEJBORUN_BAD_NUMBER = 50, /* the number of a register above 7 */
+    TEJBORUN_UNIT_WAITS = 51, /* a code of the unit waits for payload */
+
     TEJBORUN_SHORT = 60, /* a state block that is not TEJBORUN_BLOCK_WORDS, or a result with fewer numbers than stated: nothing is changed */
 
     TEJBORUN_ALLOWANCE = 90, /* the allowance is used */
@@ -125,6 +130,15 @@ uint32_t tejborun_reset(uint32_t *block, size_t block_words);
 /* Starts a chain: channel 0 (VIF0), 1 (VIF1) or 2 (the GIF), the address of the first tag, tag transfer 0 or 1. Answers 0, 5 or TEJBORUN_SHORT. A tag
  * transfer above 1 changes nothing. */
 uint32_t tejborun_start(uint32_t *block, size_t block_words, uint32_t channel, uint32_t tadr, uint32_t tte);
+
+/* The registers that are set, by their numbers: ROW 0 to 3, then COL 0 to 3. */
+#define TEJBORUN_ROW 0u
+#define TEJBORUN_COL 4u
+
+/* Sets a register of unit 0 (VIF0) or 1 (VIF1) to a value. Answers 0; or, in this order, TEJBORUN_SHORT, 50 for a number above 7, 5 for a unit above 1 or a
+ * block that is no state's, 51 where a code of that unit waits for payload. With 0 the register's word of the block is the value and every other word stays,
+ * with another answer every word stays. Whether the state's values are in range is left to the start or run that follows. */
+uint32_t tejborun_set(uint32_t *block, size_t block_words, uint32_t unit, uint32_t number, uint32_t value);
 
 /* Runs the chain for at most so many steps. It is lent the memories of the state's channel: VIF0's where the block's channel is 0, VIF1's where it is anything
  * else. Answers 0, 90, 91 or the refusal. result[0]: the steps completed; result[1]: the packets closed, by GIF quadwords among these steps: the last data

@@ -820,6 +820,170 @@ static void test_paths(bool end)
     }
 }
 
+/* The words of a block that a set changes: ROW 0 to 3, then COL 0 to 3, of VIF0 and of VIF1. */
+static size_t set_word(uint32_t unit, uint32_t number)
+{
+    return (unit == 0 ? WORD(vif0.row) : WORD(vif1.row)) + number;
+}
+_Static_assert(WORD(vif1.col) == WORD(vif1.row) + TEJBORUN_COL && WORD(vif0.col) == WORD(vif0.row) + TEJBORUN_COL, "COL lies behind ROW");
+
+/* A set on a reset block with a word of its own, and numbers in the words that mean nothing there: with 0 the register's word is the value, and no other word
+ * is another than before. */
+static void try_set(size_t word, uint32_t held, const uint32_t *set, uint32_t answer, bool end)
+{
+    static const struct tejborun_state idle = {
+        .chain = {.channel = 1, .stack = {3, 5}, .tag_word_at = 7, .payload_at = 9, .used = {UINT32_MAX, UINT32_MAX}},
+        .vif1 = {.cl = 256, .mode = 3, .irq = 2, .due = 3, .format = 3, .usn = 2, .m = 2, .held = {1, 2, 3}},
+        .path2 = {.format = 3, .eop = 2, .nreg = 17},
+        .vif0 = {.ofst = 1, .irq = 2, .format = 16, .count = 257},
+    };
+    struct lent block = lend(sizeof idle, end);
+    memcpy(block.at, &idle, sizeof idle);
+    words(&block)[word] = held;
+    struct lent expected = lend(sizeof idle, end);
+    memcpy(expected.at, block.at, sizeof idle);
+    if (answer == TEJBORUN_DONE)
+        words(&expected)[set_word(set[0], set[1])] = set[2];
+    remember(&block);
+    CHECK(tejborun_set(words(&block), TEJBORUN_BLOCK_WORDS, set[0], set[1], set[2]) == answer);
+    CHECK(kept_outside(&block) && memcmp(block.at, expected.at, sizeof idle) == 0);
+    CHECK(answer == TEJBORUN_DONE || unchanged(&block));
+    give_back(&block);
+    give_back(&expected);
+}
+
+/* Each register of each unit, to values of each kind, over every value that it held. */
+static void test_set(bool end)
+{
+    static const uint32_t values[] = {0, 1, 0x3F800000, 0x80000000, UINT32_MAX};
+    for (uint32_t unit = 0; unit < 2; unit++)
+        for (uint32_t number = 0; number < 8; number++)
+            for (size_t i = 0; i < sizeof values / sizeof values[0]; i++) {
+                const uint32_t set[3] = {unit, number, values[i]};
+                try_set(set_word(unit, number), 0, set, TEJBORUN_DONE, end);
+                try_set(set_word(unit, number), UINT32_MAX, set, TEJBORUN_DONE, end);
+                try_set(set_word(1 - unit, number), 77, set, TEJBORUN_DONE, end);
+            }
+}
+
+/* Words of a block that is no state's. */
+static const struct {
+    size_t word;
+    uint32_t value;
+} no_state[] = {
+    {WORD(chain.tte), 2},     {WORD(chain.ended), 2},   {WORD(chain.tag_words), 2}, {WORD(chain.depth), 3},    {WORD(vif1.dbf), 2},
+    {WORD(vif1.mskpath3), 2}, {WORD(vif1.waiting), 8},  {WORD(path2.place), 2},     {WORD(path2.place), 1},    {WORD(path3.place), UINT32_MAX},
+    {WORD(vif0.dbf), 2},      {WORD(vif0.mskpath3), 2}, {WORD(vif0.waiting), 8},    {WORD(vif0.waiting), UINT32_MAX},
+};
+
+/* The refusals of a set, in their order: the number, the unit and the block, a code that waits. */
+static void test_wrong_set(bool end)
+{
+    static const uint32_t good_set[3] = {1, 0, 5}, numbers[] = {8, 9, 0x10000, UINT32_MAX}, units[] = {2, 3, 0x100, UINT32_MAX};
+    static const size_t lengths[] = {0, 1, TEJBORUN_BLOCK_WORDS - 1, TEJBORUN_BLOCK_WORDS + 1, 2 * TEJBORUN_BLOCK_WORDS};
+    for (size_t i = 0; i < sizeof numbers / sizeof numbers[0]; i++) {
+        const uint32_t in_1[3] = {1, numbers[i], 5}, in_2[3] = {2, numbers[i], 5};
+        try_set(WORD(chain.channel), 1, in_1, TEJBORUN_BAD_NUMBER, end);
+        try_set(WORD(chain.channel), 1, in_2, TEJBORUN_BAD_NUMBER, end);
+        try_set(WORD(chain.tte), 2, in_1, TEJBORUN_BAD_NUMBER, end);
+        try_set(WORD(vif1.waiting), TEJBORUN_WAITS_MPG, in_1, TEJBORUN_BAD_NUMBER, end);
+    }
+    for (size_t i = 0; i < sizeof units / sizeof units[0]; i++)
+        for (uint32_t number = 0; number < 8; number++) {
+            const uint32_t set[3] = {units[i], number, 5};
+            try_set(WORD(chain.channel), 1, set, TEJBORUN_BAD_VALUE, end);
+        }
+    for (size_t i = 0; i < sizeof no_state / sizeof no_state[0]; i++)
+        for (uint32_t unit = 0; unit < 2; unit++) {
+            const uint32_t set[3] = {unit, 7, 5};
+            try_set(no_state[i].word, no_state[i].value, set, TEJBORUN_BAD_VALUE, end);
+        }
+    for (size_t i = 0; i < sizeof lengths / sizeof lengths[0]; i++) {
+        struct lent block = lend(4 * lengths[i], end);
+        remember(&block);
+        CHECK(tejborun_set(words(&block), lengths[i], good_set[0], good_set[1], good_set[2]) == TEJBORUN_SHORT && unchanged(&block));
+        CHECK(tejborun_set(words(&block), lengths[i], 2, 8, 0) == TEJBORUN_SHORT && unchanged(&block));
+        give_back(&block);
+    }
+    CHECK(tejborun_set(NULL, 0, 1, 0, 0) == TEJBORUN_SHORT);
+}
+
+/* A code of a unit waits: that unit's registers are not set, the other's are; a block that is no state's is refused first. */
+static void try_waiting_set(uint32_t waiting, uint32_t unit, uint32_t number, bool end)
+{
+    struct tejborun_state held = {.chain.channel = 1};
+    *(unit == 0 ? &held.vif0 : &held.vif1) = (struct tejborun_unit){.waiting = waiting, .due = 1};
+    struct lent block = lend(sizeof held, end);
+    memcpy(block.at, &held, sizeof held);
+    remember(&block);
+    CHECK(tejborun_set(words(&block), TEJBORUN_BLOCK_WORDS, unit, number, 5) == TEJBORUN_UNIT_WAITS && unchanged(&block));
+    CHECK(tejborun_set(words(&block), TEJBORUN_BLOCK_WORDS, 1 - unit, number, 5) == TEJBORUN_DONE && kept_outside(&block));
+    ((uint32_t *)&held)[set_word(1 - unit, number)] = 5;
+    CHECK(memcmp(block.at, &held, sizeof held) == 0);
+    words(&block)[WORD(chain.tte)] = 2;
+    remember(&block);
+    CHECK(tejborun_set(words(&block), TEJBORUN_BLOCK_WORDS, unit, number, 5) == TEJBORUN_BAD_VALUE && unchanged(&block));
+    give_back(&block);
+}
+
+static void test_waiting_set(bool end)
+{
+    for (uint32_t waiting = TEJBORUN_WAITS_STMASK; waiting < TEJBORUN_WAITING; waiting++)
+        for (uint32_t number = 0; number < 8; number++) {
+            try_waiting_set(waiting, 0, number, end);
+            try_waiting_set(waiting, 1, number, end);
+        }
+}
+
+/* Writes ROW to quadword 0 and COL 0 to 3 to quadwords 1 to 4, by mask codes 1 and 2. */
+static const uint32_t masked_chain[] = {
+    0x70000007, 0, 0, 0,                                      /* end, seven quadwords */
+    0x01000404, 0x20000000, 0x55555555, 0x7C010000,           /* STCYCL 4, 4; STMASK; UNPACK V4-32 under it, one vector to quadword 0 */
+    9, 9, 9, 9,
+    0x20000000, 0xAAAAAAAA, 0x7C040001, 9,                    /* STMASK; UNPACK, four vectors from quadword 1 on */
+    9, 9, 9, 9, 9, 9, 9, 9, 9, 9, 9, 9, 9, 9, 9,
+    0,
+};
+
+/* Sets the registers of a unit to 3F800000h and on, and those of the other to another number. */
+static void set_both(uint32_t *block, uint32_t unit)
+{
+    for (uint32_t number = 0; number < 8; number++) {
+        CHECK(tejborun_set(block, TEJBORUN_BLOCK_WORDS, unit, number, 0x3F800000 + number) == TEJBORUN_DONE);
+        CHECK(tejborun_set(block, TEJBORUN_BLOCK_WORDS, 1 - unit, number, 0xBAD) == TEJBORUN_DONE);
+    }
+}
+
+/* What is set, before the start or after it, is what the codes read. */
+static void try_set_seen(uint32_t unit, bool after_start, bool end)
+{
+    struct bench bench;
+    new_bench(&bench, unit == 0 ? good0 : good, NULL, 0, end);
+    memcpy(bench.lent[MAIN].at, masked_chain, sizeof masked_chain);
+    uint32_t *block = words(&bench.lent[BLOCK]), *data = words(&bench.lent[DATA]);
+    if (!after_start)
+        set_both(block, unit);
+    CHECK(tejborun_start(block, TEJBORUN_BLOCK_WORDS, unit, 0, 0) == TEJBORUN_DONE);
+    if (after_start)
+        set_both(block, unit);
+    remember_all(&bench);
+    CHECK(call_run(&bench, UINT64_MAX) == TEJBORUN_DONE && all_kept_outside(&bench));
+    for (uint32_t i = 0; i < 4; i++)
+        CHECK(data[i] == 0x3F800000 + i);
+    for (uint32_t i = 0; i < 16; i++)
+        CHECK(data[4 + i] == 0x3F800004 + i / 4);
+    CHECK(data[20] == UINT32_C(0xA5A5A5A5));
+    free_bench(&bench);
+}
+
+static void test_set_seen(bool end)
+{
+    for (uint32_t unit = 0; unit < 2; unit++) {
+        try_set_seen(unit, false, end);
+        try_set_seen(unit, true, end);
+    }
+}
+
 /* Where a chain of so many words on a channel stands after so many steps, from a state on. */
 static void run_state(struct tejborun_state *state, const uint32_t *chain, size_t count, const uint32_t start[3], uint64_t steps)
 {
@@ -1288,7 +1452,7 @@ static void test_messages(void)
         TEJBORUN_BAD_FORMAT, TEJBORUN_BAD_CYCLE,   TEJBORUN_BAD_MODE,   TEJBORUN_BAD_DIRECT, TEJBORUN_BAD_DESCRIPTOR, TEJBORUN_LOG_FULL,
         TEJBORUN_BAD_MARK,   TEJBORUN_BAD_KIND,    TEJBORUN_BAD_COUNT,  TEJBORUN_BAD_ADDRESS, TEJBORUN_CUT_RECORD,    TEJBORUN_BAD_PAD,
         TEJBORUN_LONG_SHEET, TEJBORUN_LONG_CHAIN,  TEJBORUN_SHORT,      TEJBORUN_ALLOWANCE,  TEJBORUN_INTERRUPT,      TEJBORUN_BAD_TOPS,
-        TEJBORUN_BAD_MPG,
+        TEJBORUN_BAD_MPG,    TEJBORUN_BAD_NUMBER,  TEJBORUN_UNIT_WAITS,
     };
     enum { ANSWERS = sizeof answers / sizeof answers[0] };
     const char *none = tejborun_message(UINT32_MAX);
@@ -1347,6 +1511,10 @@ int main(void)
         test_gif_stops(end);
         test_packets(end);
         test_paths(end);
+        test_set(end);
+        test_wrong_set(end);
+        test_waiting_set(end);
+        test_set_seen(end);
         test_wrong_entry(end);
         test_wrapping(end);
         test_short_results(end);
@@ -1366,6 +1534,7 @@ int main(void)
     puts("C interface: every function with good, short and wrong buffers, guard pages behind and before them: as the header says");
     puts("packets: each way to close one, on both paths, with every allowance; at a mark and before a refusal");
     puts("paths: 2, 3 and 0 in one log, in both orders of the channels, with room for every number of entries; entries used that wrap");
+    puts("set: each register of both units, one word of the block and no other; 60, 50, 5, 51 in their order; seen by the run");
     puts("state block: every word under its name");
     return 0;
 }
