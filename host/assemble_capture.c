@@ -31,18 +31,29 @@ static int head_line(const struct text *text, const struct line *line, struct pa
     return status;
 }
 
-/* A call: a start without a channel is on channel 1, a run without an allowance has no limit. */
+/* What is not given of a call: a start is on channel 1, a run has no limit, a set is of unit 1; which register it sets to what has to be said. */
+static int complete_call(const struct text *text, const struct line *line, const struct shape *shape, const struct given *given, uint32_t *words)
+{
+    if (shape->fixed == CALL_RUN && !is_given(shape, given, "allowance"))
+        split_number(UINT64_MAX, words + 1);
+    if (shape->fixed == CALL_START && !is_given(shape, given, "channel"))
+        words[1] = 1;
+    if (shape->fixed == CALL_SET && !is_given(shape, given, "unit"))
+        words[1] = 1;
+    if (shape->fixed == CALL_SET && !(is_given(shape, given, "register") && is_given(shape, given, "value")))
+        return complain_at(text, line->number, "'set' has a register and a value: register=row0 value=0x3F800000");
+    return STATUS_DONE;
+}
+
 static int call_line(const struct text *text, const struct line *line, const struct shape *shape, struct parts *parts)
 {
     uint32_t words[CALL_WORDS] = {shape->fixed};
     struct given given = {0};
     int status = read_fields(text, line, shape, words, &given);
+    if (status == STATUS_DONE)
+        status = complete_call(text, line, shape, &given, words);
     if (status != STATUS_DONE)
         return status;
-    if (shape == shape_named(calls, "run") && !is_given(shape, &given, "allowance"))
-        split_number(UINT64_MAX, words + 1);
-    if (shape == shape_named(calls, "start") && !is_given(shape, &given, "channel"))
-        words[1] = 1;
     write_words(&parts->calls, words, CALL_WORDS);
     return STATUS_DONE;
 }
@@ -58,7 +69,7 @@ static int capture_line(const struct text *text, const struct line *line, struct
     const struct shape *call = shape_named(calls, line->item[0]);
     if (call != NULL)
         return call_line(text, line, call, parts);
-    return memory_line(text, line, ", and no capture, state, " BOARD_LINES ", start or run", &parts->main);
+    return memory_line(text, line, ", and no capture, state, " BOARD_LINES ", start, run or set", &parts->main);
 }
 
 static int read_parts(struct text *text, struct parts *parts)

@@ -41,9 +41,9 @@ static void follow_calls(const struct capture *capture, uint8_t *roles)
     trail_from_state(&trail, &capture->board.state);
     for (size_t i = 0; i < capture->head.calls; i++) {
         const uint32_t *words = capture->call[i].words;
-        if (words[0] == 1)
+        if (words[0] == CALL_START)
             trail_start(&trail, words[1], words[2], words[3]);
-        else
+        else if (words[0] == CALL_RUN)
             follow(&trail);
     }
 }

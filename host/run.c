@@ -15,7 +15,7 @@
 #include "tejborun.h"
 #include "words.h"
 
-/* The exit status of an answer of a start or a run. */
+/* The exit status of an answer of a start, a set or a run. */
 static int status_of(uint32_t answer)
 {
     if (answer == TEJBORUN_DONE)
@@ -44,6 +44,18 @@ static uint32_t make_start(size_t number, const uint32_t *words, struct board *b
         answer, answer == TEJBORUN_DONE ? "started" : "refused: ", answer == TEJBORUN_DONE ? "" : tejborun_message(answer));
     if (answer == TEJBORUN_BAD_VALUE)
         blame_start(&board->state, words);
+    return answer;
+}
+
+static uint32_t make_set(size_t number, const uint32_t *words, struct board *board)
+{
+    char what[REGISTER_TEXT];
+    register_words(words[1], words[2], what);
+    uint32_t answer = tejborun_set(board_block(board), TEJBORUN_BLOCK_WORDS, words[1], words[2], words[3]);
+    say("call %zu, set %s to 0x%08" PRIX32 ": answer %" PRIu32 ", %s%s\n", number, what, words[3], answer, answer == TEJBORUN_DONE ? "set" : "refused: ",
+        answer == TEJBORUN_DONE ? "" : tejborun_message(answer));
+    if (answer == TEJBORUN_BAD_VALUE)
+        blame_set(&board->state, words);
     return answer;
 }
 
@@ -103,10 +115,10 @@ static int make_calls(const struct words_given *given, const struct capture *cap
     for (size_t i = 0; i < capture->head.calls && !is_interrupted(); i++) {
         const uint32_t *words = capture->call[i].words;
         uint64_t allowance = given->option[OPTION_ALLOWANCE] != NULL ? given->allowance : join_words(words + 1);
-        if (words[0] == 1 && given->option[OPTION_NO_START] != NULL)
+        if (words[0] != CALL_RUN && given->option[OPTION_NO_START] != NULL)
             continue;
-        if (words[0] == 1) {
-            status = worse(status, status_of(make_start(i, words, &result->board)));
+        if (words[0] != CALL_RUN) {
+            status = worse(status, status_of((words[0] == CALL_START ? make_start : make_set)(i, words, &result->board)));
             continue;
         }
         make_run(i, allowance, lent, result);
@@ -161,9 +173,9 @@ static unsigned parts_needed(const struct words_given *given, const struct captu
     enum vif vif = lent_vif(state);
     for (size_t i = 0; i < capture->head.calls; i++) {
         const uint32_t *words = capture->call[i].words;
-        if (words[0] != 1)
+        if (words[0] == CALL_RUN)
             parts |= parts_of(vif);
-        else if (given->option[OPTION_NO_START] == NULL)
+        else if (words[0] == CALL_START && given->option[OPTION_NO_START] == NULL)
             vif = words[1] == 0 ? VIF0 : VIF1;
     }
     return parts;

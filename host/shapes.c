@@ -128,9 +128,22 @@ static const struct field start_call[] = {
 };
 static const struct field run_call[] = {{"allowance", 32, 64, FIELD_SHOWN, NULL}, {"rest", 96, 32, FIELD_HEX, NULL}};
 
+
+/* The registers that a set takes, by their numbers; as the state's fields are called. */
+static const char *const set_register_names[] = {"row0", "row1", "row2", "row3", "col0", "col1", "col2", "col3"};
+static const struct names set_registers = {sizeof set_register_names / sizeof set_register_names[0], set_register_names};
+_Static_assert(TEJBORUN_ROW == 0 && TEJBORUN_COL == 4, "the numbers of ROW and COL");
+
+static const struct field set_call[] = {
+    {"unit", 32, 32, FIELD_SHOWN, NULL},
+    {"register", 64, 32, FIELD_SHOWN, &set_registers},
+    {"value", 96, 32, FIELD_SHOWN | FIELD_HEX, NULL},
+};
+
 const struct shape calls[] = {
-    {"start", 4, UINT32_MAX, 1, LIST(start_call)},
-    {"run", 4, UINT32_MAX, 2, LIST(run_call)},
+    {"start", 4, UINT32_MAX, CALL_START, LIST(start_call)},
+    {"run", 4, UINT32_MAX, CALL_RUN, LIST(run_call)},
+    {"set", 4, UINT32_MAX, CALL_SET, LIST(set_call)},
     END,
 };
 

@@ -59,6 +59,16 @@ bool is_program_start(uint64_t log_register)
     return log_register >= FIRST_START && log_register <= LAST_START;
 }
 
+void register_words(uint32_t unit, uint32_t number, char text[REGISTER_TEXT])
+{
+    static const char *const names[] = {"ROW 0", "ROW 1", "ROW 2", "ROW 3", "COL 0", "COL 1", "COL 2", "COL 3"};
+    int length = snprintf(text, REGISTER_TEXT, "%s%" PRIu32 "'s ", unit <= 1 ? "VIF" : "unit ", unit);
+    if (number < sizeof names / sizeof names[0])
+        snprintf(text + length, REGISTER_TEXT - (size_t)length, "%s", names[number]);
+    else
+        snprintf(text + length, REGISTER_TEXT - (size_t)length, "register %" PRIu32, number);
+}
+
 const char *plural(uint64_t count, const char *one, const char *many)
 {
     return count == 1 ? one : many;

@@ -22,6 +22,10 @@ const char *descriptor_name(unsigned descriptor);
 enum { FIRST_START = 256, LAST_START = 258 };
 bool is_program_start(uint64_t log_register);
 
+/* A register that is set, by its unit and its number: "VIF1's ROW 0"; "unit 2's ROW 0" and "VIF1's register 8" where there is none. */
+enum { REGISTER_TEXT = 48 };
+void register_words(uint32_t unit, uint32_t number, char text[REGISTER_TEXT]);
+
 /* The one or the many, for counts: "entry" or "entries". */
 const char *plural(uint64_t count, const char *one, const char *many);
 
