@@ -24,8 +24,18 @@ enum option {
     OPTION_UNFINISHED,
     OPTION_QUIET,
     OPTION_JSON,
+    OPTION_UNIT,
+    OPTION_ROW,
+    OPTION_COL,
     OPTIONS /* how many */
 };
+
+/* A register that is to be set, by the library's number, and its value. */
+struct setting {
+    uint32_t number, value;
+};
+
+enum { SETTINGS = 8 }; /* the registers that can be set */
 
 /* What was given after the command's name. */
 struct words_given {
@@ -34,11 +44,14 @@ struct words_given {
     const char *option[OPTIONS]; /* their values, empty for those without; null where not given */
     uint64_t allowance;
     unsigned only; /* parts; all where not given */
+    uint32_t unit; /* 0 or 1, 1 where not given */
+    size_t settings;
+    struct setting setting[SETTINGS]; /* in the order given */
 };
 
 /* Each does its command and hands back the exit status. */
 typedef int command_call(const struct words_given *given);
-command_call command_build, command_steps, command_meaning, command_run, command_play, command_compare, command_report, command_import, command_export, command_dump, command_assemble;
+command_call command_build, command_steps, command_meaning, command_run, command_play, command_set, command_compare, command_report, command_import, command_export, command_dump, command_assemble;
 
 struct command {
     const char *name;

@@ -69,15 +69,10 @@ void print_register(uint64_t number)
 int dump_state(const char *name, const struct bytes *file)
 {
     struct tejborun_state state;
-    const char *kind = kind_by_mark(file);
-    if (file->count == sizeof state) {
-        get_words(file->at, TEJBORUN_BLOCK_WORDS, (uint32_t *)&state);
-        print_state(&state);
-        return STATUS_DONE;
-    }
-    if (kind != NULL)
-        return complain(name, "no state: it begins with the mark of a %s", kind);
-    if (file->count == 4 * EARLIER_BLOCK_WORDS)
-        return complain_before_vif0(name, "state");
-    return complain(name, "no state: %zu bytes; a state has %zu", file->count, sizeof state);
+    int status = check_state(name, file);
+    if (status != STATUS_DONE)
+        return status;
+    get_words(file->at, TEJBORUN_BLOCK_WORDS, (uint32_t *)&state);
+    print_state(&state);
+    return STATUS_DONE;
 }

@@ -24,7 +24,7 @@ bool is_text(const struct bytes *file)
 
 #define WHAT_TO_DO "dump it with the version that wrote it, and assemble the text here"
 
-int complain_before_vif0(const char *name, const char *kind)
+static int complain_before_vif0(const char *name, const char *kind)
 {
     return complain(name, "a %s from before VIF0: its state has %d words, here it has %u; " WHAT_TO_DO, kind, EARLIER_BLOCK_WORDS, TEJBORUN_BLOCK_WORDS);
 }
@@ -86,4 +86,16 @@ int check_mark(const char *name, const struct bytes *file, const struct shape *h
     put_word(mark, heads->fixed);
     return complain(name, "no %s: it does not begin with the mark %.4s%s%s", heads->name, (const char *)mark, kind != NULL ? ", but with that of a " : "",
                     kind != NULL ? kind : "");
+}
+
+int check_state(const char *name, const struct bytes *file)
+{
+    const char *kind = kind_by_mark(file);
+    if (file->count == sizeof(struct tejborun_state))
+        return STATUS_DONE;
+    if (kind != NULL)
+        return complain(name, "no state: it begins with the mark of a %s", kind);
+    if (file->count == 4 * EARLIER_BLOCK_WORDS)
+        return complain_before_vif0(name, "state");
+    return complain(name, "no state: %zu bytes; a state has %zu", file->count, sizeof(struct tejborun_state));
 }

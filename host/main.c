@@ -32,11 +32,19 @@ static const struct command commands[] = {
      "  --allowance N  the step allowance of each run, in place of the capture's\n"
      "  --from RESULT  begins with the state, memories and log of a result, in place of the capture's zeros; memories that it\n"
      "                 lacks and no run works on are lacking afterwards too\n"
-     "  --no-start     leaves the capture's starts out: with --from a run goes on where it stopped\n"
+     "  --no-start     leaves the capture's starts and sets out: with --from a run goes on where it stopped\n"
      "A refused run is written too, with what its steps left, and so is one that Ctrl-C stops, as if its allowance were used.\n"},
     {"play", 1, 1, 0, TAKES(OPTION_OUTPUT), false, command_play, "play SHEET [-o RESULT]",
      "Builds the chain of a test sheet at address 0 and runs it from reset on channel 1, over zero memories and an empty log.\n"
      "Prints the answer, the steps and the packets closed, as run does.\n"},
+    {"set", 1, 1, 0, TAKES(OPTION_OUTPUT) | TAKES(OPTION_UNIT) | TAKES(OPTION_ROW) | TAKES(OPTION_COL), true, command_set,
+     "set FILE -o FILE [--unit N] [--row I=VALUE].. [--col I=VALUE]..",
+     "Sets ROW and COL in the state that a file holds, and writes the file with it; all else stays. FILE is a state, a capture\n"
+     "(whose calls begin with the state) or a result (which run --from goes on with).\n"
+     "  --unit N       the unit whose registers are set: 0 for VIF0, 1 for VIF1; 1 where it is not given\n"
+     "  --row I=VALUE  sets ROW I, 0 to 3, to a word, as 0=0x3F800000 or 3=-1; may be given for each\n"
+     "  --col I=VALUE  sets COL I, the same\n"
+     "While a code of the unit waits for payload they are not set (51); where one is refused, nothing is written.\n"},
     {"compare", 2, SIZE_MAX, 0, TAKES(OPTION_ALL) | TAKES(OPTION_ONLY) | TAKES(OPTION_UNFINISHED) | TAKES(OPTION_QUIET) | TAKES(OPTION_JSON), false,
      command_compare, "compare RESULT BOARD.. [--only PARTS] [--all] [--unfinished] [--quiet] [--json]",
      "Compares the memories of VIF1 and VIF0 and the log of boards with those of a result, in the parts that both have. Of one\n"

@@ -5,6 +5,7 @@
 #include "command.h"
 #include "files.h"
 #include "numbers.h"
+#include "tejborun.h"
 
 struct option_shape {
     const char *name, *value; /* value: what it is called in a list, null where the option has none */
@@ -27,6 +28,9 @@ static const struct option_shape shapes[OPTIONS] = {
     [OPTION_UNFINISHED] = {"--unfinished", NULL, false},
     [OPTION_QUIET] = {"--quiet", NULL, false},
     [OPTION_JSON] = {"--json", NULL, false},
+    [OPTION_UNIT] = {"--unit", "N", false},
+    [OPTION_ROW] = {"--row", "I=VALUE", false},
+    [OPTION_COL] = {"--col", "I=VALUE", false},
 };
 
 enum option part_option(enum part part)
@@ -35,6 +39,12 @@ enum option part_option(enum part part)
         [PART_DATA] = OPTION_DATA, [PART_CODE] = OPTION_CODE, [PART_LOG] = OPTION_LOG, [PART_DATA0] = OPTION_DATA0, [PART_CODE0] = OPTION_CODE0,
     };
     return options[part];
+}
+
+/* Whether an option may be given several times, for another register each. */
+static bool is_repeated(size_t option)
+{
+    return option == OPTION_ROW || option == OPTION_COL;
 }
 
 static bool takes(const struct command *command, size_t option)
@@ -99,6 +109,49 @@ static int take_parts(const struct command *command, const char *names, unsigned
     }
 }
 
+/* Reads a unit: 0 or 1. A status. */
+static int take_unit(const struct command *command, const char *text, uint32_t *unit)
+{
+    uint64_t number;
+    if (!read_number(text, &number) || number > 1)
+        return complain(command->name, "'%s' is no unit: give 0 for VIF0 or 1 for VIF1", text);
+    *unit = (uint32_t)number;
+    return STATUS_DONE;
+}
+
+/* Reads a register of ROW or COL and the value it is set to, "0=0x3F800000". A status. */
+static int take_setting(const struct command *command, size_t option, const char *text, struct words_given *given)
+{
+    struct setting setting = {.number = (option == OPTION_ROW ? TEJBORUN_ROW : TEJBORUN_COL) + (uint32_t)(text[0] - '0')};
+    if (text[0] < '0' || text[0] > '3' || text[1] != '=' || !read_word(text + 2, &setting.value))
+        return complain(command->name, "%s %s: give its number, 0 to 3, and a word, as 0=0x3F800000 or 3=-1", shapes[option].name, text);
+    for (size_t i = 0; i < given->settings; i++)
+        if (given->setting[i].number == setting.number)
+            return complain(command->name, "%s %c is given twice", shapes[option].name, text[0]);
+    given->setting[given->settings++] = setting;
+    return STATUS_DONE;
+}
+
+/* Reads the value of an option that is no file. A status. */
+static int take_value(const struct command *command, size_t option, const char *value, struct words_given *given)
+{
+    switch (option) {
+    case OPTION_ALLOWANCE:
+        if (!read_number(value, &given->allowance))
+            return complain(command->name, "'%s' is no allowance: give a number below 2^64, as 1000 or 0x3E8", value);
+        return STATUS_DONE;
+    case OPTION_ONLY:
+        return take_parts(command, value, &given->only);
+    case OPTION_UNIT:
+        return take_unit(command, value, &given->unit);
+    case OPTION_ROW:
+    case OPTION_COL:
+        return take_setting(command, option, value, given);
+    default:
+        return STATUS_DONE;
+    }
+}
+
 /* Takes the option at *i; steps over its value. A status. */
 static int take_option(const struct command *command, int count, char **words, int *i, struct words_given *given)
 {
@@ -107,7 +160,7 @@ static int take_option(const struct command *command, int count, char **words, i
     if (cut.option == OPTIONS)
         return unknown_option(command, word);
     const struct option_shape *shape = &shapes[cut.option];
-    if (given->option[cut.option] != NULL)
+    if (given->option[cut.option] != NULL && !is_repeated(cut.option))
         return complain(command->name, "%s is given twice", shape->name);
     if (shape->value == NULL && cut.value != NULL)
         return complain(command->name, "%s takes no value", shape->name);
@@ -117,9 +170,7 @@ static int take_option(const struct command *command, int count, char **words, i
         cut.value = words[*i];
     }
     given->option[cut.option] = cut.value != NULL ? cut.value : "";
-    if (cut.option == OPTION_ALLOWANCE && !read_number(cut.value, &given->allowance))
-        return complain(command->name, "'%s' is no allowance: give a number below 2^64, as 1000 or 0x3E8", cut.value);
-    return cut.option == OPTION_ONLY ? take_parts(command, cut.value, &given->only) : STATUS_DONE;
+    return take_value(command, cut.option, cut.value, given);
 }
 
 /* Collects words and options. */
@@ -171,7 +222,7 @@ static int check_files(const struct command *command, const struct words_given *
 
 int take_words(const struct command *command, int count, char **words, struct words_given *given)
 {
-    *given = (struct words_given){.word = allocate((size_t)count, sizeof *given->word), .only = PARTS_ALL};
+    *given = (struct words_given){.word = allocate((size_t)count, sizeof *given->word), .only = PARTS_ALL, .unit = 1};
     int status = sort_words(command, count, words, given);
     if (status == STATUS_DONE)
         status = check_files(command, given);

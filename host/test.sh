@@ -159,7 +159,7 @@ state_words() {
 usage() {
     expect 0 --help
     says out 'tejborun build SHEET -o CHAIN'
-    for name in build steps meaning run play compare report dump assemble; do
+    for name in build steps meaning run play set compare report dump assemble; do
         expect 0 "$name" --help
         says out "usage: tejborun $name"
         expect 2 "$name"
@@ -171,7 +171,7 @@ usage() {
     done
     expect 2
     expect 2 nonsense
-    says err 'no such command; known are build, steps, meaning, run, play, compare, report, import, export, dump, assemble'
+    says err 'no such command; known are build, steps, meaning, run, play, set, compare, report, import, export, dump, assemble'
     expect 2 build a.sheet
     says err 'say with -o where to write'
     expect 2 build a.sheet -o
@@ -222,7 +222,7 @@ bench_points() {
 
 # Every answer of the scope document has a meaning in words.
 meanings() {
-    for answer in 0 1 2 3 4 5 10 11 12 13 14 20 21 22 23 24 26 30 31 40 41 42 43 44 45 46 47 60 90 91; do
+    for answer in 0 1 2 3 4 5 10 11 12 13 14 20 21 22 23 24 26 30 31 40 41 42 43 44 45 46 47 50 51 60 90 91; do
         echo "result answer=$answer" > meaning.txt
         expect 0 assemble result meaning.txt -o meaning.result
         expect 0 dump meaning.result
@@ -332,22 +332,28 @@ generated_sheets() {
 
 # replayed: reads the results of the case for its calls; sets where the last state block, the last run, each unit's memories and the log are, the exit status
 # that the calls have (3 where the last run stopped before the end or there is none, else 1 where a call was refused), and whether none did anything; the file runs
-# has answer, steps and packets of each run.
+# has answer, steps and packets of each run, the file given the state block that the case gives, with the registers set.
 # The lengths: VIF1's data and code memory, the log, VIF0's data and code memory, the number of calls.
 replayed() {
     data=$1 code=$2 log=$3 data0=$4 code0=$5 calls=$6
     at=0 block=none run=none memories=none memories0=none log_at=none any_refused=0 last=90 idle=1
     channel=$(($(words case "$case_head" 1)))
     : > runs
-    for kind in $(words case "$case_calls_at" $((4 * calls)) | awk '{ print $1 }'); do
+    slice case "$case_head" "$block_bytes" > given
+    for call in $(seq 0 $((calls - 1))); do
+        kind=$(($(words case $((case_calls_at + 16 * call)) 1)))
         set -- $(words results $at 5)
         answer=$1
-        case $answer in
-        0 | 90 | 91) idle=0 ;;
+        case $kind$answer in
+        30)
+            set_given $(words case $((case_calls_at + 16 * call + 4)) 3)
+            with_sets=$((with_sets + 1))
+            ;;
+        ?0 | ?90 | ?91) idle=0 ;;
         *) any_refused=1 ;;
         esac
         if test "$kind" = 2 && test "$2" != 0; then idle=0; fi
-        if test "$kind" = 1; then
+        if test "$kind" != 2; then
             block=$((at + 4))
             at=$((at + 4 + block_bytes))
         else
@@ -363,6 +369,17 @@ replayed() {
     90 | 91) status=3 ;;
     *) status=$any_refused ;;
     esac
+}
+
+# set_given UNIT NUMBER VALUE: sets a register in the state block given.
+set_given() {
+    patched given $(($(registers_at "$1") + 4 * $2)) "$3"
+    mv broken given
+}
+
+# registers_at UNIT: the place of ROW 0 in a state block; ROW 1 to 3 and COL 0 to 3 follow.
+registers_at() {
+    case $1 in 0) echo $((4 * (63 + 13))) ;; *) echo $((4 * (13 + 13))) ;; esac
 }
 
 # replayed_memories OFFSET: the memories of a run, VIF0's where the channel before it was 0.
@@ -424,7 +441,7 @@ one_capture() {
     cp out said
     if test $run = none; then head -c "$result_head" result > part; else cp result part; fi
     # A refusal changes no buffer: then the words that mean nothing may stand as they were given, where replay writes zero.
-    if test $idle = 1 && ! cmp -s part wanted; then wanted_result case "$case_head" > wanted; fi
+    if test $idle = 1 && ! cmp -s part wanted; then wanted_result given 0 > wanted; fi
     same part wanted "capture $number"
     sed -n 's/^call .*, run .*: answer \([0-9]*\), .*; \([0-9]*\) steps*; /\1 \2 /p' said > got
     same got runs "what is said of the runs of capture $number"
@@ -436,7 +453,7 @@ one_capture() {
 generated_captures() {
     "$second" generate-capture 2 100 > captures || fail 'generate-capture'
     size=$(wc -c < captures)
-    at_case=0 number=0 tried=0 on_vif0=0 with_packets=0
+    at_case=0 number=0 tried=0 on_vif0=0 with_packets=0 with_sets=0
     while test $at_case -lt "$size"; do
         set -- $(words captures $((at_case + 8)) 8)
         length=$((case_calls_at + 16 * $8 + 4 * $1))
@@ -448,7 +465,7 @@ generated_captures() {
         at_case=$((at_case + length)) number=$((number + 1))
     done
     echo "generated captures: $tried of $number to text and back (capture, state, main memory, result), run as replay runs them; $on_vif0 with a run on VIF0," \
-        "$with_packets runs that closed packets"
+        "$with_packets runs that closed packets, $with_sets registers set"
 }
 
 examples() {
@@ -566,9 +583,9 @@ patched() {
 # limit OFFSET NUMBER: a capture with this word in its head is not read.
 limit() {
     patched difference.capture "$1" "$2"
+    expect 2 dump broken
     expect 2 run broken -o broken.out
     says err 'damaged capture'
-    expect 2 dump broken
     absent broken.out
 }
 
@@ -587,7 +604,9 @@ damaged_files() {
     limit 48 1
     limit 40 $((data0_words + 4))
     limit 52 65536
-    limit "$calls_at" 3
+    limit "$calls_at" 0
+    limit "$calls_at" 4
+    says err 'call 0 is of kind 4; 1 is a start, 2 a run, 3 a set'
     sed 's/^capture/capture fill=0/' "$here/../examples/difference.capture.txt" > test-case.txt
     expect 0 assemble capture test-case.txt -o test-case
     patched test-case 32 2
@@ -753,7 +772,7 @@ bad_texts() {
     bad_text chain 1 'at 0xFFFFFFFFFFFFFFFF: main memory ends' 'at 0xFFFFFFFFFFFFFFFF\n'
     bad_text chain 1 "'vector' is no tag (refe, cnt, next, ref, refs, call, ret, end), code (NOP, STCYCL, " 'vector 1 2 3 4\n'
     bad_text capture 2 "'vector' is no tag (refe, " 'capture\nvector 1 2 3 4\n'
-    says err ', giftag, word, byte or at, and no capture, state, quadword, instruction, vif0.quadword, vif0.instruction, entry, start or run'
+    says err ', giftag, word, byte or at, and no capture, state, quadword, instruction, vif0.quadword, vif0.instruction, entry, start, run or set'
     bad_text chain '' 'makes 4 bytes; a chain is whole quadwords' 'NOP\n'
     bad_text chain '' 'makes 0 bytes' '\n# nothing\n'
     bad_text chain '' 'makes 1048592 bytes' 'at 0x100010\n'
@@ -768,6 +787,12 @@ bad_texts() {
     bad_text capture '' 'damaged capture: 4 words given of main memory; the most is 3' 'capture main-bytes=15\nend\n'
     bad_text capture '' 'makes 1 bytes of main memory; give whole words' 'capture\nbyte 1\n'
     bad_text capture 2 "'start' has no field 'allowance'" 'capture\nstart allowance=1\n'
+    bad_text capture 2 "'set' has a register and a value: register=row0 value=0x3F800000" 'capture\nset\n'
+    bad_text capture 2 "'set' has a register and a value" 'capture\nset unit=0 register=row0\n'
+    bad_text capture 2 "'set' has a register and a value" 'capture\nset value=5\n'
+    bad_text capture 2 'register=row4: the field has 32 bits; give a number as 12 or 0x1F, or one of row0, row1, row2, row3, col0, col1, col2, col3' 'capture\nset register=row4 value=1\n'
+    bad_text capture 2 'value=0x100000000: the field has 32 bits' 'capture\nset register=row0 value=0x100000000\n'
+    bad_text capture 2 "'set' has no field 'row'; it has unit, register, value" 'capture\nset row=0 value=1\n'
     bad_text result 1 "'state': the first line is 'result'" 'state channel=1\nresult\n'
     bad_text result 2 "quadword $quadwords: the last is $((quadwords - 1))" "result\nquadword $quadwords 1 2 3 4\n"
     bad_text result 2 "instruction $instructions: the last is $((instructions - 1))" "result\ninstruction $instructions 1\n"
@@ -2059,6 +2084,275 @@ paths_compared() {
     says out '    paths.result  path 3, register 0x00 PRIM'
 }
 
+# ROW and COL set: by the command in a state, a capture and a result, and by a capture's calls; one word of the block and no other.
+registers() {
+    set_usage
+    set_each
+    set_refused
+    set_in_files
+    set_calls
+    set_calls_refused
+    set_and_stopped
+    echo "registers: ROW and COL of both units set in states, captures and results and between runs; 50, 51 and 5; seen by the runs; stopped and gone on"
+}
+
+set_usage() {
+    expect 2 set reset.state -o bad.out
+    says err 'say with --row or --col what is set, as --row 0=0x3F800000'
+    expect 2 set reset.state --row 0=1
+    says err 'say with -o where to write'
+    for wrong in 4=1 -1=1 0 0= =1 0x0=1 00=1 0=x 0=0x100000000 0=-2147483649 '' 0:1; do
+        for option in --row --col; do
+            expect 2 set reset.state -o bad.out $option "$wrong"
+            says err "$option $wrong: give its number, 0 to 3, and a word, as 0=0x3F800000 or 3=-1"
+        done
+    done
+    for wrong in 2 -1 '' VIF1 0x100000000 18446744073709551616; do
+        expect 2 set reset.state -o bad.out --row 0=1 --unit "$wrong"
+        says err "'$wrong' is no unit: give 0 for VIF0 or 1 for VIF1"
+    done
+    expect 2 set reset.state -o bad.out --row 0=1 --col 0=1 --row 0=2
+    says err '--row 0 is given twice'
+    expect 2 set reset.state -o bad.out --unit 1 --unit 1 --row 0=1
+    says err '--unit is given twice'
+    expect 2 set reset.state -o reset.state --row 0=1
+    says err 'reset.state is an input and the output'
+    expect 2 run reset.state --row 0=1
+    says err 'unknown option --row'
+    absent bad.out
+}
+
+# Each of the eight, of each unit, where ROW and COL hold 100 to 107 of VIF0 and 200 to 207 of VIF1; then all of them at once.
+set_each() {
+    echo 'state channel=1 tadr=0x40 used=9 cl=3 mask=0x12345678 path2.q=5 path3.q=6 vif0.cl=3 vif0.mask=7' > held.txt
+    for number in 0 1 2 3; do
+        echo "state vif0.row$number=$((100 + number)) vif0.col$number=$((104 + number)) row$number=$((200 + number)) col$number=$((204 + number))" >> held.txt
+    done
+    expect 0 assemble state held.txt -o held
+    for unit in 0 1; do
+        number=0 all=''
+        for register in row:0 row:1 row:2 row:3 col:0 col:1 col:2 col:3; do
+            name=${register%:*} i=${register#*:}
+            for value in 0 1 0x3F800000 4294967295; do
+                expect 0 set held --unit $unit "--$name" "$i=$value" -o new
+                says out "new: VIF$unit's $(echo "$name" | tr rowcl ROWCL) $i is $(printf '0x%08X' $((value))), was $(printf '0x%08X' $((100 + 100 * unit + number)))"
+                patched held $(($(registers_at $unit) + 4 * number)) $((value))
+                same new broken "unit $unit, $name $i=$value"
+            done
+            all="$all --$name=$i=$((number + 5))" number=$((number + 1))
+        done
+        # shellcheck disable=SC2086
+        expect 0 set held --unit=$unit $all -o new
+        test "$(wc -l < out)" = 8 || fail 'not a line a register'
+        cp held one
+        for number in 0 1 2 3 4 5 6 7; do
+            patched one $(($(registers_at $unit) + 4 * number)) $((number + 5))
+            mv broken one
+        done
+        same new one "all of unit $unit"
+    done
+    expect 0 set reset.state --row 3=-1 -o new
+    expect 0 dump state new
+    says out 'state row0=0x0 row1=0x0 row2=0x0 row3=0xFFFFFFFF'
+    round state new
+    expect 0 set reset.state --unit 0 --col 2=7 -o new
+    expect 0 dump state new
+    says out 'state vif0.col2=0x7'
+}
+
+# not_set STATE ANSWER UNIT WORDS: the state of the text is refused and nothing written.
+not_set() {
+    echo "$1" > waits.txt
+    expect 0 assemble state waits.txt -o waits
+    expect 1 set waits --unit "$3" --col 1=5 -o bad.out
+    says err "waits: VIF$3's COL 1: refused $2: $4"
+    absent bad.out
+}
+
+# A code that waits, of this unit and of the other; a block that is no state's, whose fields are named; what is out of range alone is left to the run.
+set_refused() {
+    for code in 'STMASK due=1' 'STROW due=4' 'STCOL due=1' 'MPG due=2 count=1' 'DIRECT due=1' 'DIRECTHL due=9' 'UNPACK due=2 count=1 format=V4-32'; do
+        not_set "state waiting=$code" 51 1 'a code of this unit waits for payload'
+        expect 0 set waits --unit 0 --col 1=5 -o new
+        patched waits $(($(registers_at 0) + 20)) 5
+        same new broken
+    done
+    not_set 'state vif0.waiting=STROW vif0.due=4' 51 0 'a code of this unit waits for payload'
+    expect 0 set waits --col 1=5 -o new
+    for unit in 0 1; do
+        not_set 'state tte=2' 5 $unit 'a state or start value is outside the range of its field'
+        says out '  out of its range: state tte=2'
+        not_set 'state mode=3 waiting=8' 5 $unit ''
+        says out '  out of its range: state waiting=8'
+        not_set 'state depth=3 path3.place=2' 5 $unit ''
+        says out "  out of its range: more than one field of 'state'"
+        echo 'state mode=3 cl=256 stack0=5 irq=7 channel=9' > waits.txt
+        expect 0 assemble state waits.txt -o waits
+        expect 0 set waits --unit $unit --col 1=5 -o new
+        patched waits $(($(registers_at $unit) + 20)) 5
+        same new broken 'words that mean nothing'
+    done
+}
+
+# set_in FILE OFFSET: two registers of the state block at an offset are set, and no other byte; the file is still one of its kind.
+set_in() {
+    expect 0 set "$1" --row 1=0x11223344 --col 3=9 -o new
+    patched "$1" $(($2 + $(registers_at 1) + 4)) $((0x11223344))
+    mv broken one
+    patched one $(($2 + $(registers_at 1) + 28)) 9
+    same new broken "$1"
+    expect 0 dump new
+    says out ' row1=0x11223344 '
+    "$command" set - --row 1=0x11223344 --col 3=9 -o - < "$1" > got 2> err || fail "set - -o -: $(cat err)"
+    same got new
+    says err "-: VIF1's ROW 1 is 0x11223344, was 0x"
+}
+
+# What else holds a state: captures, test cases and results; and files that hold none.
+set_in_files() {
+    capture_of small.capture 'capture main-bytes=16\nquadword 3 1 2 3 4\nstart\nrun\nend\n'
+    capture_of small.case 'capture fill=7 whole=1 main-bytes=16\nstart\nrun\nend\n'
+    expect 0 run small.capture -o small.result
+    result_of small.part 'result parts=log\nentry 0 MSCAL 5\n'
+    set_in small.capture "$head_bytes"
+    set_in small.case "$case_head"
+    set_in small.result 24
+    set_in small.part 24
+    as_sheet small.sheet '\236\121\4\0\5\0'
+    expect 2 set small.sheet --row 0=1 -o bad.out
+    says err 'small.sheet: no state: it begins with the mark of a sheet'
+    expect 2 set waits.txt --row 0=1 -o bad.out
+    says err 'waits.txt: no state, but text; assemble it first: tejborun assemble state waits.txt -o FILE'
+    expect 2 set small.capture.txt --row 0=1 -o bad.out
+    head -c $((block_bytes - 1)) reset.state > cut
+    expect 2 set cut --row 0=1 -o bad.out
+    says err "no state: $((block_bytes - 1)) bytes; a state has $block_bytes"
+    for file in small.capture small.result; do
+        head -c $(($(wc -c < $file) - 1)) $file > cut
+        expect 2 set cut --row 0=1 -o bad.out
+        says err 'damaged '
+    done
+    { printf TCA3; head -c 600 /dev/zero; } > cut
+    expect 2 set cut --row 0=1 -o bad.out
+    says err 'from before log entries had a path'
+    expect 2 set missing --row 0=1 -o bad.out
+    absent bad.out
+}
+
+# Quadwords of main memory that write ROW to quadword 0 and COL 0 to 3 to the next ones, by mask codes 1 and 2.
+masked='end qwc=7\nSTCYCL cl=4 wl=4\nSTMASK\nword 0x55555555\nUNPACK format=V4-32 num=1 addr=0 m=1\nword 9 9 9 9\nSTMASK\nword 0xAAAAAAAA\n'
+masked="$masked"'UNPACK format=V4-32 num=4 addr=1 m=1\nword 9 9 9 9 9 9 9 9\nword 9 9 9 9 9 9 9 9\nNOP\n'
+
+# rows_and_cols FILE UNIT: the result has 1 to 4 as ROW and 5 to 8 as COL in the unit's memory.
+rows_and_cols() {
+    expect 0 dump "$1"
+    case $2 in 0) prefix=vif0. ;; *) prefix= ;; esac
+    says out "${prefix}quadword 0 0x00000001 0x00000002 0x00000003 0x00000004"
+    for i in 1 2 3 4; do says out "${prefix}quadword $i 0x0000000$((i + 4)) 0x0000000$((i + 4)) 0x0000000$((i + 4)) 0x0000000$((i + 4))"; done
+    says out "state ${prefix}row0=0x1 ${prefix}row1=0x2 ${prefix}row2=0x3 ${prefix}row3=0x4"
+}
+
+# A capture that sets them, before the start and after it, and a capture whose state they are set in.
+set_calls() {
+    for unit in 0 1; do
+        sets=''
+        for i in 0 1 2 3; do sets="${sets}set unit=$unit register=row$i value=$((i + 1))\nset unit=$unit register=$((i + 4)) value=0x$((i + 5))\n"; done
+        capture_of before.capture "capture main-bytes=128\n${sets}start channel=$unit\nrun\n$masked"
+        capture_of after.capture "capture main-bytes=128\nstart channel=$unit\n${sets}run\n$masked"
+        capture_of without.capture "capture main-bytes=128\nstart channel=$unit\nrun\n$masked"
+        for name in before after; do
+            round capture $name.capture
+            says round.txt "set unit=$unit register=row0 value=0x1"
+            says round.txt "set unit=$unit register=col3 value=0x8"
+            says round.txt '  UNPACK format=V4-32 num=1 addr=0 m=1'
+            expect 0 run $name.capture -o $name.result
+            says out "set VIF$unit's ROW 0 to 0x00000001: answer 0, set"
+            says out "set VIF$unit's COL 3 to 0x00000008: answer 0, set"
+            says out 'answer 0, done; 29 steps'
+            rows_and_cols $name.result $unit
+            round result $name.result
+        done
+        same before.result after.result
+        expect 0 run without.capture -o without.result
+        expect 1 compare before.result without.result
+        expect 0 set without.capture --unit $unit --row 0=1 --row 1=2 --row 2=3 --row 3=4 --col 0=5 --col 1=6 --col 2=7 --col 3=8 -o with.capture
+        expect 0 run with.capture -o with.result
+        same with.result before.result
+        capture_of twice.capture "capture main-bytes=128\n${sets}start channel=$unit\nrun\nset unit=$unit register=row2 value=-1\nset unit=$((1 - unit)) register=col0 value=3\nstart channel=$unit\nrun\n$masked"
+        expect 0 run twice.capture -o twice.result
+        expect 1 compare before.result twice.result
+        says out '1 quadword differs, the first is 0'
+        says out 'Z  0x00000003           3  4.20389539e-45   0xFFFFFFFF'
+    done
+    capture_of further.capture 'capture main-bytes=32\nset register=row0 value=1\nstart tadr=0x10\nrun\nword 0x10000001 0 0 0\nend\n'
+    round capture further.capture
+    says round.txt 'word 0x10000001'
+    capture_of plain.capture 'capture\nset register=row1 value=5\n'
+    round capture plain.capture
+    says round.txt 'set unit=1 register=row1 value=0x5'
+    set -- $(words plain.capture "$calls_at" 4)
+    test "$*" = '3 1 1 5' || fail "the words of a set: $*"
+    expect 3 run plain.capture -o plain.result
+    says out "call 0, set VIF1's ROW 1 to 0x00000005: answer 0, set"
+    expect 0 dump plain.result
+    says out 'state row0=0x0 row1=0x5 row2=0x0 row3=0x0'
+}
+
+# refused_set ANSWER WORDS CALL WHAT [STATE]: a capture with this set goes on after the refusal, with exit status 1, and leaves what it leaves without it.
+refused_set() {
+    capture_of refused.capture "capture main-bytes=128\n${5:-}$3\nstart\nrun\n$masked"
+    capture_of plain.capture "capture main-bytes=128\n${5:-}start\nrun\n$masked"
+    round capture refused.capture
+    "$command" run plain.capture -o plain.result > said 2> err
+    expect 1 run refused.capture -o refused.result
+    says out "call 0, set $4: answer $1, refused: $2"
+    same refused.result plain.result
+}
+
+set_calls_refused() {
+    refused_set 50 "the register's number is above 7; 0 to 3 are ROW, 4 to 7 are COL" 'set register=8 value=1' "VIF1's register 8 to 0x00000001"
+    refused_set 50 "the register's number" 'set unit=4294967295 register=4294967295 value=1' "unit 4294967295's register 4294967295 to 0x00000001"
+    refused_set 5 'a state or start value is outside the range of its field' 'set unit=2 register=row0 value=1' "unit 2's ROW 0 to 0x00000001"
+    says out '  out of its range: set unit=2'
+    refused_set 50 'the register' 'set unit=2 register=8 value=1' "unit 2's register 8 to 0x00000001" 'state waiting=MPG due=2 count=1\n'
+    refused_set 51 'a code of this unit waits for payload' 'set register=col3 value=1' "VIF1's COL 3 to 0x00000001" 'state waiting=STROW due=2\n'
+    refused_set 51 'a code of this unit waits for payload' 'set unit=0 register=row0 value=1' "VIF0's ROW 0 to 0x00000001" 'state vif0.waiting=STROW vif0.due=2\n'
+    refused_set 5 'a state or start value' 'set register=row0 value=1' "VIF1's ROW 0 to 0x00000001" 'state tte=2\n'
+    says out '  out of its range: state tte=2'
+    # Between the code and its payload: after STMASK, and after it once it is done.
+    capture_of between.capture "capture main-bytes=128\nstart\nrun allowance=3\nset register=row0 value=1\nrun allowance=1\nset register=row0 value=2\nrun\n$masked"
+    expect 1 run between.capture -o between.result
+    says out "call 2, set VIF1's ROW 0 to 0x00000001: answer 51, refused: a code of this unit waits for payload"
+    says out "call 4, set VIF1's ROW 0 to 0x00000002: answer 0, set"
+    expect 0 dump between.result
+    says out 'quadword 0 0x00000002 0x00000000 0x00000000 0x00000000'
+}
+
+# A run stopped and gone on with leaves what one run leaves: the sets before it are not made again.
+set_and_stopped() {
+    difference="STMOD mode=2\nSTCYCL cl=1 wl=1\nUNPACK format=V4-32 num=3 addr=0\nword 1 1 1 1\nword 1 1 1 1\nword 1 1 1 1\nNOP\n"
+    capture_of sums.capture "capture main-bytes=80\nset register=row0 value=100\nstart\nrun\nend qwc=4\n$difference"
+    expect 0 run sums.capture -o sums.result
+    expect 0 dump sums.result
+    says out 'quadword 2 0x00000067 0x00000003 0x00000003 0x00000003'
+    for allowance in 1 3 4 8 9 12; do
+        expect 3 run sums.capture -o half.result --allowance $allowance
+        expect 0 run sums.capture -o rest.result --from half.result --no-start
+        if grep -q ', set ' out; then fail 'a set made again'; fi
+        expect 0 compare sums.result rest.result
+    done
+    # In between it is set by the command, where no code waits.
+    expect 3 run sums.capture -o half.result --allowance 3
+    expect 0 set half.result --row 0=200 -o changed.result
+    expect 0 run sums.capture -o rest.result --from changed.result --no-start
+    expect 0 dump rest.result
+    says out 'quadword 2 0x000000CB 0x00000003 0x00000003 0x00000003'
+    expect 3 run sums.capture -o half.result --allowance 6
+    expect 1 set half.result --row 0=200 -o bad.out
+    says err "half.result: VIF1's ROW 0: refused 51"
+    absent bad.out
+}
+
 # What is given twice; and every one of 65,536 differences shown in a moment.
 repeated() {
     bad_text result 3 'quadword 10 is given twice' 'result\nquadword 10 1 2 3 4\nquadword 10 1 2 3 4\n'
@@ -2078,7 +2372,7 @@ repeated() {
 }
 
 for name in ${TESTS:-layout state_words usage bench_points meanings refused_sheets examples comparisons damaged_files other_layouts bad_texts entries_used \
-    unfinished beginnings one_file outputs dashes repeated rack messages long_runs conventions report dumps vif0 packets paths generated_sheets generated_captures}; do
+    unfinished beginnings one_file outputs dashes repeated rack messages long_runs conventions report dumps vif0 packets paths registers generated_sheets generated_captures}; do
     "$name"
 done
 echo "host/test.sh: all as it has to be"

@@ -1,13 +1,15 @@
 # Completion of tejborun's words for bash.
 _tejborun() {
     local word=${COMP_WORDS[COMP_CWORD]} command=${COMP_WORDS[1]}
-    local commands='build steps meaning run play compare report import export dump assemble help'
+    local commands='build steps meaning run play set compare report import export dump assemble help'
     local kinds='sheet chain state capture result'
     local parts='data code data0 code0 log'
+    local registers='0= 1= 2= 3='
     local options='--help'
     case $command in
     build | meaning | play) options='-o --output --help' ;;
     run) options='-o --output --allowance --from --no-start --help' ;;
+    set) options='-o --output --unit --row --col --help' ;;
     compare) options='--only --all --unfinished --quiet --json --help' ;;
     report) options='-o --output --from --only --unfinished --help' ;;
     import) options='-o --output --data --code --data0 --code0 --log --help' ;;
@@ -22,6 +24,10 @@ _tejborun() {
         mapfile -t COMPREPLY < <(compgen -W "$kinds" -- "$word"; compgen -f -- "$word")
     elif test "${COMP_WORDS[COMP_CWORD - 1]}" = --only; then
         mapfile -t COMPREPLY < <(compgen -W "$parts" -- "$word")
+    elif test "${COMP_WORDS[COMP_CWORD - 1]}" = --unit; then
+        mapfile -t COMPREPLY < <(compgen -W '0 1' -- "$word")
+    elif test "${COMP_WORDS[COMP_CWORD - 1]}" = --row || test "${COMP_WORDS[COMP_CWORD - 1]}" = --col; then
+        mapfile -t COMPREPLY < <(compgen -W "$registers" -- "$word")
     elif test "${word#-}" != "$word"; then
         mapfile -t COMPREPLY < <(compgen -W "$options" -- "$word")
     else
