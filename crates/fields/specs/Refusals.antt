@@ -129,6 +129,16 @@ numberMissing = 50
 abbrev pub codeWaits : ℕ
 codeWaits = 51
 
+-- ---- request 8, salvage, after 46
+
+-- "then 55 exactly if the kept bytes exceed the output"
+abbrev pub keptExceed : ℕ
+keptExceed = 55
+
+-- "then 56 exactly if the ranges exceed their list"
+abbrev pub rangesExceed : ℕ
+rangesExceed = 56
+
 -- ---- answers of a run
 
 -- "else if the allowance is used, answer 90"

@@ -57,6 +57,10 @@ pub const NUMBER_MISSING: u32 = 50;
 
 pub const CODE_WAITS: u32 = 51;
 
+pub const KEPT_EXCEED: u32 = 55;
+
+pub const RANGES_EXCEED: u32 = 56;
+
 pub const ALLOWANCE_USED: u32 = 90;
 
 pub const INTERRUPT_MET: u32 = 91;

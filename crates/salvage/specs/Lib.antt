@@ -1,0 +1,3 @@
+-- Salvaging sheets, as document 02's request 8 has it.
+pub mod Salvage
+pub mod Inner
