@@ -1,12 +1,21 @@
 -- What inner functions make of their input and require of it; no promise of a public function cites it.
-use Prim.Native.Nat.{ℕ, zero, suc, _+_, _*_, _≤_}
+use Prim.Native.Nat.{ℕ, zero, suc, _+_, _≤_}
 use mathlib.Core.List.{List}
 use lib.ListN.{length}
 use Rattle.sheet.specs.declared.Reading.{Reading}
 use Rattle.sheet.specs.declared.Reading.the-variants.{End, Found, Refused}
 use Rattle.sheet.specs.Reader.{readingAt}
 use Rattle.salvage.specs.declared.Sums.{Sums}
-use Rattle.salvage.specs.Salvage.{keptBytes, droppedRanges}
+use Rattle.sheet.specs.Records.{longest}
+use Rattle.sheet.specs.Whole.{sheetBytes}
+use Rattle.salvage.specs.Salvage.{Range, piecesFrom, recordsIn, keptBytes, rangesFrom, droppedRanges, numbersOf}
+
+-- what is kept and what is dropped from a place on
+abbrev pub keptFrom : List ℕ → ℕ → List ℕ
+keptFrom sheet at = sheetBytes (recordsIn (piecesFrom sheet at))
+
+abbrev pub droppedFrom : List ℕ → ℕ → List Range
+droppedFrom sheet at = rangesFrom at (piecesFrom sheet at)
 
 -- the end of a range that holds every place before this one; f goes on
 abbrev pub onPlace : (ℕ → ℕ) → ℕ → Reading → ℕ
@@ -32,6 +41,6 @@ sumsOf sheet = sums (length (keptBytes sheet)) (length (droppedRanges sheet))
 
 -- a sheet that is not too long, and buffers with room for what is written
 pub record Room (sheet output ranges : List ℕ) : Type 0 where
-  pub short : length sheet ≤ 131072
+  pub short : length sheet ≤ longest
   pub bytes : length (keptBytes sheet) ≤ length output
-  pub numbers : 2 * length (droppedRanges sheet) ≤ length ranges
+  pub numbers : length (numbersOf (droppedRanges sheet)) ≤ length ranges

@@ -62,7 +62,7 @@ not-none r (refused n offset) e = refused-not e
 module _ (sheet : List ℕ) (b : Bytes sheet) where
   module _ (at : ℕ) {k : Kind} {n a next : ℕ} (f : FoundThere sheet at k n a next) where
     -- the record found is its bytes, and the sheet goes on after them
-    found-bytes : drop at sheet ≡ recordBytes (recordOf k n a (bytesAt sheet (at + 6) (bodyLength k n))) ++ drop next sheet
+    pub found-bytes : drop at sheet ≡ recordBytes (recordOf k n a (bytesAt sheet (at + 6) (bodyLength k n))) ++ drop next sheet
     found-bytes =
         let low : a % 256 ≡ getD sheet (at + 4) 0 = omega (arith, b .below (at + 4)) in
         let high : a / 256 ≡ getD sheet (at + 5) 0 = omega (arith, b .below (at + 4)) in
@@ -70,7 +70,7 @@ module _ (sheet : List ℕ) (b : Bytes sheet) where
         six (drop at sheet) (rw length-drop (omega arith))
         ∙ simp (getD-drop, drop-drop, add-zero, f .first, f .second, f .kind, f .count, low, high, body)
 
-    found-meets : MeetsRow (recordOf k n a (bytesAt sheet (at + 6) (bodyLength k n)))
+    pub found-meets : MeetsRow (recordOf k n a (bytesAt sheet (at + 6) (bodyLength k n)))
     found-meets =
         record {
           count = f .counted;
