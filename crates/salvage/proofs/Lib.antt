@@ -2,3 +2,4 @@
 pub mod PieceLaws
 pub mod RangeLaws
 pub mod LoopLaws
+pub mod AnswerLaws

@@ -4,7 +4,7 @@ use mathlib.Core.List.{List, [], _∷_, _++_}
 use Prim.Native.Nat.{ℕ, suc, _+_, _*_, _-_, _<_, _≤_}
 use native.Mathlib.Omega.{arith}
 use lib.ListN.{length, length-append}
-use lib.Seq.{sets}
+use lib.Seq.{sets, length-sets}
 use Rattle.sheet.specs.declared.Kind.{Kind}
 use Rattle.sheet.specs.declared.Reading.{Reading}
 use Rattle.sheet.specs.declared.Reading.the-variants.{End, Found, Refused}
@@ -62,6 +62,10 @@ module _ (sheet : List ℕ) (at : ℕ) {g : Reading} (e : g ≡ readingAt sheet 
           let l = part-length sheet at (next - at) (omega arith) in
           rw (kept-found sheet at e b q) (sets-next output to (bytesAt sheet at (next - at)) (keptFrom sheet next) h (rw l) refl)
 
+      pub found-room : (output : List ℕ) (to : ℕ) {o : List ℕ} → o ≡ sets output to (bytesAt sheet at (next - at)) → to + length (keptFrom sheet at) ≤ length output
+          → to + (next - at) + length (keptFrom sheet next) ≤ length o
+      found-room output to h r = let m = found-more in rw (h, length-sets) (omega arith)
+
   -- ---- a range
 
   module _ {n offset end : ℕ} (q : g ≡ Refused n offset) (z : end ≡ rangeEnd sheet (at + 1)) where
@@ -84,3 +88,7 @@ module _ (sheet : List ℕ) (at : ℕ) {g : Reading} (e : g ≡ readingAt sheet 
     pub dropped-stored : (ranges : List ℕ) (to : ℕ) {o : List ℕ} → o ≡ sets ranges to (at ∷ (end - at) ∷ [])
         → sets o (to + 2) (numbersOf (droppedFrom sheet end)) ≡ sets ranges to (numbersOf (droppedFrom sheet at))
     dropped-stored ranges to h = rw dropped-numbers (sets-next ranges to (at ∷ (end - at) ∷ []) (numbersOf (droppedFrom sheet end)) h refl refl)
+
+    pub dropped-room : (ranges : List ℕ) (to : ℕ) {o : List ℕ} → o ≡ sets ranges to (at ∷ (end - at) ∷ []) → to + length (numbersOf (droppedFrom sheet at)) ≤ length ranges
+        → to + 2 + length (numbersOf (droppedFrom sheet end)) ≤ length o
+    dropped-room ranges to h r = let m = dropped-length in rw (h, length-sets ranges to (at ∷ (end - at) ∷ [])) (omega arith)

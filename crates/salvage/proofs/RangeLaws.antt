@@ -101,10 +101,10 @@ module _ (sheet : List ℕ) where
       (λ at e h. let q = ends-end sheet at e in (omega arith, omega arith))
       (λ at k n a next e i h. let q = ends-found sheet at e in (omega arith, omega arith))
       (λ at n offset e i h.
-        let p = refused-inside sheet at e in
-        let q = ends-refused sheet at e in
-        let o = i (at + 1) (omega arith) (omega arith) in
-        (omega arith, omega arith))
+      let p = refused-inside sheet at e in
+      let q = ends-refused sheet at e in
+      let o = i (at + 1) (omega arith) (omega arith) in
+      (omega arith, omega arith))
 
   -- none of its bytes is kept
   none-kept : (at : ℕ) → keptFrom sheet at ≡ keptFrom sheet (rangeEnd sheet at)
@@ -120,18 +120,18 @@ module _ (sheet : List ℕ) where
   one-range =
       along sheet (λ (next : ℕ). (at : ℕ) → at + 1 ≡ next → at < length sheet → joined at (droppedFrom sheet next) ≡ range at (rangeEnd sheet next - at) ∷ droppedFrom sheet (rangeEnd sheet next))
       (λ next e at z h.
-        let q : next - at ≡ 1 = omega arith in
-        rw (ends-end sheet next e, ranges-end sheet next e, q) (apart at {from = next + 1} [] (omega arith) none))
+      let q : next - at ≡ 1 = omega arith in
+      rw (ends-end sheet next e, ranges-end sheet next e, q) (apart at {from = next + 1} [] (omega arith) none))
       (λ next k n a after e i at z h.
-        let q : next - at ≡ 1 = omega arith in
-        let f = found-next sheet next k n a after e in
-        rw (ends-found sheet next e, q, ranges-found sheet next e) (apart at {from = after} _ (omega arith) (ranges-past after (piecesFrom sheet after))))
+      let q : next - at ≡ 1 = omega arith in
+      let f = found-next sheet next k n a after e in
+      rw (ends-found sheet next e, q, ranges-found sheet next e) (apart at {from = after} _ (omega arith) (ranges-past after (piecesFrom sheet after))))
       (λ next n offset e i at z h.
-        let p = refused-inside sheet next e in
-        let o = end-inside (next + 1) (omega arith) in
-        let q : 1 + (rangeEnd sheet (next + 1) - next) ≡ rangeEnd sheet (next + 1) - at = omega arith in
-        rw (ranges-refused sheet next e, i (next + 1) (omega arith) next refl p, ends-refused sheet next e, ← q)
-        (touching at next (rangeEnd sheet (next + 1) - next) (droppedFrom sheet (rangeEnd sheet (next + 1))) z))
+      let p = refused-inside sheet next e in
+      let o = end-inside (next + 1) (omega arith) in
+      let q : 1 + (rangeEnd sheet (next + 1) - next) ≡ rangeEnd sheet (next + 1) - at = omega arith in
+      rw (ranges-refused sheet next e, i (next + 1) (omega arith) next refl p, ends-refused sheet next e, ← q)
+      (touching at next (rangeEnd sheet (next + 1) - next) (droppedFrom sheet (rangeEnd sheet (next + 1))) z))
 
 module _ (sheet : List ℕ) (at : ℕ) {n offset : ℕ} (h : readingAt sheet at ≡ Refused n offset) where
   pub range-dropped : droppedFrom sheet at ≡ range at (rangeEnd sheet (at + 1) - at) ∷ droppedFrom sheet (rangeEnd sheet (at + 1))
