@@ -3,3 +3,6 @@ pub mod PieceLaws
 pub mod RangeLaws
 pub mod LoopLaws
 pub mod AnswerLaws
+pub mod Claims
+pub mod Refusals
+pub mod Points

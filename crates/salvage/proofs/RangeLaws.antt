@@ -143,3 +143,11 @@ module _ (sheet : List ℕ) (at : ℕ) {n offset : ℕ} (h : readingAt sheet at 
   -- it is not empty, and lies inside the sheet
   pub range-inside : (at < rangeEnd sheet (at + 1)) × (rangeEnd sheet (at + 1) ≤ length sheet)
   range-inside = let p = refused-inside sheet at h in let o = end-inside sheet (at + 1) (omega arith) in (omega arith, o .1)
+
+-- no range goes on where it ends
+pub range-stops : (sheet : List ℕ) (at n offset : ℕ) → readingAt sheet (rangeEnd sheet at) ≡ Refused n offset → ⊥
+range-stops sheet =
+    along sheet (λ (at : ℕ). (n offset : ℕ) → readingAt sheet (rangeEnd sheet at) ≡ Refused n offset → ⊥)
+    (λ at e n offset h. let q = ends-end sheet at e in let z : _≡_ {A = ℕ} 0 1 = cc in omega arith)
+    (λ at k m a next e i n offset h. let q = ends-found sheet at e in let z : _≡_ {A = ℕ} 0 1 = cc in omega arith)
+    (λ at m from e i n offset h. i (at + 1) (omega arith) n offset (rw (ends-refused sheet at e) at h))
