@@ -11,11 +11,11 @@ ghost use Rattle.salvage.specs.Inner.{rangeEnd, sumsOf};
 pub(crate) fn range_end(sheet: &[u8], from: usize) -> usize
     ensures { λ r. ⌜ r ≡ rangeEnd (now (sheet .entry)) from ⌝ }
 {
-    let mut at = from;
+    let mut end = from;
     loop {
-        match read_record(sheet, at) {
+        match read_record(sheet, end) {
             Reading::End => {
-                return at;
+                return end;
             }
             Reading::Found {
                 kind: _,
@@ -23,13 +23,13 @@ pub(crate) fn range_end(sheet: &[u8], from: usize) -> usize
                 address: _,
                 next: _,
             } => {
-                return at;
+                return end;
             }
             Reading::Refused {
                 number: _,
                 offset: _,
             } => {
-                at += 1;
+                end += 1;
             }
         }
     }
