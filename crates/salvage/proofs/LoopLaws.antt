@@ -55,6 +55,10 @@ module _ (sheet : List ℕ) (at : ℕ) {g : Reading} (e : g ≡ readingAt sheet 
           let f = found-inside in
           rw (kept-found sheet at e b q, length-append, part-length sheet at (next - at) (omega arith))
 
+      -- it lies in the sheet, and has room where what is left has
+      pub found-fits : (to : ℕ) {size : ℕ} → to + length (keptFrom sheet at) ≤ size → (at + (next - at) ≤ length sheet) × (to + (next - at) ≤ size)
+      found-fits to h = let f = found-inside in let m = found-more in (omega arith, omega arith)
+
       pub found-stored : (output : List ℕ) (to : ℕ) {o : List ℕ} → o ≡ sets output to (bytesAt sheet at (next - at))
           → sets o (to + (next - at)) (keptFrom sheet next) ≡ sets output to (keptFrom sheet at)
       found-stored output to h =
@@ -82,8 +86,12 @@ module _ (sheet : List ℕ) (at : ℕ) {g : Reading} (e : g ≡ readingAt sheet 
     unfolding numbersOf
     dropped-numbers = rw (z, range-dropped sheet at (sym e ∙ q))
 
-    pub dropped-length : length (numbersOf (droppedFrom sheet at)) ≡ 2 + length (numbersOf (droppedFrom sheet end))
+    dropped-length : length (numbersOf (droppedFrom sheet at)) ≡ 2 + length (numbersOf (droppedFrom sheet end))
     dropped-length = rw dropped-numbers (omega arith)
+
+    -- a range has room where what is left has
+    pub dropped-fits : (to : ℕ) {size : ℕ} → to + length (numbersOf (droppedFrom sheet at)) ≤ size → to + 2 ≤ size
+    dropped-fits to h = let m = dropped-length in omega arith
 
     pub dropped-stored : (ranges : List ℕ) (to : ℕ) {o : List ℕ} → o ≡ sets ranges to (at ∷ (end - at) ∷ [])
         → sets o (to + 2) (numbersOf (droppedFrom sheet end)) ≡ sets ranges to (numbersOf (droppedFrom sheet at))

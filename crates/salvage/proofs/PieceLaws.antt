@@ -18,7 +18,7 @@ use Rattle.sheet.proofs.ReaderLaws.{FoundThere, found-next, past}
 use Rattle.sheet.proofs.WholeLaws.{found-bytes}
 use Rattle.sheet.proofs.RestLaws.{recordAt}
 use Rattle.sheet.proofs.ListLaws.{part-length}
-use Rattle.salvage.specs.Salvage.{Piece, kept, dropped, onReading, piecesWithin, piecesFrom, recordsIn}
+use Rattle.salvage.specs.Salvage.{Piece, kept, dropped, takePiece, piecesWithin, piecesFrom, recordsIn}
 use Rattle.salvage.specs.Inner.{keptFrom}
 
 module _ (sheet : List ℕ) (at : ℕ) where
@@ -52,7 +52,7 @@ module _ (sheet : List ℕ) (P : ℕ → Type 0) (end : (at : ℕ) → readingAt
 same-on : (f g : ℕ → List Piece) (sheet : List ℕ) (at : ℕ) (r : Reading)
     → ((k : Kind) (n a next : ℕ) → r ≡ Found k n a next → f next ≡ g next)
     → ((n offset : ℕ) → r ≡ Refused n offset → f (at + 1) ≡ g (at + 1))
-    → onReading f sheet at r ≡ onReading g sheet at r
+    → takePiece f sheet at r ≡ takePiece g sheet at r
 same-on f g sheet at End h i = refl
 same-on f g sheet at (Found k n a next) h i = rw (h k n a next refl)
 same-on f g sheet at (Refused n offset) h i = rw (i n offset refl)
@@ -69,7 +69,7 @@ enough (suc m) (suc n) sheet at p q =
     (λ c offset h. enough m n sheet (at + 1) (omega arith) (omega arith))
 
 module _ (sheet : List ℕ) (at : ℕ) where
-  turn : piecesFrom sheet at ≡ onReading (piecesFrom sheet) sheet at (readingAt sheet at)
+  turn : piecesFrom sheet at ≡ takePiece (piecesFrom sheet) sheet at (readingAt sheet at)
   unfolding piecesFrom piecesWithin
   turn = enough (length sheet) (suc (length sheet)) sheet at (omega arith) (omega arith)
 

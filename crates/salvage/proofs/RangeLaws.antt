@@ -118,7 +118,9 @@ module _ (sheet : List ℕ) where
   one-range : (next at : ℕ) → at + 1 ≡ next → at < length sheet
       → joined at (droppedFrom sheet next) ≡ range at (rangeEnd sheet next - at) ∷ droppedFrom sheet (rangeEnd sheet next)
   one-range =
-      along sheet (λ (next : ℕ). (at : ℕ) → at + 1 ≡ next → at < length sheet → joined at (droppedFrom sheet next) ≡ range at (rangeEnd sheet next - at) ∷ droppedFrom sheet (rangeEnd sheet next))
+      along sheet
+      (λ (next : ℕ). (at : ℕ) → at + 1 ≡ next → at < length sheet
+      → joined at (droppedFrom sheet next) ≡ range at (rangeEnd sheet next - at) ∷ droppedFrom sheet (rangeEnd sheet next))
       (λ next e at z h.
       let q : next - at ≡ 1 = omega arith in
       rw (ends-end sheet next e, ranges-end sheet next e, q) (apart at {from = next + 1} [] (omega arith) none))

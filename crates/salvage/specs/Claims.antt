@@ -1,14 +1,14 @@
 -- What request 8 claims of a salvage, in the words of its sentences; the theorems are in proofs/.
-use Prim.Native.Nat.{ℕ, _+_, _-_, _<_, _≤_}
+use Prim.Native.Nat.{ℕ, _+_, _*_, _-_, _<_, _≤_}
 use mathlib.Core.Path.{_≡_}
 use mathlib.Core.List.{List, [], _∷_, _++_}
-use lib.ListN.{length, drop}
+use lib.ListN.{length, take, drop}
 use Rattle.sheet.specs.declared.Kind.{Kind}
 use Rattle.sheet.specs.declared.Reading.the-variants.{Found, Refused as NoRecord}
 use Rattle.sheet.specs.Records.{Record, bytesAt}
 use Rattle.sheet.specs.Reader.{readingAt}
 use Rattle.sheet.specs.Whole.{recordBytes}
-use Rattle.salvage.specs.Salvage.{Piece, kept, dropped, piecesOf, Range}
+use Rattle.salvage.specs.Salvage.{Piece, kept, dropped, piecesOf, keptBytes, Range, droppedRanges, numbersOf, Left}
 
 -- ---- "Kept and dropped bytes together are the input."
 
@@ -49,3 +49,12 @@ pub data Apart (sheet : List ℕ) : ℕ → List Range → Type 0 where
   more : {from n a next : ℕ} {k : Kind} {r : Range} {rs : List Range} → from ≤ r .offset → 0 < r .size → readingAt sheet (r .offset + r .size) ≡ Found k n a next
       → Apart sheet next rs
       → Apart sheet from (r ∷ rs)
+
+-- ---- "It answers how many bytes and ranges it wrote." "Beyond what is written both buffers keep their contents."
+
+-- both buffers after so many bytes and ranges were written
+pub record Wrote (sheet output ranges : List ℕ) (bytes count : ℕ) (x : Left) : Type 0 where
+  pub kept : take bytes (x .output) ≡ keptBytes sheet
+  pub dropped : take (2 * count) (x .ranges) ≡ numbersOf (droppedRanges sheet)
+  pub output-beyond : drop bytes (x .output) ≡ drop bytes output
+  pub ranges-beyond : drop (2 * count) (x .ranges) ≡ drop (2 * count) ranges

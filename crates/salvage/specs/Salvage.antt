@@ -22,16 +22,16 @@ pub data Piece : Type 0 where
   kept : Record → Piece
   dropped : ℕ → Piece
 
--- "if a whole valid record starts here it is kept and passed over, otherwise one byte is dropped and it goes on"; f goes on
-abbrev pub onReading : (ℕ → List Piece) → List ℕ → ℕ → Reading → List Piece
-onReading f sheet at End = []
-onReading f sheet at (Found k n a next) = kept (recordOf k n a (bytesAt sheet (at + headerLength) (bodyLength k n))) ∷ f next
-onReading f sheet at (NoRecord n offset) = dropped (getD sheet at 0) ∷ f (at + 1)
+-- "if a whole valid record starts here it is kept and passed over, otherwise one byte is dropped and it goes on"; f goes on from the next place
+abbrev pub takePiece : (ℕ → List Piece) → List ℕ → ℕ → Reading → List Piece
+takePiece f sheet at End = []
+takePiece f sheet at (Found k n a next) = kept (recordOf k n a (bytesAt sheet (at + headerLength) (bodyLength k n))) ∷ f next
+takePiece f sheet at (NoRecord n offset) = dropped (getD sheet at 0) ∷ f (at + 1)
 
 -- at most so many pieces from a place on
 unfoldable pub piecesWithin : ℕ → List ℕ → ℕ → List Piece
 piecesWithin zero sheet at = []
-piecesWithin (suc n) sheet at = onReading (piecesWithin n sheet) sheet at (readingAt sheet at)
+piecesWithin (suc n) sheet at = takePiece (piecesWithin n sheet) sheet at (readingAt sheet at)
 
 -- the pieces from a place on: a sheet has no more pieces than bytes
 unfoldable pub piecesFrom : List ℕ → ℕ → List Piece
@@ -43,6 +43,7 @@ piecesOf sheet = piecesFrom sheet 0
 
 -- ---- what is kept
 
+-- the records among pieces
 unfoldable pub recordsIn : List Piece → List Record
 recordsIn [] = []
 recordsIn (kept r ∷ ps) = r ∷ recordsIn ps

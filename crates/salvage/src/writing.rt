@@ -39,7 +39,10 @@ fn put_range(ranges: &mut [u64], to: usize, offset: usize, size: usize)
 // Writes what is kept and what is dropped of a sheet, where there is room for it.
 fn write(sheet: &[u8], output: &mut [u8], ranges: &mut [u64])
     requires { ⌜ Room (now sheet) (now output) (now ranges) ⌝ }
-    ensures { λ _. ⌜ (now (output .exit) ≡ sets (now (output .entry)) 0 (keptBytes (now (sheet .entry)))) × (now (ranges .exit) ≡ sets (now (ranges .entry)) 0 (numbersOf (droppedRanges (now (sheet .entry))))) ⌝ }
+    ensures { λ _. ⌜ (now (output .exit)
+        ≡ sets (now (output .entry)) 0 (keptBytes (now (sheet .entry))))
+        × (now (ranges .exit)
+        ≡ sets (now (ranges .entry)) 0 (numbersOf (droppedRanges (now (sheet .entry))))) ⌝ }
 {
     let mut at = 0;
     let mut bytes = 0;

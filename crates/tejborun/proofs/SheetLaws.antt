@@ -9,8 +9,10 @@ use Rattle.memories.specs.Lengths.{Lent, lent}
 use Rattle.sheet.specs.declared.StepsAnswer.{StepsAnswer}
 use Rattle.sheet.specs.declared.MeaningAnswer.{MeaningAnswer}
 use Rattle.sheet.specs.Results.{left, stepsOfSheet, meaningOfSheet}
-use Rattle.tejborun.specs.Buffers.{short, Answered, answered}
-use Rattle.tejborun.specs.Sheets.{stepsAnswered, stepsCall, Meant, meant, meaningAnswered, meaningCall}
+use Rattle.salvage.specs.declared.SalvageAnswer.{SalvageAnswer}
+use Rattle.salvage.specs.Salvage.{left as salvageLeaves, answerNumber, salvageOf}
+use Rattle.tejborun.specs.Buffers.{short, written, Answered, answered}
+use Rattle.tejborun.specs.Sheets.{stepsAnswered, stepsCall, Meant, meant, meaningAnswered, meaningCall, Rescued, rescued, salvageNumbers, salvageCall}
 
 module _ (sheet result : List ℕ) where
   pub steps-short : length result < 2 → answered short result ≡ stepsCall sheet result
@@ -35,3 +37,16 @@ module _ (sheet : List ℕ) (m : Lent) (used : ℕ) (result : List ℕ) where
       → x ≡ meaningCall sheet m used result
   unfolding meaningCall if
   meaning-told h e q k = rw (le-ltb (length result) 2 h, ← e, q) k
+
+module _ (sheet output ranges result : List ℕ) where
+  pub salvage-short : length result < 2 → rescued short output ranges result ≡ salvageCall sheet output ranges result
+  unfolding salvageCall if
+  salvage-short h = rw (lt-ltb (length result) 2 h)
+
+  -- by the salvage's answer
+  pub salvage-told : 2 ≤ length result → {a b : SalvageAnswer} {o l : List ℕ} → salvageLeaves a o l ≡ salvageOf sheet output ranges → a ≡ b
+      → {x : Rescued}
+      → x ≡ rescued (answerNumber b) o l (written (salvageNumbers b) result)
+      → x ≡ salvageCall sheet output ranges result
+  unfolding salvageCall if
+  salvage-told h e q k = rw (le-ltb (length result) 2 h, ← e, q) k

@@ -10,6 +10,9 @@ use Rattle.sheet.specs.declared.StepsAnswer.the-variants.{Steps, Refused as Ste
 use Rattle.sheet.specs.declared.MeaningAnswer.{MeaningAnswer}
 use Rattle.sheet.specs.declared.MeaningAnswer.the-variants.{Meant as IsMeant, Refused as MeaningRefused}
 use Rattle.sheet.specs.Results.{Left, stepsOfSheet, meaningOfSheet}
+use Rattle.salvage.specs.declared.SalvageAnswer.{SalvageAnswer}
+use Rattle.salvage.specs.declared.SalvageAnswer.the-variants.{Salvaged, Refused as SalvageRefused}
+use Rattle.salvage.specs.Salvage.{Left as SalvageLeft, answerNumber, salvageOf}
 use Rattle.tejborun.specs.Buffers.{short, written, Answered, answered}
 
 -- ---- the steps
@@ -44,3 +47,27 @@ meaningLeft x used result = meaningAnswered (x .answer) (lent (x .mem) (x .code)
 unfoldable pub meaningCall : List ℕ → Lent → ℕ → List ℕ → Meant
 meaningCall sheet m used result =
     if (ltb (length result) 2) (meant short m result) (meaningLeft (meaningOfSheet sheet (m .mem) (m .code) (m .log) used) used result)
+
+-- ---- the salvage
+
+-- what is left: the answer's number, the output, the list of ranges and the result
+pub record Rescued : Type 0 where
+  pub answer : ℕ
+  pub output : List ℕ
+  pub ranges : List ℕ
+  pub result : List ℕ
+
+abbrev pub rescued : ℕ → List ℕ → List ℕ → List ℕ → Rescued
+rescued n output ranges result = record { answer = n; output = output; ranges = ranges; result = result }
+
+-- the bytes and the ranges written, both 0 where refused
+abbrev pub salvageNumbers : SalvageAnswer → List ℕ
+salvageNumbers (Salvaged bytes ranges) = bytes ∷ ranges ∷ []
+salvageNumbers (SalvageRefused n) = 0 ∷ 0 ∷ []
+
+abbrev pub salvageLeft : SalvageLeft → List ℕ → Rescued
+salvageLeft x result = rescued (answerNumber (x .answer)) (x .output) (x .ranges) (written (salvageNumbers (x .answer)) result)
+
+unfoldable pub salvageCall : List ℕ → List ℕ → List ℕ → List ℕ → Rescued
+salvageCall sheet output ranges result =
+    if (ltb (length result) 2) (rescued short output ranges result) (salvageLeft (salvageOf sheet output ranges) result)

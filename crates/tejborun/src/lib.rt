@@ -14,4 +14,5 @@ pub use runs::tejborun_set;
 pub use runs::tejborun_start;
 pub use sheets::tejborun_build;
 pub use sheets::tejborun_meaning;
+pub use sheets::tejborun_salvage;
 pub use sheets::tejborun_steps;

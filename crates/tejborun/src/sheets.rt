@@ -1,12 +1,13 @@
 // Calls on test sheets.
 use super::results::put_two;
+use salvage::SalvageAnswer;
 use sheet::MeaningAnswer;
 use sheet::StepsAnswer;
 ghost use mathlib.Core.Path.{_≡_};
 ghost use Rattle.sheet.specs.Build.{buildOf, exportedNumber};
 ghost use Rattle.memories.specs.Lengths.{lent};
 ghost use Rattle.tejborun.specs.Buffers.{answered};
-ghost use Rattle.tejborun.specs.Sheets.{stepsCall, meant, meaningCall};
+ghost use Rattle.tejborun.specs.Sheets.{stepsCall, meant, meaningCall, rescued, salvageCall};
 
 // What the bench host calls.
 #[no_mangle]
@@ -56,6 +57,34 @@ pub extern "C" fn tejborun_meaning(
         }
         MeaningAnswer::Refused { number, offset } => {
             put_two(result, used, offset as u64);
+            number
+        }
+    }
+}
+
+#[no_mangle]
+pub extern "C" fn tejborun_salvage(
+    sheet: &[u8],
+    output: &mut [u8],
+    ranges: &mut [u64],
+    result: &mut [u64],
+) -> u32
+    ensures { λ r. ⌜ rescued r (now (output .exit)) (now (ranges .exit)) (now (result .exit))
+        ≡ salvageCall (now (sheet .entry)) (now (output .entry)) (now (ranges .entry)) (now (result .entry)) ⌝ }
+{
+    if result.len() < 2 {
+        return 60;
+    }
+    match salvage::salvage(sheet, output, ranges) {
+        SalvageAnswer::Salvaged {
+            bytes,
+            ranges: count,
+        } => {
+            put_two(result, bytes as u64, count as u64);
+            0
+        }
+        SalvageAnswer::Refused(number) => {
+            put_two(result, 0, 0);
             number
         }
     }

@@ -9,10 +9,6 @@ use Rattle.salvage.specs.Inner.{keptFrom, droppedFrom}
 use Rattle.salvage.proofs.LoopLaws.{end-measured, found-inside, found-dropped, found-more, dropped-inside, dropped-kept, dropped-more}
 use Rattle.salvage.proofs.reading.measure.Statement.{statement}
 use Rattle.salvage.proofs.reading.measure.Tie as tie
-use Rattle.salvage.proofs.reading.measure.Reads as reads
-use Rattle.salvage.proofs.reading.measure.Lts as lts
-use Rattle.salvage.proofs.reading.range_end.Reads as range-end-reads
-use Rattle.sheet.proofs.read_record.Reads as read-record-reads
 
 abbrev Inv-loop : tie.InvT-loop
 Inv-loop sheet bytes₀ ranges₀ at₀ bytes ranges at =
@@ -64,12 +60,6 @@ loop-again c =
       dropped = rw (← found-dropped _ _ e q) (i .dropped);
     }
 
-add-ranges : tie.Need-add-ranges Inv-loop μ-loop
-add-ranges c = let i = c .before .before .before .loop .inv in search needs
-
-add-range-end : tie.Need-add-range-end Inv-loop μ-loop
-add-range-end c = let i = c .before .before .before .loop .inv in search needs
-
 loop-less-2 : tie.Need-loop-less-2 Inv-loop μ-loop
 loop-less-2 c =
     let d = dropped-inside _ _ (c .before .before .before .read-record .ensures) (c .before .enum-told2 .given .1) (c .range-end .ensures) in omega arith
@@ -106,8 +96,8 @@ measure-spec =
     loop-less
     loop-again
     (λ c. search needs)
-    add-ranges
-    add-range-end
+    (λ c. let i = c .before .before .before .loop .inv in search needs)
+    (λ c. let i = c .before .before .before .loop .inv in search needs)
     (λ c κs. search needs)
     loop-less-2
     loop-again-2)
