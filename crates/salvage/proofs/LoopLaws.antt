@@ -1,7 +1,7 @@
 -- One turn of the loops that measure and write: what is left after a record, and after a range.
 use mathlib.Core.Path.{_≡_, refl, sym, _∙_}
-use mathlib.Core.List.{List, [], _∷_, _++_}
-use Prim.Native.Nat.{ℕ, suc, _+_, _*_, _-_, _<_, _≤_}
+use mathlib.Core.List.{List, [], _∷_}
+use Prim.Native.Nat.{ℕ, _+_, _*_, _-_, _<_, _≤_}
 use native.Mathlib.Omega.{arith}
 use lib.ListN.{length, length-append}
 use lib.Seq.{sets, length-sets}
@@ -15,7 +15,7 @@ use Rattle.sheet.proofs.ReaderLaws.{found-next}
 use Rattle.sheet.proofs.ListLaws.{sets-next, part-length}
 use Rattle.salvage.specs.Salvage.{Range, range, numbersOf}
 use Rattle.salvage.specs.Inner.{keptFrom, droppedFrom, rangeEnd}
-use Rattle.salvage.proofs.PieceLaws.{refused-inside, kept-end, kept-found}
+use Rattle.salvage.proofs.PieceLaws.{kept-end, kept-found}
 use Rattle.salvage.proofs.RangeLaws.{ranges-end, ranges-found, range-dropped, range-kept, range-inside}
 
 pub numbers-length : (rs : List Range) → length (numbersOf rs) ≡ 2 * length rs

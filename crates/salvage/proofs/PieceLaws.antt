@@ -11,7 +11,7 @@ use borrow.Author.Tests.{leb-true, leb-false}
 use Rattle.sheet.specs.declared.Kind.{Kind}
 use Rattle.sheet.specs.declared.Reading.{Reading}
 use Rattle.sheet.specs.declared.Reading.the-variants.{End, Found, Refused}
-use Rattle.sheet.specs.Records.{Record, recordOf, bodyLength, bytesAt}
+use Rattle.sheet.specs.Records.{bodyLength, bytesAt}
 use Rattle.sheet.specs.Reader.{readingAt}
 use Rattle.sheet.specs.Whole.{recordBytes, sheetBytes, Bytes}
 use Rattle.sheet.proofs.ReaderLaws.{FoundThere, found-next, past}

@@ -1,9 +1,9 @@
 -- A range is dropped at once: up to the next place where a record starts, or to the sheet's end.
-use mathlib.Core.Path.{_≡_, refl, sym, ap, _∙_}
+use mathlib.Core.Path.{_≡_, refl, ap, _∙_}
 use mathlib.Core.List.{List, [], _∷_}
 use Prim.Native.Nat.{ℕ, zero, suc, _+_, _-_, _<_, _≤_}
 use native.Mathlib.Omega.{arith}
-use lib.ListN.{length, length-append}
+use lib.ListN.{length}
 use lib.Dec.{eqb}
 use borrow.Author.Tests.{eq-eqb, ne-eqb}
 use Rattle.fields.specs.Fields.{if}
@@ -13,7 +13,7 @@ use Rattle.sheet.specs.declared.Reading.{Reading}
 use Rattle.sheet.specs.declared.Reading.the-variants.{End, Found, Refused}
 use Rattle.sheet.specs.Reader.{readingAt}
 use Rattle.sheet.specs.Whole.{recordBytes}
-use Rattle.sheet.proofs.ReaderLaws.{found-next, past, reading-end}
+use Rattle.sheet.proofs.ReaderLaws.{found-next, past}
 use Rattle.salvage.specs.Salvage.{Piece, kept, dropped, Range, range, joined, rangesFrom, piecesFrom}
 use Rattle.salvage.specs.Inner.{keptFrom, droppedFrom, onPlace, endWithin, rangeEnd}
 use Rattle.salvage.proofs.PieceLaws.{refused-inside, along, pieces-end, pieces-found, pieces-refused, found-length, kept-refused}

@@ -1,8 +1,8 @@
 -- "Refusals: 46 for a sheet above 131,072 bytes, then 55 exactly if the kept bytes exceed the output, then 56 exactly if the ranges exceed their list, which holds
 -- half its length in numbers, rounded down; both buffers untouched."
-use mathlib.Core.Path.{_≡_, refl, sym, ap, _∙_}
+use mathlib.Core.Path.{_≡_, sym, ap, _∙_}
 use mathlib.Core.Logic.{_↔_}
-use mathlib.Core.List.{List, []}
+use mathlib.Core.List.{List}
 use Prim.Native.Nat.{ℕ, _*_, _/_, _<_, _≤_}
 use native.Mathlib.Omega.{arith}
 use borrow.Author.Tests.{ltb-true, ltb-false}
@@ -15,7 +15,6 @@ use Rattle.sheet.specs.Records.{Record, longest}
 use Rattle.sheet.specs.Reader.{Contents, valid, contentsOf}
 use Rattle.sheet.specs.Whole.{Bytes}
 use Rattle.sheet.specs.Build.{stored}
-use Rattle.salvage.specs.declared.SalvageAnswer.{SalvageAnswer}
 use Rattle.salvage.specs.declared.SalvageAnswer.the-variants.{Salvaged, Refused}
 use Rattle.salvage.specs.Salvage.{keptBytes, droppedRanges, numbersOf, Left, left, salvageOf}
 use Rattle.salvage.specs.Claims.{Wrote}

@@ -1,7 +1,7 @@
 -- Salvaging a sheet: document 02's request 8. "The tool reads from offset 0: if a whole valid record starts here it is kept and passed over, otherwise one byte is
 -- dropped and it goes on."
 use Prim.Native.Nat.{ℕ, zero, suc, _+_, _/_}
-use mathlib.Core.List.{List, [], _∷_, _++_}
+use mathlib.Core.List.{List, [], _∷_}
 use lib.ListN.{length, getD}
 use lib.Dec.{eqb, ltb}
 use Rattle.fields.specs.Fields.{if}

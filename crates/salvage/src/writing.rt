@@ -1,6 +1,5 @@
 // The kept records and the dropped ranges, written.
 use super::SalvageAnswer;
-use super::Sums;
 use super::reading::measure;
 use super::reading::range_end;
 use fields::refusals;

@@ -6,7 +6,7 @@ use lib.ListN.{length}
 use lib.Seq.{sets}
 use Rattle.sheet.specs.Whole.{Bytes}
 use Rattle.salvage.specs.Salvage.{keptBytes, droppedRanges, numbersOf}
-use Rattle.salvage.specs.Inner.{Room, keptFrom, droppedFrom}
+use Rattle.salvage.specs.Inner.{keptFrom, droppedFrom}
 use Rattle.salvage.proofs.LoopLaws.{end-kept, end-ranges, found-inside, found-dropped, found-fits, found-stored, found-room, dropped-inside, dropped-kept, dropped-fits, dropped-stored, dropped-room}
 use Rattle.salvage.proofs.writing.write.Statement.{statement}
 use Rattle.salvage.proofs.writing.write.Tie as tie
