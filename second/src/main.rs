@@ -3,6 +3,7 @@
 mod bench;
 mod bench_chain;
 mod bench_inputs;
+mod bench_salvage;
 mod bench_sheet;
 mod capture_cases;
 mod capture_compare;
@@ -37,6 +38,13 @@ mod packet_points;
 mod path_points;
 mod random;
 mod refusals;
+mod salvage;
+mod salvage_cases;
+mod salvage_check;
+mod salvage_compare;
+mod salvage_counts;
+mod salvage_generate;
+mod salvage_points;
 mod set;
 mod set_cases;
 mod set_counts;
@@ -92,6 +100,12 @@ usage:
   second compare-sheet PROGRAM SEED[,SEED..] COUNT
   second bench-sheet PROGRAM
   second time-sheet < INPUT > RESULT
+  second salvage [--counts] < CASES > RESULTS
+  second generate-salvage SEED COUNT > CASES
+  second points-salvage > CASES
+  second compare-salvage PROGRAM SEED[,SEED..] COUNT
+  second bench-salvage PROGRAM
+  second time-salvage < CASES > RESULTS
 PROGRAM is the path of an executable; one argument may hold a path and its arguments.
 ";
 
@@ -117,6 +131,7 @@ fn command(arguments: &[&str]) -> Option<Result<(), String>> {
         .or_else(|| vif_command(arguments))
         .or_else(|| capture_command(arguments))
         .or_else(|| sheet_command(arguments))
+        .or_else(|| salvage_command(arguments))
 }
 
 fn gif_command(arguments: &[&str]) -> Option<Result<(), String>> {
@@ -221,6 +236,28 @@ fn sheet_command(arguments: &[&str]) -> Option<Result<(), String>> {
     Some(done)
 }
 
+fn salvage_command(arguments: &[&str]) -> Option<Result<(), String>> {
+    let done = match arguments {
+        ["salvage"] => salvage_results(false),
+        ["salvage", "--counts"] => salvage_results(true),
+        ["generate-salvage", seed, count] => write(&salvage_generate::generate(
+            seed.parse().ok()?,
+            count.parse().ok()?,
+        )),
+        ["points-salvage"] => write(&salvage_points::file()),
+        ["compare-salvage", program, seeds, count] => {
+            let program = compare::Program::parse(program);
+            salvage_compare::compare(&program, &compare::seeds(seeds)?, count.parse().ok()?)
+        }
+        ["bench-salvage", program] => {
+            bench_salvage::bench_salvage(&compare::Program::parse(program))
+        }
+        ["time-salvage"] => time_salvage(),
+        _ => return None,
+    };
+    Some(done)
+}
+
 /// The points under a name; none for another name.
 fn gif_point_cases(name: &str) -> Option<Vec<gif_cases::Case>> {
     match name {
@@ -294,6 +331,24 @@ fn sheet_results(with_counts: bool) -> Result<(), String> {
         Some((case, told)) => Err(format!("case {case}: {told}")),
         None => Ok(()),
     }
+}
+
+fn salvage_results(with_counts: bool) -> Result<(), String> {
+    let mut counts = salvage_counts::Counts::default();
+    let results = salvage_cases::results(&read()?, &mut counts);
+    write(&results.bytes)?;
+    if with_counts {
+        eprint!("{}", compare::table(&counts.rows()));
+    }
+    match results.broken {
+        Some((case, told)) => Err(format!("case {case}: {told}")),
+        None => Ok(()),
+    }
+}
+
+/// The results of salvage cases, with nothing checked or counted.
+fn time_salvage() -> Result<(), String> {
+    write(&salvage_cases::plain_results(&read()?))
 }
 
 fn time_gif() -> Result<(), String> {

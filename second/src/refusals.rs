@@ -47,3 +47,7 @@ pub const OUTPUT: u32 = 47;
 // Of setting a register.
 pub const NUMBER: u32 = 50;
 pub const WAITING: u32 = 51;
+
+// Of salvage; 46 too.
+pub const KEPT: u32 = 55;
+pub const RANGES: u32 = 56;

@@ -173,7 +173,7 @@ pub fn records(sheet: &[u8]) -> Result<Vec<Record<'_>>, Refusal> {
 }
 
 /// The record at the head of the bytes, or the number of its refusal.
-fn first_record(bytes: &[u8]) -> Result<Record<'_>, u32> {
+pub fn first_record(bytes: &[u8]) -> Result<Record<'_>, u32> {
     if bytes.len() < HEADER {
         return Err(refusals::CUT);
     }
