@@ -735,6 +735,72 @@ static void fuzz_meaning(struct bytes *in) {
     if (proved == TEJBORUN_DONE) show_kind(9, magnitude(*(const uint64_t *)PROVED(RESULT)), magnitude(used), 0);
 }
 
+/* Damage: a bad sector, raw bytes at any place, or a cut. */
+static void damage(struct bytes *in, struct sheet *s) {
+    enum { SECTOR = 512 };
+    uint32_t how = take8(in), at = take32(in);
+    if (s->bytes == 0) return;
+    at %= (uint32_t)s->bytes;
+    uint32_t sector = at - at % SECTOR;
+    size_t left = s->bytes - sector;
+    switch (how % 8) {
+    case 0: memset(s->at + sector, 0, left < SECTOR ? left : SECTOR); break;
+    case 1: fill(s->at + sector, left < SECTOR ? left : SECTOR, how); break;
+    case 2: s->bytes = at; break;
+    case 3: s->at[at] = 0x9E; break;
+    default: s->at[at] = (uint8_t)take8(in); break;
+    }
+}
+
+/* The lengths that are needed, as the judge says them with roomy buffers. */
+static void needed(size_t *bytes, size_t *numbers) {
+    static uint8_t output[SHEET_ROOM];
+    static uint64_t ranges[2 * SHEET_ROOM];
+    uint64_t result[2] = {0, 0};
+    judge_salvage(buffers[SHEET].given, BYTES(SHEET), output, sizeof output, ranges, sizeof ranges / sizeof ranges[0], result, 2);
+    *bytes = result[0];
+    *numbers = 2 * result[1];
+}
+
+/* A length, mostly the one needed; sometimes a little more or less. */
+static size_t near(struct bytes *in, size_t right) {
+    uint32_t how = take8(in), by = take8(in) % 4;
+    if (how < 128) return right;
+    if (how < 192) return right + by;
+    if (how < 248) return right - (right < by ? right : by);
+    return how % 2;
+}
+
+/* The output stands in main memory's buffer, the list in the log's. */
+static void fuzz_salvage(struct bytes *in) {
+    uint8_t damage_of[64], lengths_of_buffers[5];
+    for (size_t i = 0; i < sizeof damage_of; i++) damage_of[i] = (uint8_t)take8(in);
+    for (size_t i = 0; i < sizeof lengths_of_buffers; i++) lengths_of_buffers[i] = (uint8_t)take8(in);
+    struct bytes order = {damage_of, sizeof damage_of}, buffers_of = {lengths_of_buffers, sizeof lengths_of_buffers};
+    sheet.bytes = 0;
+    while (in->left > 0 && sheet.bytes <= TEJBORUN_SHEET_BYTES) add_record(in, &sheet);
+    for (uint32_t count = take8(&order) % 10; count > 0; count--) damage(&order, &sheet);
+    void *to = give(SHEET, sheet.bytes);
+    if (sheet.bytes > 0) memcpy(to, sheet.at, sheet.bytes);
+    most(&longest_sheet, sheet.bytes);
+    size_t bytes, numbers;
+    needed(&bytes, &numbers);
+    bytes = near(&buffers_of, bytes);
+    numbers = near(&buffers_of, numbers);
+    fill(give(MAIN, bytes), bytes, 3);
+    fill(give(LOG, 8 * numbers), 8 * numbers, 2);
+    uint32_t how = take8(&buffers_of);
+    give_result(how < 240 ? 2 : how % 4);
+    lend_all();
+    uint32_t proved = tejborun_salvage(PROVED(SHEET), BYTES(SHEET), PROVED(MAIN), BYTES(MAIN), PROVED(LOG), NUMBERS(LOG), PROVED(RESULT), NUMBERS(RESULT));
+    agreed(proved, judge_salvage(JUDGED(SHEET), BYTES(SHEET), JUDGED(MAIN), BYTES(MAIN), JUDGED(LOG), NUMBERS(LOG), JUDGED(RESULT), NUMBERS(RESULT)));
+    only_read(SHEET);
+    if (proved == TEJBORUN_SHORT) return;
+    const uint64_t *result = PROVED(RESULT);
+    most(&longest_run, result[1]);
+    show_kind(16, proved, magnitude(result[0]), magnitude(result[1]));
+}
+
 static uint32_t call_reset(void) {
     uint32_t proved = tejborun_reset(PROVED(BLOCK), WORDS(BLOCK));
     agreed(proved, judge_reset(JUDGED(BLOCK), WORDS(BLOCK)));
@@ -959,7 +1025,7 @@ static void fuzz_compare(struct bytes *in) {
 
 /* ---- The program ---- */
 
-enum { entry_build, entry_steps, entry_meaning, entry_start, entry_set, entry_run, entry_build_and_run, entry_compare };
+enum { entry_build, entry_steps, entry_meaning, entry_salvage, entry_start, entry_set, entry_run, entry_build_and_run, entry_compare };
 
 static const struct {
     const char *name, *longest;
@@ -968,6 +1034,7 @@ static const struct {
     {"build", "", fuzz_build},
     {"steps", "most steps of a sheet", fuzz_steps},
     {"meaning", "most entries of a sheet", fuzz_meaning},
+    {"salvage", "most ranges of a sheet", fuzz_salvage},
     {"start", "", fuzz_start},
     {"set", "", fuzz_set},
     {"run", "longest run", fuzz_run},

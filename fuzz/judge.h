@@ -9,6 +9,8 @@ size_t judge_build(const uint8_t *sheet, size_t sheet_bytes, uint8_t *output, si
 uint32_t judge_steps(const uint8_t *sheet, size_t sheet_bytes, uint64_t *result, size_t result_numbers);
 uint32_t judge_meaning(const uint8_t *sheet, size_t sheet_bytes, uint32_t *data, size_t data_words, uint8_t *code, size_t code_bytes, uint64_t *log,
                        size_t log_numbers, uint64_t used, uint64_t *result, size_t result_numbers);
+uint32_t judge_salvage(const uint8_t *sheet, size_t sheet_bytes, uint8_t *output, size_t output_bytes, uint64_t *ranges, size_t ranges_numbers,
+                       uint64_t *result, size_t result_numbers);
 uint32_t judge_reset(uint32_t *block, size_t block_words);
 uint32_t judge_start(uint32_t *block, size_t block_words, uint32_t channel, uint32_t tadr, uint32_t tte);
 uint32_t judge_set(uint32_t *block, size_t block_words, uint32_t unit, uint32_t number, uint32_t value);

@@ -16,6 +16,8 @@ mod memory;
 mod model;
 #[path = "../../../second/src/refusals.rs"]
 mod refusals;
+#[path = "../../../second/src/salvage.rs"]
+mod salvage;
 #[path = "../../../second/src/set.rs"]
 mod set;
 #[path = "../../../second/src/sheet.rs"]
@@ -133,6 +135,29 @@ pub unsafe extern "C" fn judge_meaning(
         Err((refusal, offset)) => (refusal, used, offset),
     };
     lent(result, result_numbers)[..2].copy_from_slice(&[after, offset as u64]);
+    answer
+}
+
+#[no_mangle]
+pub unsafe extern "C" fn judge_salvage(
+    sheet: *const u8,
+    sheet_bytes: usize,
+    output: *mut u8,
+    output_bytes: usize,
+    ranges: *mut u64,
+    ranges_numbers: usize,
+    result: *mut u64,
+    result_numbers: usize,
+) -> u32 {
+    if result_numbers < 2 {
+        return SHORT;
+    }
+    let (output, ranges) = (lent(output, output_bytes), lent(ranges, ranges_numbers));
+    let (answer, numbers) = match salvage::salvage(view(sheet, sheet_bytes), output, ranges) {
+        Ok(written) => (0, [written.bytes as u64, written.ranges as u64]),
+        Err(refusal) => (refusal, [0; 2]),
+    };
+    lent(result, result_numbers)[..2].copy_from_slice(&numbers);
     answer
 }
 
