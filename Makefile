@@ -17,7 +17,7 @@ HOST = host/main.c host/identity.c host/options.c host/files.c host/output.c hos
 PREFIX = /usr/local
 DESTDIR =
 
-FUZZ_ENTRIES = build steps meaning start set run build_and_run compare
+FUZZ_ENTRIES = build steps meaning salvage start set run build_and_run compare
 FUZZ_SECONDS = 1200
 FUZZ_CC = clang
 FUZZ_CFLAGS = -std=c11 -Wall -Wextra -Werror -O1 -g -fsanitize=fuzzer,address,undefined -fno-sanitize-recover=all
@@ -37,6 +37,7 @@ test:
 	$(SECOND) compare-vif target/bin/vif_replay 1,2,3 100000
 	$(SECOND) compare-capture target/bin/replay 1,2,3 2000
 	$(SECOND) compare-sheet target/bin/sheet_replay 1,2,3 2000
+	$(SECOND) compare-salvage target/bin/salvage_replay 1,2,3 2000
 	$(MAKE) host-test
 	@tail -n 1 build/ci.log
 
@@ -49,10 +50,11 @@ second:
 
 # Times beside the second program, in one run.
 bench: second
-	rt check gif_bench chain_bench sheet_bench
+	rt check gif_bench chain_bench sheet_bench salvage_replay
 	$(SECOND) bench-gif target/bin/gif_bench
 	$(SECOND) bench-chain target/bin/chain_bench
 	$(SECOND) bench-sheet target/bin/sheet_bench
+	$(SECOND) bench-salvage target/bin/salvage_replay
 
 # The command for the bench, over the proved library.
 host:
