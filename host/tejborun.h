@@ -94,6 +94,10 @@ enum tejborun_answer {
     TEJBORUN_BAD_NUMBER = 50, /* the number of a register above 7 */
     TEJBORUN_UNIT_WAITS = 51, /* a code of the unit waits for payload */
 
+    /* salvage */
+    TEJBORUN_LONG_KEPT = 55,   /* the records kept are longer than the output */
+    TEJBORUN_MANY_RANGES = 56, /* more ranges were dropped than their list holds */
+
     TEJBORUN_SHORT = 60, /* a state block that is not TEJBORUN_BLOCK_WORDS, or a result with fewer numbers than stated: nothing is changed */
 
     TEJBORUN_ALLOWANCE = 90, /* the allowance is used */
@@ -116,6 +120,15 @@ size_t tejborun_build(const uint8_t *sheet, size_t sheet_bytes, uint8_t *output,
 /* The steps of a sheet's chain. Answers 0, or the sheet's refusal (46, 40 to 45).
  * result[0]: the steps, 0 where refused; result[1]: the offset of the refused record, 0 for 46 and where there is none. */
 uint32_t tejborun_steps(const uint8_t *sheet, size_t sheet_bytes, uint64_t *result, size_t result_numbers);
+
+/* What can be kept of a damaged sheet. Read from offset 0: a whole valid record is kept and passed over, otherwise one byte is dropped. The records kept are
+ * written to the output one after another, and the ranges dropped to their list, two numbers each, offset and length, joined where they touch, in order.
+ * Answers 0; or, in this order, TEJBORUN_SHORT, 46 for a sheet above TEJBORUN_SHEET_BYTES, 55 exactly if the bytes kept exceed the output, 56 exactly if the
+ * ranges exceed their list, which holds half its length in numbers, rounded down. A refusal leaves output and list as they are, success what lies beyond what
+ * is written. The output is a sheet that is not refused with 40 to 46; a valid sheet comes back as it is, with no range.
+ * result[0]: the bytes written to the output; result[1]: the ranges written to the list; both 0 where refused. */
+uint32_t tejborun_salvage(const uint8_t *sheet, size_t sheet_bytes, uint8_t *output, size_t output_bytes, uint64_t *ranges, size_t ranges_numbers,
+                          uint64_t *result, size_t result_numbers);
 
 /* The plain meaning of a sheet: its records fed to VIF1's memories and to the log after its first `used` entries.
  * Entries of GS records have path 2, those of starts path 0. Answers 0, or 2, 3, 4 for the lengths, the sheet's refusal, or 31 where the log lacks room; a

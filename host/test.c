@@ -396,6 +396,178 @@ static void test_steps(bool end)
     }
 }
 
+/* What is to be kept of a sheet and the ranges to be dropped, by the steps' own reader: it says where the first record is that is not whole and valid. */
+struct expected {
+    uint8_t *kept;
+    uint64_t *range; /* offset and length of each */
+    size_t bytes, ranges;
+};
+
+static void drop_byte(struct expected *expected, size_t at)
+{
+    uint64_t *last = expected->range + 2 * expected->ranges;
+    if (expected->ranges > 0 && last[-2] + last[-1] == at) {
+        last[-1]++;
+        return;
+    }
+    last[0] = at;
+    last[1] = 1;
+    expected->ranges++;
+}
+
+static struct expected expect_salvage(const uint8_t *bytes, size_t count)
+{
+    struct expected expected = {.kept = malloc(count + 1), .range = calloc(2 * count + 1, 8)};
+    CHECK(expected.kept != NULL && expected.range != NULL);
+    for (size_t at = 0; at < count; at++) {
+        uint64_t result[2];
+        size_t whole = tejborun_steps(bytes + at, count - at, result, 2) == TEJBORUN_DONE ? count - at : (size_t)result[1];
+        memcpy(expected.kept + expected.bytes, bytes + at, whole);
+        expected.bytes += whole;
+        at += whole;
+        if (at < count)
+            drop_byte(&expected, at);
+    }
+    return expected;
+}
+
+static void free_expected(struct expected *expected)
+{
+    free(expected->kept);
+    free(expected->range);
+}
+
+/* Whether a buffer holds so many bytes, and from there on what it held. */
+static bool holds_then_keeps(const struct lent *lent, const void *bytes, size_t count)
+{
+    size_t at = (size_t)(lent->at - lent->map) + count, end = (size_t)(lent->at - lent->map) + lent->bytes;
+    return count <= lent->bytes && (count == 0 || memcmp(lent->at, bytes, count) == 0) && memcmp(lent->before + at, lent->map + at, end - at) == 0;
+}
+
+/* Room for a salvage: bytes of the output, numbers of the list and of the result. */
+struct room {
+    size_t output, list, result;
+};
+
+enum { SALVAGE_NUMBERS = 2, OUTPUT = 1, LIST = 2, SALVAGE_RESULT = 3, SALVAGE_BUFFERS = 4 };
+
+/* Salvages a sheet with so much room: what is expected, or a refusal that changes nothing. */
+static void try_salvage(const uint8_t *bytes, size_t count, struct room room, const struct expected *expected, uint32_t answer, bool end)
+{
+    const size_t lengths[SALVAGE_BUFFERS] = {count, room.output, 8 * room.list, 8 * room.result};
+    struct lent lent[SALVAGE_BUFFERS];
+    for (size_t i = 0; i < SALVAGE_BUFFERS; i++)
+        lent[i] = lend(lengths[i], end);
+    if (count > 0)
+        memcpy(lent[SHEET].at, bytes, count);
+    for (size_t i = 0; i < SALVAGE_BUFFERS; i++)
+        remember(&lent[i]);
+    only_read(&lent[SHEET], true);
+    CHECK(tejborun_salvage(lent[SHEET].at, count, lent[OUTPUT].at, room.output, numbers(&lent[LIST]), room.list, numbers(&lent[SALVAGE_RESULT]),
+                           room.result) == answer);
+    only_read(&lent[SHEET], false);
+    bool done = answer == TEJBORUN_DONE;
+    const uint64_t written[SALVAGE_NUMBERS] = {done ? expected->bytes : 0, done ? expected->ranges : 0};
+    CHECK(unchanged(&lent[SHEET]) && kept_outside(&lent[OUTPUT]) && kept_outside(&lent[LIST]) && kept_outside(&lent[SALVAGE_RESULT]));
+    CHECK(holds_then_keeps(&lent[OUTPUT], expected->kept, (size_t)written[0]) && holds_then_keeps(&lent[LIST], expected->range, 16 * (size_t)written[1]));
+    CHECK(answer == TEJBORUN_SHORT ? unchanged(&lent[SALVAGE_RESULT]) : holds_then_keeps(&lent[SALVAGE_RESULT], written, sizeof written));
+    for (size_t i = 0; i < SALVAGE_BUFFERS; i++)
+        give_back(&lent[i]);
+}
+
+/* With just room enough, with more, and with too little of one or both. */
+static void try_rooms(const uint8_t *bytes, size_t count, bool end)
+{
+    struct expected expected = expect_salvage(bytes, count);
+    const size_t kept = expected.bytes, list = 2 * expected.ranges;
+    try_salvage(bytes, count, (struct room){kept, list, 2}, &expected, TEJBORUN_DONE, end);
+    try_salvage(bytes, count, (struct room){kept + 1, list + 1, 3}, &expected, TEJBORUN_DONE, end);
+    try_salvage(bytes, count, (struct room){count + 99, 2 * count + 9, 9}, &expected, TEJBORUN_DONE, end);
+    for (size_t few = 0; few < 2; few++)
+        try_salvage(bytes, count, (struct room){kept, list, few}, &expected, TEJBORUN_SHORT, end);
+    if (kept > 0)
+        try_salvage(bytes, count, (struct room){kept - 1, list, 2}, &expected, TEJBORUN_LONG_KEPT, end);
+    if (list > 0) {
+        try_salvage(bytes, count, (struct room){kept, list - 1, 2}, &expected, TEJBORUN_MANY_RANGES, end);
+        try_salvage(bytes, count, (struct room){kept, 0, 2}, &expected, TEJBORUN_MANY_RANGES, end);
+    }
+    if (kept > 0 && list > 0)
+        try_salvage(bytes, count, (struct room){0, 0, 2}, &expected, TEJBORUN_LONG_KEPT, end);
+    uint64_t result[2];
+    CHECK(tejborun_steps(expected.kept, kept, result, 2) == TEJBORUN_DONE);
+    free_expected(&expected);
+}
+
+/* Damaged sheets with what is kept and dropped of them: junk before, between and behind records; a record whose body is cut by the end, with a whole record
+ * inside; a wrong count; marks that touch; kinds 0 and 5; a pad, with a whole record before it; a record inside a valid one, which is passed over. */
+static const struct {
+    uint8_t bytes[40];
+    size_t count;
+    uint8_t kept[40];
+    size_t kept_bytes;
+    uint64_t range[6];
+    size_t ranges;
+} damaged[] = {
+    {{7, 8, 9, 0x9E, 0x51, 4, 0, 5, 0, 1, 2, 0x9E, 0x51, 4, 0, 6, 0, 3}, 18, {0x9E, 0x51, 4, 0, 5, 0, 0x9E, 0x51, 4, 0, 6, 0}, 12, {0, 3, 9, 2, 17, 1}, 3},
+    {{0x9E, 0x51, 2, 2, 0, 0, 0x9E, 0x51, 4, 0, 5, 0, 1, 2, 3, 4}, 16, {0x9E, 0x51, 4, 0, 5, 0}, 6, {0, 6, 12, 4}, 2},
+    {{0x9E, 0x51, 4, 1, 5, 0, 0x9E, 0x51, 4, 0, 5, 0}, 12, {0x9E, 0x51, 4, 0, 5, 0}, 6, {0, 6}, 1},
+    {{0x9E, 0x9E, 0x51, 4, 0, 5, 0, 0x9E}, 8, {0x9E, 0x51, 4, 0, 5, 0}, 6, {0, 1, 7, 1}, 2},
+    {{0x9E, 0x51, 0, 2, 0, 0, 0x9E, 0x51, 5, 2, 1, 0, 0x9E, 0x51, 4, 0, 5, 0}, 18, {0x9E, 0x51, 4, 0, 5, 0}, 6, {0, 12}, 1},
+    {{0x9E, 0x51, 3, 1, 0, 0, 0x9E, 0x51, 4, 0, 5, 0, 0, 0, 5, 0, 0, 0, 0, 0, 0, 1}, 22, {0x9E, 0x51, 4, 0, 5, 0}, 6, {0, 6, 12, 10}, 2},
+    {{0x9E, 0x51, 2, 1, 0, 0, 0x9E, 0x51, 4, 0, 5, 0, 9, 9, 0x9E, 0x51, 4, 0, 5}, 19, {0x9E, 0x51, 2, 1, 0, 0, 0x9E, 0x51, 4, 0, 5, 0, 9, 9}, 14, {14, 5}, 1},
+};
+
+static void test_damaged(bool end)
+{
+    for (size_t i = 0; i < sizeof damaged / sizeof damaged[0]; i++) {
+        struct expected expected = {(uint8_t *)damaged[i].kept, (uint64_t *)damaged[i].range, damaged[i].kept_bytes, damaged[i].ranges};
+        try_salvage(damaged[i].bytes, damaged[i].count, (struct room){100, 100, 2}, &expected, TEJBORUN_DONE, end);
+        try_rooms(damaged[i].bytes, damaged[i].count, end);
+    }
+    for (size_t i = 0; i < REFUSED; i++)
+        try_rooms(refused[i].bytes, refused[i].count, end);
+}
+
+/* Every cut of a sheet, and every byte of it broken. */
+static void test_salvage(bool end)
+{
+    uint8_t broken[sizeof sheet];
+    struct expected same = {.kept = (uint8_t *)sheet, .bytes = sizeof sheet}, nothing = {0};
+    try_salvage(sheet, sizeof sheet, (struct room){sizeof sheet, 0, 2}, &same, TEJBORUN_DONE, end);
+    try_salvage(NULL, 0, (struct room){0, 0, 2}, &nothing, TEJBORUN_DONE, end);
+    CHECK(tejborun_salvage(NULL, 0, NULL, 0, NULL, 0, NULL, 0) == TEJBORUN_SHORT);
+    for (size_t count = 0; count <= sizeof sheet; count++)
+        try_rooms(sheet, count, end);
+    for (size_t i = 0; i < sizeof sheet; i++) {
+        memcpy(broken, sheet, sizeof sheet);
+        broken[i] ^= 0x40;
+        try_rooms(broken, sizeof broken, end);
+    }
+}
+
+/* The longest sheets: valid, of marks alone, with as many ranges as there can be; and one that is too long. */
+static void test_long_salvage(bool end)
+{
+    uint8_t *bytes = calloc(TEJBORUN_SHEET_BYTES + 1, 1);
+    CHECK(bytes != NULL);
+    for (size_t at = 0; at < TEJBORUN_SHEET_BYTES; at++)
+        bytes[at] = at % 2 == 0 ? 0x9E : 0x51;
+    uint64_t all[2] = {0, TEJBORUN_SHEET_BYTES};
+    struct expected expected = {.range = all, .ranges = 1}, none = {0};
+    try_salvage(bytes, TEJBORUN_SHEET_BYTES, (struct room){0, 2, 2}, &expected, TEJBORUN_DONE, end);
+    try_salvage(bytes, TEJBORUN_SHEET_BYTES + 1, (struct room){0, 0, 2}, &none, TEJBORUN_LONG_SHEET, end);
+    try_salvage(bytes, TEJBORUN_SHEET_BYTES + 1, (struct room){0, 0, 1}, &none, TEJBORUN_SHORT, end);
+    for (size_t at = 0; at + 7 <= TEJBORUN_SHEET_BYTES; at += 7)
+        memcpy(bytes + at, "\x51\x9E\x51\x04\x00\xFF\x07", 7);
+    try_rooms(bytes, TEJBORUN_SHEET_BYTES, end);
+    for (size_t at = 0; at + 6 <= TEJBORUN_SHEET_BYTES; at += 6)
+        memcpy(bytes + at, "\x9E\x51\x04\x00\xFF\x07", 6);
+    struct expected same = {.kept = bytes, .bytes = TEJBORUN_SHEET_BYTES - 2};
+    try_salvage(bytes, same.bytes, (struct room){same.bytes, 0, 2}, &same, TEJBORUN_DONE, end);
+    try_rooms(bytes, TEJBORUN_SHEET_BYTES, end);
+    free(bytes);
+}
+
 static void try_meaning(const uint8_t *bytes, size_t count, struct lengths lengths, uint64_t used, uint32_t answer, uint64_t offset, bool end)
 {
     struct bench bench;
@@ -1452,7 +1624,7 @@ static void test_messages(void)
         TEJBORUN_BAD_FORMAT, TEJBORUN_BAD_CYCLE,   TEJBORUN_BAD_MODE,   TEJBORUN_BAD_DIRECT, TEJBORUN_BAD_DESCRIPTOR, TEJBORUN_LOG_FULL,
         TEJBORUN_BAD_MARK,   TEJBORUN_BAD_KIND,    TEJBORUN_BAD_COUNT,  TEJBORUN_BAD_ADDRESS, TEJBORUN_CUT_RECORD,    TEJBORUN_BAD_PAD,
         TEJBORUN_LONG_SHEET, TEJBORUN_LONG_CHAIN,  TEJBORUN_SHORT,      TEJBORUN_ALLOWANCE,  TEJBORUN_INTERRUPT,      TEJBORUN_BAD_TOPS,
-        TEJBORUN_BAD_MPG,    TEJBORUN_BAD_NUMBER,  TEJBORUN_UNIT_WAITS,
+        TEJBORUN_BAD_MPG,    TEJBORUN_BAD_NUMBER,  TEJBORUN_UNIT_WAITS, TEJBORUN_LONG_KEPT,  TEJBORUN_MANY_RANGES,
     };
     enum { ANSWERS = sizeof answers / sizeof answers[0] };
     const char *none = tejborun_message(UINT32_MAX);
@@ -1501,6 +1673,9 @@ int main(void)
         test_build(end);
         test_long_sheets(end);
         test_steps(end);
+        test_salvage(end);
+        test_damaged(end);
+        test_long_salvage(end);
         test_meaning(end);
         test_reset(end);
         test_start(end);
@@ -1535,6 +1710,7 @@ int main(void)
     puts("packets: each way to close one, on both paths, with every allowance; at a mark and before a refusal");
     puts("paths: 2, 3 and 0 in one log, in both orders of the channels, with room for every number of entries; entries used that wrap");
     puts("set: each register of both units, one word of the block and no other; 60, 50, 5, 51 in their order; seen by the run");
+    puts("salvage: sheets cut and broken at every byte, records inside others, the longest; just enough room and too little; 60, 46, 55, 56 in their order");
     puts("state block: every word under its name");
     return 0;
 }
