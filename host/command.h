@@ -27,6 +27,7 @@ enum option {
     OPTION_UNIT,
     OPTION_ROW,
     OPTION_COL,
+    OPTION_RANGES,
     OPTIONS /* how many */
 };
 
@@ -51,7 +52,7 @@ struct words_given {
 
 /* Each does its command and hands back the exit status. */
 typedef int command_call(const struct words_given *given);
-command_call command_build, command_steps, command_meaning, command_run, command_play, command_set, command_compare, command_report, command_import, command_export, command_dump, command_assemble;
+command_call command_build, command_steps, command_salvage, command_meaning, command_run, command_play, command_set, command_compare, command_report, command_import, command_export, command_dump, command_assemble;
 
 struct command {
     const char *name;

@@ -43,21 +43,34 @@ static const struct body bodies[4] = {
     {NULL, NULL, 0, NULL},
 };
 
+/* The units of a valid record's body. */
+static unsigned count_units(const uint8_t *record)
+{
+    return bodies[record[2] - 1].bytes > 0 ? record[3] : 0;
+}
+
+enum { HEADER_BYTES = 6 };
+
+size_t record_bytes(const uint8_t *record)
+{
+    return HEADER_BYTES + count_units(record) * bodies[record[2] - 1].bytes;
+}
+
 /* Prints the whole record at an offset; hands back its length. */
 static size_t print_record(const uint8_t *sheet, size_t offset)
 {
     const uint8_t *at = sheet + offset;
     const uint32_t head[2] = {get_word(at), at[4] | (uint32_t)at[5] << 8};
     const struct body *body = &bodies[at[2] - 1];
-    unsigned count = body->bytes > 0 ? at[3] : 0;
+    unsigned count = count_units(at);
     print_block(stdout, shape_of(record_heads, head[0]), head);
     printf("  # offset %zu", offset);
     if (body->one != NULL)
         printf(", %u %s", count, plural(count, body->one, body->many));
     putchar('\n');
     for (unsigned i = 0; i < count; i++)
-        body->print(at + 6 + i * body->bytes);
-    return 6 + count * body->bytes;
+        body->print(at + HEADER_BYTES + i * body->bytes);
+    return record_bytes(at);
 }
 
 static void print_bytes(const uint8_t *bytes, size_t count)

@@ -34,11 +34,16 @@ void say_to(FILE *stream)
     said = stream;
 }
 
+FILE *said_stream(void)
+{
+    return said != NULL ? said : stdout;
+}
+
 void say(const char *format, ...)
 {
     va_list values;
     va_start(values, format);
-    vfprintf(said != NULL ? said : stdout, format, values);
+    vfprintf(said_stream(), format, values);
     va_end(values);
 }
 
@@ -106,6 +111,12 @@ int read_file(const char *name, size_t most, struct bytes *file)
         *file = (struct bytes){0};
     }
     return status;
+}
+
+bool is_folder(const char *name)
+{
+    struct stat of;
+    return stat(name, &of) == 0 && S_ISDIR(of.st_mode);
 }
 
 bool same_file(const char *a, const char *b)

@@ -24,6 +24,7 @@ int complain(const char *about, const char *format, ...) __attribute__((format(p
 /* Prints what the command says of its work: to standard output, or to standard error where that is taken by the output file. */
 void say(const char *format, ...) __attribute__((format(printf, 1, 2)));
 void say_to(FILE *stream);
+FILE *said_stream(void);
 
 /* Memory of count x size zero bytes, never null; stops the program where there is none. */
 void *allocate(size_t count, size_t size);
@@ -39,6 +40,9 @@ int read_file(const char *name, size_t most, struct bytes *file);
 
 /* Writes a file as a whole or not at all: beside it first, then renamed. A symbolic link is followed, a mode is kept. A status. */
 int write_file(const char *name, const uint8_t *bytes, size_t count);
+
+/* Whether a name stands for a folder. */
+bool is_folder(const char *name);
 
 /* Whether two names stand for one regular file, or both for standard input. */
 bool same_file(const char *a, const char *b);

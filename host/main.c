@@ -22,6 +22,16 @@
 static const struct command commands[] = {
     {"build", 1, 1, 0, TAKES(OPTION_OUTPUT), true, command_build, "build SHEET -o CHAIN", "Builds the chain of a test sheet.\n"},
     {"steps", 1, 1, 0, 0, false, command_steps, "steps SHEET", "Says how many steps the chain of a test sheet takes.\n"},
+    {"salvage", 1, SIZE_MAX, 0, TAKES(OPTION_OUTPUT) | TAKES(OPTION_RANGES) | TAKES(OPTION_QUIET) | TAKES(OPTION_JSON), true, command_salvage,
+     "salvage SHEET.. -o SHEET or FOLDER [--ranges FILE] [--quiet] [--json]",
+     "Keeps what can be kept of damaged sheets. A sheet is read from offset 0: a whole valid record is kept and passed over,\n"
+     "otherwise one byte is dropped. The records kept are written one after another, and the ranges dropped are shown, where they\n"
+     "begin and how long they are. Several sheets are written to a folder, under their names; they have a row each and a summary.\n"
+     "Damage that leaves a record valid, as another number in its body, is not to be seen.\n"
+     "  --ranges FILE  writes the ranges as text, a line each: offset and length in decimal; of one sheet\n"
+     "  --quiet        prints nothing: the exit status has it\n"
+     "  --json         prints JSON\n"
+     "The exit status is 0 where nothing was dropped, 1 where something was or the sheet is refused (46: longer than 131,072 bytes).\n"},
     {"meaning", 1, 1, 0, TAKES(OPTION_OUTPUT), true, command_meaning, "meaning SHEET -o RESULT",
      "Writes what the sheet says a board holds afterwards: its records fed to zero memories and an empty log.\n"},
     {"run", 1, 1, 0, TAKES(OPTION_OUTPUT) | TAKES(OPTION_ALLOWANCE) | TAKES(OPTION_FROM) | TAKES(OPTION_NO_START), false, command_run,

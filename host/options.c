@@ -31,6 +31,7 @@ static const struct option_shape shapes[OPTIONS] = {
     [OPTION_UNIT] = {"--unit", "N", false},
     [OPTION_ROW] = {"--row", "I=VALUE", false},
     [OPTION_COL] = {"--col", "I=VALUE", false},
+    [OPTION_RANGES] = {"--ranges", "FILE", false},
 };
 
 enum option part_option(enum part part)

@@ -53,23 +53,44 @@ static double seconds(void)
 static double begun, shown;
 static bool is_shown;
 
-void show_progress(uint64_t steps)
+/* Whether something is shown now: half a second after the last time, on a terminal. */
+static bool is_due(double now)
 {
-    double now = seconds();
     if (begun == 0)
         begun = shown = now;
     if (now - shown < 0.5 || !isatty(STDERR_FILENO))
-        return;
+        return false;
     shown = now;
     is_shown = true;
+    return true;
+}
+
+void show_progress(uint64_t steps)
+{
+    double now = seconds();
+    if (!is_due(now))
+        return;
     fprintf(stderr, "\r%" PRIu64 " steps, %.1f million a second; Ctrl-C stops \033[K", steps, (double)steps / (now - begun) / 1e6);
     fflush(stderr);
 }
 
-void end_progress(void)
+void show_count(size_t done, size_t all, const char *what)
+{
+    if (!is_due(seconds()))
+        return;
+    fprintf(stderr, "\r%zu of %zu %s\033[K\r", done, all, what); /* what is said next is written over it */
+    fflush(stderr);
+}
+
+void end_count(void)
 {
     if (is_shown)
         fputs("\r\033[K", stderr);
-    begun = 0;
     is_shown = false;
+}
+
+void end_progress(void)
+{
+    end_count();
+    begun = 0;
 }

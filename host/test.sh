@@ -159,7 +159,7 @@ state_words() {
 usage() {
     expect 0 --help
     says out 'tejborun build SHEET -o CHAIN'
-    for name in build steps meaning run play set compare report dump assemble; do
+    for name in build steps salvage meaning run play set compare report dump assemble; do
         expect 0 "$name" --help
         says out "usage: tejborun $name"
         expect 2 "$name"
@@ -171,7 +171,7 @@ usage() {
     done
     expect 2
     expect 2 nonsense
-    says err 'no such command; known are build, steps, meaning, run, play, set, compare, report, import, export, dump, assemble'
+    says err 'no such command; known are build, steps, salvage, meaning, run, play, set, compare, report, import, export, dump, assemble'
     expect 2 build a.sheet
     says err 'say with -o where to write'
     expect 2 build a.sheet -o
@@ -222,7 +222,7 @@ bench_points() {
 
 # Every answer of the scope document has a meaning in words.
 meanings() {
-    for answer in 0 1 2 3 4 5 10 11 12 13 14 20 21 22 23 24 26 30 31 40 41 42 43 44 45 46 47 50 51 60 90 91; do
+    for answer in 0 1 2 3 4 5 10 11 12 13 14 20 21 22 23 24 26 30 31 40 41 42 43 44 45 46 47 50 51 55 56 60 90 91; do
         echo "result answer=$answer" > meaning.txt
         expect 0 assemble result meaning.txt -o meaning.result
         expect 0 dump meaning.result
@@ -308,6 +308,36 @@ one_sheet() {
     says out 'equal'
 }
 
+# salvaged FILE: salvages a sheet. What is kept is a sheet that the builder takes; what is dropped is a list of ranges in order and apart; together they are
+# the input, and a sheet of which nothing is dropped comes back as it is. The exit status says which.
+salvaged() {
+    "$command" salvage "$1" -o kept.sheet --ranges ranges > out 2> err
+    got=$?
+    test $got = 0 || test $got = 1 || { cat err >&2; fail "exit status $got: salvage $1"; }
+    expect_kept=$(wc -c < kept.sheet)
+    "$command" build kept.sheet -o kept.chain > said 2> err || fail "a salvaged sheet is not built: $(cat err)"
+    at_input=0 at_kept=0 end=-1 dropped=0
+    : > together
+    while read -r offset length; do
+        test "$offset" -gt "$end" || fail "ranges that touch or are not in order: $offset after $end"
+        test "$length" -gt 0 || fail 'an empty range'
+        { slice kept.sheet $at_kept $((offset - at_input)); slice "$1" "$offset" "$length"; } >> together
+        at_kept=$((at_kept + offset - at_input)) at_input=$((offset + length)) end=$at_input dropped=$((dropped + length))
+    done < ranges
+    tail -c +$((at_kept + 1)) kept.sheet >> together
+    same together "$1" 'kept and dropped together'
+    test $((expect_kept + dropped)) = $(($(wc -c < "$1"))) || fail 'kept and dropped are not the input'
+    count=$(($(wc -l < ranges)))
+    if test $count = 0; then
+        test $got = 0 || fail "exit status $got where nothing is dropped"
+        same kept.sheet "$1" 'a valid sheet'
+        says out ', nothing dropped'
+    else
+        test $got = 1 || fail "exit status $got where something is dropped"
+        says out ", $dropped byte$(test $dropped = 1 || echo s) dropped in $count range$(test $count = 1 || echo s)"
+    fi
+}
+
 # The sheets of the second program's cases, cut out of their file.
 generated_sheets() {
     "$second" generate-sheet 1 200 > sheets || fail 'generate-sheet'
@@ -322,12 +352,13 @@ generated_sheets() {
             slice case "$sheet_at" $((length)) > "sheet"
             "$second" sheet < case > results || fail "second sheet, case $number"
             one_sheet sheet results
+            if test $((length)) -le 131072; then salvaged sheet; fi
             tried=$((tried + 1))
         fi
         at=$((at + whole)) number=$((number + 1))
     done
     test $in_sheets -gt 0 || fail 'no GS record in the sheets'
-    echo "generated sheets: $tried of $number built as the second program builds them, to text and back, played as they are meant; $in_sheets packets, one for each GS record"
+    echo "generated sheets: $tried of $number built as the second program builds them, to text and back, played as they are meant, salvaged; $in_sheets packets, one for each GS record"
 }
 
 # replayed: reads the results of the case for its calls; sets where the last state block, the last run, each unit's memories and the log are, the exit status
@@ -2353,6 +2384,282 @@ set_and_stopped() {
     absent bad.out
 }
 
+# Damaged sheets: one, many, what is dropped of them as a table, as text and as JSON; what is no sheet; where they are written.
+salvages() {
+    mkdir -p salvages && cd salvages || fail 'no folder for the sheets'
+    expect 0 assemble sheet "$here/../examples/all-kinds.sheet.txt" -o whole.sheet
+    salvage_usage
+    salvage_one
+    salvage_damages
+    salvage_others
+    salvage_dashes
+    salvage_many
+    salvage_many_json
+    salvage_three_hundred
+    salvage_shown
+    cd .. || fail 'no way back'
+    echo "salvages: valid sheets as they are, damaged ones kept in their records; tables, ranges, rows and JSON; 300 at once; text, other kinds and 46; progress"
+}
+
+salvage_usage() {
+    expect 2 salvage whole.sheet
+    says err 'say with -o where to write'
+    cp whole.sheet before
+    ln -sf whole.sheet to-whole
+    for other in whole.sheet ./whole.sheet to-whole; do
+        expect 2 salvage whole.sheet -o "$other"
+        says err 'is an input and the output'
+        expect 2 salvage whole.sheet -o bad.out --ranges "$other"
+        says err 'is an input and the output'
+    done
+    same whole.sheet before
+    expect 2 salvage whole.sheet -o bad.out --ranges bad.out
+    says err 'bad.out is to have the sheet and the ranges'
+    expect 2 salvage whole.sheet before -o missing-folder
+    says err 'missing-folder is no folder: several sheets are written to one, which has to be there'
+    expect 2 salvage whole.sheet before -o before
+    expect 2 salvage whole.sheet before -o -
+    expect 2 salvage whole.sheet whole.sheet -o .
+    says err 'the same file'
+    expect 2 salvage missing.sheet -o bad.out
+    says err 'missing.sheet: cannot be opened'
+    expect 2 salvage whole.sheet -o missing-folder/x
+    says err 'missing-folder/x: cannot be written'
+    expect 2 salvage whole.sheet -o good.out --ranges missing-folder/x
+    says err 'missing-folder/x: cannot be written'
+    absent bad.out missing-folder
+}
+
+salvage_one() {
+    salvaged whole.sheet
+    expect 0 salvage whole.sheet -o new.sheet
+    same new.sheet whole.sheet
+    test "$(cat out)" = "new.sheet: $(($(wc -c < whole.sheet))) bytes kept in 7 records, nothing dropped" || fail "what is said of a valid sheet: $(cat out)"
+    : > empty.sheet
+    salvaged empty.sheet
+    says out '0 bytes kept in 0 records, nothing dropped'
+    # Three bytes, a start, two bytes, a start, a byte.
+    as_sheet junk.sheet '\1\2\3\236\121\4\0\5\0\1\2\236\121\4\0\6\0\3'
+    salvaged junk.sheet
+    as_sheet wanted '\236\121\4\0\5\0\236\121\4\0\6\0'
+    same kept.sheet wanted
+    printf '0 3\n9 2\n17 1\n' > wanted
+    same ranges wanted
+    cat > wanted <<'END'
+dropped of junk.sheet, 18 bytes:
+  offset           length
+  0x00000       0       3
+  0x00009       9       2
+  0x00011      17       1
+kept.sheet: 12 bytes kept in 2 records, 6 bytes dropped in 3 ranges
+END
+    same out wanted 'the table of what was dropped'
+    expect 1 salvage junk.sheet -o new.sheet --quiet
+    test ! -s out || fail '--quiet says something'
+    same new.sheet kept.sheet
+    expect 0 salvage whole.sheet -o new.sheet --quiet
+    test ! -s out || fail '--quiet says something'
+    cp kept.sheet kept.wanted
+    mkdir -p one-folder
+    expect 1 salvage ./junk.sheet -o one-folder/
+    says out 'one-folder/junk.sheet: 12 bytes kept in 2 records'
+    same one-folder/junk.sheet kept.sheet
+    salvaged one-folder/junk.sheet
+}
+
+# A sheet with every kind of damage: bytes put in, taken out and broken, at every place; a record inside a broken one's body; the longest.
+salvage_damages() {
+    size=$(($(wc -c < whole.sheet)))
+    for at in 0 1 5 6 7 37 38 39 60 100 $((size - 7)) $((size - 1)); do
+        { slice whole.sheet 0 $at; printf 'bad'; tail -c +$((at + 1)) whole.sheet; } > d.sheet
+        salvaged d.sheet
+        { slice whole.sheet 0 $at; tail -c +$((at + 2)) whole.sheet; } > d.sheet
+        salvaged d.sheet
+        { slice whole.sheet 0 $at; printf '\377'; tail -c +$((at + 2)) whole.sheet; } > d.sheet
+        salvaged d.sheet
+        slice whole.sheet 0 $at > d.sheet
+        salvaged d.sheet
+    done
+    # The body of a code record of two, cut, has a start in it.
+    as_sheet d.sheet '\236\121\2\2\0\0\236\121\4\0\5\0\1\2\3\4'
+    salvaged d.sheet
+    as_sheet wanted '\236\121\4\0\5\0'
+    same kept.sheet wanted 'a record inside a broken one'
+    printf '0 6\n12 4\n' > wanted
+    same ranges wanted
+    # Kinds 0 and 5 are damage.
+    as_sheet d.sheet '\236\121\0\2\0\0\236\121\5\2\1\0\236\121\4\0\5\0'
+    salvaged d.sheet
+    printf '0 12\n' > wanted
+    same ranges wanted
+    # Bad sectors of 512 bytes in a long sheet, of zeros and of FFh.
+    { for _ in $(seq 1 400); do cat whole.sheet; done; } | head -c 83999 > long.sheet
+    for filler in '\0' '\377'; do
+        { slice long.sheet 0 5120; head -c 512 /dev/zero | tr '\0' "$filler"; slice long.sheet 5632 40960; head -c 1024 /dev/zero | tr '\0' "$filler"
+            tail -c +47617 long.sheet; } > d.sheet
+        salvaged d.sheet
+        test "$count" -ge 2 || fail 'bad sectors that are not dropped'
+    done
+    # The longest sheet, of marks alone, in a moment.
+    yes "$(printf '\236\121')" | tr -d '\n' | head -c 131072 > d.sheet
+    timeout 10 "$command" salvage d.sheet -o new.sheet --ranges ranges > out 2> err
+    test $? = 1 || fail 'a sheet of marks takes long'
+    test "$(cat ranges)" = '0 131072' || fail "what is dropped of marks: $(cat ranges)"
+    test ! -s new.sheet || fail 'something kept of marks'
+    head -c 512 /dev/zero | tr '\0' '\377' > d.sheet
+    salvaged d.sheet
+}
+
+# What is no sheet.
+salvage_others() {
+    expect 2 salvage "$here/../examples/all-kinds.sheet.txt" -o bad.out --ranges bad.ranges
+    says err 'it is text; assemble it first: tejborun assemble sheet '
+    capture_of other.capture 'capture\nrun\n'
+    result_of other.result 'result\n'
+    for kind in capture result; do
+        expect 2 salvage other.$kind -o bad.out
+        says err "other.$kind: no sheet: it begins with the mark of a $kind"
+    done
+    head -c 131073 /dev/zero > d.sheet
+    expect 1 salvage d.sheet -o bad.out --ranges bad.ranges
+    says err 'd.sheet: refused 46 at offset 0: the sheet is longer than 131,072 bytes'
+    test ! -s out || fail 'something said of a refused sheet'
+    expect 1 salvage d.sheet -o bad.out --json
+    well_formed json out
+    says out '{"file": "d.sheet", "verdict": "refused", "status": 1, "refusal": 46}'
+    head -c 131072 /dev/zero > d.sheet
+    salvaged d.sheet
+    head -c 20000000 /dev/zero > d.sheet
+    expect 2 salvage d.sheet -o bad.out
+    says err 'larger than'
+    absent bad.out bad.ranges
+}
+
+salvage_dashes() {
+    "$command" salvage - -o - < junk.sheet > got 2> err
+    test $? = 1 || fail 'salvage - -o -'
+    same got one-folder/junk.sheet
+    says err '-: 12 bytes kept in 2 records, 6 bytes dropped in 3 ranges'
+    "$command" salvage - -o - --json < junk.sheet > got 2> err
+    same got one-folder/junk.sheet
+    cp err said
+    well_formed json said
+    "$command" salvage junk.sheet -o new.sheet --ranges - > got 2> err
+    printf '0 3\n9 2\n17 1\n' > wanted
+    same got wanted
+    says err 'new.sheet: 12 bytes kept'
+    expect 2 salvage junk.sheet -o - --ranges -
+    says err '- is to have the sheet and the ranges'
+    expect 2 salvage - -o one-folder
+    says err 'standard input has no name in one-folder: give -o a file'
+    "$command" salvage whole.sheet -o - > /dev/full 2> err
+    test $? = 2 || fail 'standard output full'
+}
+
+# Many: a row a sheet, the summary, the worst status; names that meet in the folder.
+salvage_many() {
+    mkdir -p old new
+    cp whole.sheet old/a
+    cp junk.sheet old/b
+    : > old/c
+    head -c 131073 /dev/zero > old/long
+    expect 1 salvage old/a old/b old/c -o new
+    cat > wanted <<'END'
+sheet     verdict         kept  records  dropped  ranges  first dropped
+old/a     valid            210        7        0       0
+old/b     damaged           12        2        6       3  0x00000       0
+old/c     valid              0        0        0       0
+3 sheets: 2 valid, 1 damaged; 222 bytes kept in 9 records, 6 bytes dropped in 3 ranges
+END
+    same out wanted 'the rows of three sheets'
+    same new/a old/a
+    same new/b kept.wanted
+    same new/c old/c
+    rm new/*
+    expect 0 salvage old/a old/c -o new/
+    says out '2 sheets: 2 valid; 210 bytes kept in 7 records, nothing dropped'
+    expect 2 salvage old/a missing old/b old/long other.capture -o new
+    says out 'missing        not read'
+    says out 'old/long       refused 46'
+    says out 'other.capture  not read'
+    says out '5 sheets: 1 valid, 1 damaged, 1 refused, 2 not read; 222 bytes kept in 9 records, 6 bytes dropped in 3 ranges'
+    absent new/missing new/long new/other.capture
+    expect 1 salvage old/a old/long -o new
+    expect 1 salvage old/a old/b -o new --quiet
+    test ! -s out || fail '--quiet says something'
+    expect 2 salvage old/a old/b -o new --ranges bad.out
+    says err '--ranges takes one sheet; --json has the ranges of several'
+    expect 2 salvage old/a old/b -o old
+    says err 'old/a is an input and the output'
+    ln -sf ../old/b new/a
+    expect 2 salvage old/a old/b -o new
+    says err 'old/b is an input and the output'
+    rm new/a
+    mkdir -p other
+    cp junk.sheet other/a
+    expect 2 salvage old/a other/a -o new
+    says err 'old/a and other/a would both be written to new/a'
+    absent new/a
+    mkdir new/a
+    expect 2 salvage old/a old/b -o new
+    says out 'old/a     not written'
+    says out '2 sheets: 1 damaged, 1 not written; 12 bytes kept'
+    rmdir new/a
+    same old/a whole.sheet
+    same old/b junk.sheet
+    absent bad.out
+}
+
+salvage_many_json() {
+    odd=$(printf 'old/na"m\\e\t<&>\377')
+    cp junk.sheet "$odd"
+    expect 2 salvage old/a old/b "$odd" old/long missing -o new --json
+    well_formed json out
+    says out '{"file": "old/a", "verdict": "valid", "status": 0, "output": "new/a", "bytes": 210, "kept": 210, "records": 7, "dropped": 0, "ranges": []}'
+    says out '{"file": "old/b", "verdict": "damaged", "status": 1, "output": "new/b", "bytes": 18, "kept": 12, "records": 2, "dropped": 6, "ranges": ['
+    says out '{"offset": 9, "length": 2},'
+    says out '"old/na\"m\\e\u0009<&>\uFFFD"'
+    says out '{"file": "old/long", "verdict": "refused", "status": 1, "refusal": 46}'
+    says out '{"file": "missing", "verdict": "not read", "status": 2}'
+    says out '"summary": {"sheets": 5, "valid": 1, "damaged": 2, "refused": 1, "not_read": 1, "not_written": 0, "kept": 234, "records": 11, "dropped": 12, "ranges": 6}'
+    says out '"status": 2'
+    for words in 'old/a' 'old/b' 'old/a old/c'; do
+        # shellcheck disable=SC2086
+        "$command" salvage $words -o new --json > out 2> err
+        well_formed json out
+    done
+}
+
+# 300 sheets at once, every third one damaged.
+salvage_three_hundred() {
+    rm -rf drive saved
+    mkdir drive saved
+    for number in $(seq 1 300); do
+        case $((number % 3)) in 0) cp junk.sheet drive/$number ;; *) cp whole.sheet drive/$number ;; esac
+    done
+    expect 1 salvage drive/* -o saved
+    says out '300 sheets: 200 valid, 100 damaged; 43200 bytes kept in 1600 records, 600 bytes dropped in 300 ranges'
+    test "$(wc -l < out)" = 302 || fail 'not a row a sheet'
+    for number in $(seq 1 300); do
+        case $((number % 3)) in 0) same saved/$number kept.wanted ;; *) same saved/$number whole.sheet ;; esac
+    done
+    expect 0 salvage saved/* -o drive
+    says out '300 sheets: 300 valid; 43200 bytes kept in 1600 records, nothing dropped'
+}
+
+# On a terminal it is shown how many have been done; a pipe that gives its sheet late makes it last.
+salvage_shown() {
+    command -v script > /dev/null || return 0
+    rm -f late
+    mkfifo late
+    { sleep 2; cat whole.sheet; } > late &
+    timeout -k 20 60 script -qec "$command salvage old/a late old/b -o new" typescript > /dev/null 2>&1 < /dev/null
+    wait $!
+    grep -q '2 of 3 sheets' typescript || fail 'no progress on a terminal'
+    grep -q '3 sheets: 2 valid, 1 damaged' typescript || fail 'salvage on a terminal'
+    same new/late whole.sheet
+}
+
 # What is given twice; and every one of 65,536 differences shown in a moment.
 repeated() {
     bad_text result 3 'quadword 10 is given twice' 'result\nquadword 10 1 2 3 4\nquadword 10 1 2 3 4\n'
@@ -2372,7 +2679,7 @@ repeated() {
 }
 
 for name in ${TESTS:-layout state_words usage bench_points meanings refused_sheets examples comparisons damaged_files other_layouts bad_texts entries_used \
-    unfinished beginnings one_file outputs dashes repeated rack messages long_runs conventions report dumps vif0 packets paths registers generated_sheets generated_captures}; do
+    unfinished beginnings one_file outputs dashes repeated rack messages long_runs conventions report dumps vif0 packets paths registers salvages generated_sheets generated_captures}; do
     "$name"
 done
 echo "host/test.sh: all as it has to be"
