@@ -1,0 +1,52 @@
+use Rattle.gif.proofs.TagLaws.{product-most}
+use Rattle.gif.specs.Tag.{quadwordsOf}
+use native.Mathlib.Omega.{arith}
+use borrow.Author.Needs.{needs}
+use Rattle.gif_reason.proofs.descriptor.quadwords.Statement.{statement}
+use Rattle.gif_reason.proofs.descriptor.quadwords.Tie as tie
+use Rattle.gif_reason.proofs.descriptor.quadwords.Reads as reads
+use Rattle.gif_reason.proofs.descriptor.quadwords.Lts as lts
+
+enum-told : tie.Need-enum-told
+enum-told c = search needs
+
+mul-result : tie.Need-mul-result
+mul-result c = let m = product-most (c .before .before .pre .0) (c .before .before .pre .1) in omega arith
+
+enum-told-2 : tie.Need-enum-told-2
+enum-told-2 c = search needs
+
+mul-result-2 : tie.Need-mul-result-2
+mul-result-2 c = let m = product-most (c .before .before .pre .0) (c .before .before .pre .1) in omega arith
+
+add-result : tie.Need-add-result
+add-result c = let m = product-most (c .before .before .pre .0) (c .before .before .pre .1) in omega arith
+
+enum-told-3 : tie.Need-enum-told-3
+enum-told-3 c = search needs
+
+returns : tie.Need-returns
+unfolding quadwordsOf
+returns c = simp (c .enum-told .given .1)
+
+returns-2 : tie.Need-returns-2
+unfolding quadwordsOf
+returns-2 c = simp (c .enum-told2 .given .1)
+
+returns-3 : tie.Need-returns-3
+unfolding quadwordsOf
+returns-3 c = simp (c .enum-told3 .given .1)
+
+pub quadwords-spec : {M : Type 1} → statement M
+quadwords-spec =
+    tie.close
+    (tie.spec
+    enum-told
+    mul-result
+    enum-told-2
+    mul-result-2
+    add-result
+    enum-told-3
+    returns
+    returns-2
+    returns-3)

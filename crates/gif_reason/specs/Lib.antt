@@ -1,0 +1,3 @@
+-- What a refusal of the GIF shows: request 6's "the contents of the field at fault".
+pub mod Reason
+pub mod Fault
