@@ -11,6 +11,8 @@ mod tags;
 pub use control::reset;
 pub use control::start;
 pub use execution::run;
+pub use pending::finished;
+pub use range::entry_refusal;
 
 // The addresses that calls pushed, the last one last.
 pub enum Stack {

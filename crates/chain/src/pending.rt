@@ -37,7 +37,7 @@ fn nothing_pending(s: State) -> bool
 }
 
 // The chain has ended and nothing is pending.
-pub(crate) fn finished(s: State) -> bool
+pub fn finished(s: State) -> bool
     ensures { λ r. ⌜ r ≡ done s ⌝ }
 {
     if s.ended {

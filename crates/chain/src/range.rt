@@ -237,7 +237,7 @@ fn pending_inside(s: State, size: usize) -> bool
 }
 
 // The entry refusal, 0 for none.
-pub(crate) fn entry_refusal(main: &[u8], data: &[u32], code: &[u8], log: &[u64], s: State) -> u32
+pub fn entry_refusal(main: &[u8], data: &[u32], code: &[u8], log: &[u64], s: State) -> u32
     ensures { λ r. ⌜ r
         ≡ entryRefusal (now (main .entry)) (lent (now («data» .entry)) (now (code .entry)) (now (log .entry))) s ⌝ }
 {

@@ -1,0 +1,3 @@
+-- Laws of the definitions, by subject; the crates above cite them.
+pub mod CaseLaws
+pub mod Truth
