@@ -1,0 +1,4 @@
+-- Laws of the definitions, by subject.
+pub mod NeedLaws
+pub mod TrialLaws
+pub mod WhyLaws

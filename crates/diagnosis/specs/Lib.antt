@@ -1,0 +1,3 @@
+-- Why a run stopped: request 6.
+pub mod Why
+pub mod Inner
