@@ -2,3 +2,5 @@
 pub mod NeedLaws
 pub mod TrialLaws
 pub mod WhyLaws
+pub mod FoundLaws
+pub mod Theorems

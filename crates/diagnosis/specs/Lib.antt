@@ -1,3 +1,4 @@
 -- Why a run stopped: request 6.
 pub mod Why
+pub mod Truth
 pub mod Inner
