@@ -4,3 +4,4 @@ pub mod TrialLaws
 pub mod WhyLaws
 pub mod FoundLaws
 pub mod Theorems
+pub mod RunTheorems
