@@ -5,3 +5,4 @@ pub mod WhyLaws
 pub mod FoundLaws
 pub mod Theorems
 pub mod RunTheorems
+pub mod Points

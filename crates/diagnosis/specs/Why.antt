@@ -2,7 +2,7 @@
 -- fault".
 use Prim.Native.Nat.{ℕ}
 use mathlib.Core.Bool.{not}
-use mathlib.Core.List.{List}
+use mathlib.Core.List.{List, [], _∷_}
 use lib.Dec.{eqb}
 use Rattle.fields.specs.Fields.{if}
 use Rattle.fields.specs.Memory.{quadwordAt}
@@ -86,3 +86,10 @@ whyOf main s m =
     if (not (eqb (entryRefusal main m s) 0)) (Entry (entryRefusal main m s))
     (if (done s) Ended
     (onAnswer (stepOf main s m .answer) main s (m .log)))
+
+-- "in numbers": 0 no complaint, 1 the chain has ended, 2 an entry refusal, 3 the refusal of a step; then the refusal, the address and the two numbers shown
+abbrev pub reasonNumbers : Reason → List ℕ
+reasonNumbers NoComplaint = 0 ∷ 0 ∷ 0 ∷ 0 ∷ 0 ∷ []
+reasonNumbers Ended = 1 ∷ 0 ∷ 0 ∷ 0 ∷ 0 ∷ []
+reasonNumbers (Entry n) = 2 ∷ n ∷ 0 ∷ 0 ∷ 0 ∷ []
+reasonNumbers (Step r a x y) = 3 ∷ r ∷ a ∷ x ∷ y ∷ []
