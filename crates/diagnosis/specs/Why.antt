@@ -87,9 +87,16 @@ whyOf main s m =
     (if (done s) Ended
     (onAnswer (stepOf main s m .answer) main s (m .log)))
 
--- "in numbers": 0 no complaint, 1 the chain has ended, 2 an entry refusal, 3 the refusal of a step; then the refusal, the address and the two numbers shown
+-- "in numbers": 0 no complaint, 1 the chain has ended, 2 an entry refusal, 3 the refusal of a step
+abbrev pub reasonKind : Reason → ℕ
+reasonKind NoComplaint = 0
+reasonKind Ended = 1
+reasonKind (Entry n) = 2
+reasonKind (Step r a x y) = 3
+
+-- the refusal, the address and the two numbers shown
 abbrev pub reasonNumbers : Reason → List ℕ
-reasonNumbers NoComplaint = 0 ∷ 0 ∷ 0 ∷ 0 ∷ 0 ∷ []
-reasonNumbers Ended = 1 ∷ 0 ∷ 0 ∷ 0 ∷ 0 ∷ []
-reasonNumbers (Entry n) = 2 ∷ n ∷ 0 ∷ 0 ∷ 0 ∷ []
-reasonNumbers (Step r a x y) = 3 ∷ r ∷ a ∷ x ∷ y ∷ []
+reasonNumbers NoComplaint = 0 ∷ 0 ∷ 0 ∷ 0 ∷ []
+reasonNumbers Ended = 0 ∷ 0 ∷ 0 ∷ 0 ∷ []
+reasonNumbers (Entry n) = n ∷ 0 ∷ 0 ∷ 0 ∷ []
+reasonNumbers (Step r a x y) = r ∷ a ∷ x ∷ y ∷ []

@@ -4,4 +4,5 @@ pub mod SheetLaws
 pub mod RunLaws
 pub mod PlayLaws
 pub mod BoardLaws
+pub mod ReasonLaws
 pub mod NoState

@@ -4,3 +4,4 @@ pub mod Sheets
 pub mod Runs
 pub mod Play
 pub mod Boards
+pub mod Reasons

@@ -2,12 +2,14 @@
 mod blocks;
 mod boards;
 mod play;
+mod reasons;
 mod results;
 mod runs;
 mod sheets;
 
 pub use boards::tejborun_compare;
 pub use play::tejborun_build_and_run;
+pub use reasons::tejborun_why;
 pub use runs::tejborun_reset;
 pub use runs::tejborun_run;
 pub use runs::tejborun_set;

@@ -22,6 +22,16 @@ pub(crate) fn put_three(result: &mut [u64], a: u64, b: u64, c: u64)
     result[2] = c;
 }
 
+pub(crate) fn put_four(result: &mut [u64], a: u64, b: u64, c: u64, d: u64)
+    requires { ⌜ 4 ≤ length (now result) ⌝ }
+    ensures { λ _. ⌜ now (result .exit) ≡ written (a ∷ b ∷ c ∷ d ∷ []) (now (result .entry)) ⌝ }
+{
+    result[0] = a;
+    result[1] = b;
+    result[2] = c;
+    result[3] = d;
+}
+
 pub(crate) fn put_ten(
     result: &mut [u64],
     a: u64,
