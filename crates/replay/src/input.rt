@@ -19,11 +19,12 @@ fn call_right(kind: u32) -> bool {
         1 => true,
         2 => true,
         3 => true,
+        4 => true,
         _ => false,
     }
 }
 
-// Whether each call is a start, a run or a set.
+// Whether each call is a start, a run, a set or a why.
 fn calls_right(calls: &[u8], count: u32) -> bool {
     let mut k = 0;
     while k < count {

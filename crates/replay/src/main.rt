@@ -3,6 +3,7 @@ mod input;
 mod run;
 mod start;
 mod sums;
+mod why;
 
 use blocks::block_at;
 use cases::LOG_NUMBERS;

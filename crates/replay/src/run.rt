@@ -3,6 +3,7 @@ use super::Case;
 use super::Running;
 use super::input::call_word;
 use super::sums::tell_sums;
+use super::why::why_call;
 use blocks::answer_number;
 use blocks::shown_block;
 use cases::emit_memories;
@@ -164,6 +165,39 @@ fn run_call(
     Running { at, state, block }
 }
 
+// A run, or a why, on the memories of the channel.
+fn lent_call(
+    kind: u32,
+    out: &mut [u8; 65536],
+    s: Running,
+    case: Case,
+    allowance: u64,
+    main: &[u8],
+    data: &mut [u32],
+    code: &mut [u8],
+    log: &mut [u64],
+    data_before: &mut [u32],
+    code_before: &mut [u8],
+    log_before: &mut [u64],
+) -> Running {
+    if kind == 4 {
+        return why_call(out, s, main, data, code, log);
+    }
+    run_call(
+        out,
+        s,
+        case,
+        allowance,
+        main,
+        data,
+        code,
+        log,
+        data_before,
+        code_before,
+        log_before,
+    )
+}
+
 fn call(
     out: &mut [u8; 65536],
     s: Running,
@@ -191,7 +225,8 @@ fn call(
     }
     let allowance = joined(call_word(calls, k, 1), call_word(calls, k, 2));
     if s.state.channel == 0 {
-        return run_call(
+        return lent_call(
+            kind,
             out,
             s,
             case,
@@ -205,7 +240,8 @@ fn call(
             log_before,
         );
     }
-    run_call(
+    lent_call(
+        kind,
         out,
         s,
         case,
