@@ -14,6 +14,8 @@ use crate::state_block::{
     self, bit, chain_word, describe_state, read_state, write_state, StateBlock, STATE_WORDS,
 };
 use crate::vif_cases::{code_words, describe_changes, write_changes, ShownUnit};
+use crate::why::{self, Lent, Why};
+use crate::why_check;
 use crate::words::{number, put_number, put_word, word, WORD};
 
 pub const MARK: u32 = 0x3350_4354;
@@ -26,12 +28,28 @@ pub const HEADER: usize = STATE_AT + STATE_WORDS;
 const CALL: usize = 4;
 /// The words of a run's result before the state block.
 const RUN_HEAD: usize = 5;
+/// The words of a why's result.
+pub const WHY_WORDS: usize = 7;
 
 #[derive(Clone, Copy, PartialEq, Eq, Debug)]
 pub enum Call {
-    Start { channel: u32, tadr: u32, tte: u32 },
-    Run { allowance: u64 },
-    Set { unit: u32, number: u32, value: u32 },
+    Start {
+        channel: u32,
+        tadr: u32,
+        tte: u32,
+    },
+    Run {
+        allowance: u64,
+    },
+    Set {
+        unit: u32,
+        number: u32,
+        value: u32,
+    },
+    /// With three words that mean nothing.
+    Why {
+        ignored: [u32; 3],
+    },
 }
 
 #[derive(Clone)]
@@ -87,6 +105,7 @@ impl Call {
                 number,
                 value,
             } => [3, unit, number, value],
+            Call::Why { ignored: [a, b, c] } => [4, a, b, c],
         }
     }
 
@@ -106,12 +125,16 @@ impl Call {
                 number: word(bytes, at + 2),
                 value: word(bytes, at + 3),
             }),
+            4 => Some(Call::Why {
+                ignored: std::array::from_fn(|i| word(bytes, at + 1 + i)),
+            }),
             _ => None,
         }
     }
 }
 
 /// What stands while the calls of a case are made.
+#[derive(Clone)]
 pub struct Standing {
     /// None where the case's block exists in no state.
     pub state: Option<State>,
@@ -174,7 +197,19 @@ impl Standing {
         answer.err().unwrap_or(0)
     }
 
-    /// Makes a call; hands back its answer.
+    /// What the next step of a run is refused with.
+    pub fn why(&self) -> Why {
+        let lent = self.lent();
+        let lent = Lent {
+            main: &self.main,
+            data_words: lent.data.len(),
+            code_bytes: lent.code.len(),
+            log_numbers: self.log.len(),
+        };
+        why::why(&self.block(), &lent)
+    }
+
+    /// Makes a call; hands back its answer, of a why the kind.
     pub fn make(&mut self, call: &Call) -> u32 {
         match *call {
             Call::Start { channel, tadr, tte } => self.start(channel, tadr, tte),
@@ -184,6 +219,7 @@ impl Standing {
                 number,
                 value,
             } => self.set(unit, number, value),
+            Call::Why { .. } => self.why().kind(),
         }
     }
 
@@ -253,6 +289,18 @@ pub struct Results {
     pub starts: Vec<Start>,
     /// Where the line about a damaged case starts.
     pub damage: Option<usize>,
+    /// The first why that says other than a step on a copy does: its case, its call and what.
+    pub broken: Option<(usize, usize, String)>,
+}
+
+impl Results {
+    /// Keeps what is broken of the last call, a why, where nothing was before.
+    fn check_why(&mut self, standing: &Standing, why: &Why) {
+        if let (None, Some(last)) = (&self.broken, self.starts.last()) {
+            let broken = why_check::broken(standing, why);
+            self.broken = broken.map(|told| (last.case, last.call, told));
+        }
+    }
 }
 
 /// Whether the numbers in a case's header are within their limits.
@@ -336,6 +384,7 @@ pub fn ends_within(file: &[u8], most: u64) -> bool {
                 Call::Start { .. } | Call::Set { .. } => {
                     standing.make(call);
                 }
+                Call::Why { .. } => {}
                 Call::Run { allowance } => {
                     let stop = standing.run(allowance.min(most), |_, _, _| {});
                     if stop.answer == chain::ALLOWANCE_USED && allowance > most {
@@ -408,6 +457,12 @@ fn run_case(case: &Case, index: usize, results: &mut Results, counts: &mut Count
                 put_word(out, answer);
                 put_block(out, &standing);
             }
+            Call::Why { ignored } => {
+                let why = standing.why();
+                counts.note_why(&why, ignored, &standing);
+                put_why(out, &why);
+                results.check_why(&standing, &why);
+            }
             Call::Run { allowance } => {
                 let before = standing.block();
                 counts.begin_run(&standing);
@@ -429,6 +484,15 @@ fn run_case(case: &Case, index: usize, results: &mut Results, counts: &mut Count
             }
         }
     }
+}
+
+fn put_why(out: &mut Vec<u8>, why: &Why) {
+    let [refusal, address, first, second] = why.numbers();
+    put_word(out, why.kind());
+    put_word(out, refusal as u32);
+    put_word(out, address as u32);
+    put_number(out, first);
+    put_number(out, second);
 }
 
 fn put_block(out: &mut Vec<u8>, standing: &Standing) {
@@ -470,14 +534,18 @@ fn sums(numbers: impl Iterator<Item = u64>) -> (u64, u64) {
 /// The result of a call that starts at the head of the bytes, in words to read.
 pub fn describe_result(bytes: &[u8], call: &Call, case: &Case) -> String {
     let have = bytes.len() / WORD;
-    let head = match call {
-        Call::Start { .. } | Call::Set { .. } => 1,
-        Call::Run { .. } => RUN_HEAD,
+    let (head, all) = match call {
+        Call::Start { .. } | Call::Set { .. } => (1, 1 + STATE_WORDS),
+        Call::Run { .. } => (RUN_HEAD, RUN_HEAD + STATE_WORDS),
+        Call::Why { .. } => (WHY_WORDS, WHY_WORDS),
     };
-    if have < head + STATE_WORDS {
+    if have < all {
         let end = bytes.len().min(80);
         let text = String::from_utf8_lossy(&bytes[..end]);
         return format!("cut after {} bytes: {}", bytes.len(), text.escape_debug());
+    }
+    if let Call::Why { .. } = call {
+        return describe_why(bytes);
     }
     let mut text = format!("answer {}", word(bytes, 0));
     if head == RUN_HEAD {
@@ -503,6 +571,18 @@ pub fn describe_result(bytes: &[u8], call: &Call, case: &Case) -> String {
     text
 }
 
+/// The seven words of a why.
+fn describe_why(bytes: &[u8]) -> String {
+    format!(
+        "kind {}, refusal {}, address {:X}, first number {:X}, second {:X}",
+        word(bytes, 0),
+        word(bytes, 1),
+        word(bytes, 2),
+        number(bytes, 3),
+        number(bytes, 5)
+    )
+}
+
 /// The head of a case, its calls up to `last`, and the last steps of that call.
 pub fn describe_case(case: &Case, last: usize) -> String {
     let mut text = format!(
@@ -524,6 +604,7 @@ pub fn describe_case(case: &Case, last: usize) -> String {
         let mut steps: Vec<String> = Vec::new();
         let answer = match *call {
             Call::Start { .. } | Call::Set { .. } => standing.make(call).to_string(),
+            Call::Why { .. } => format!("{:X?}", standing.why()),
             Call::Run { allowance } => {
                 let watch = |old: &State, _: &State, tried| {
                     if i == last {
@@ -583,7 +664,7 @@ mod tests {
                     let stop = standing.run(allowance, |_, _, _| {});
                     runs.push((stop.answer, stop.steps, stop.packets));
                 }
-                Call::Set { .. } => panic!("a set among the turns"),
+                Call::Set { .. } | Call::Why { .. } => panic!("another call among the turns"),
             }
         }
         assert_eq!(runs, [(0, 9, 0), (0, 9, 0), (0, 3, 1), (0, 9, 0)]);
@@ -638,9 +719,42 @@ mod tests {
             let mut again = Vec::new();
             read.write(&mut again);
             assert!(length == file.len() && again == file);
-            file[HEADER * WORD] = 4;
+            file[HEADER * WORD] = 5;
             let damaged = results(&file, &mut Counts::default());
             assert_eq!(damaged.bytes, b"damaged case 0\n");
+        }
+    }
+
+    /// The words of docs/FORMATS.md: 4 and three that are ignored; seven words, no state block.
+    /// Words that mean nothing stay.
+    #[test]
+    fn a_why_in_a_file() {
+        for whole in [false, true] {
+            // refe with QWC 9 and ADDR 32, of which 16 bytes are there.
+            let main = [tag(0, 9, 32), [0; 4], [0; 4]].concat();
+            let mut case = plain_case(&State::reset(), &main, 0, &[]);
+            case.whole = whole;
+            case.state[chain_word::PAYLOAD_AT] = 99;
+            let (mut file, mut wanted) = (Vec::new(), Vec::new());
+            case.write(&mut file);
+            file[9 * WORD] = 2;
+            let main = file.split_off(HEADER * WORD);
+            for word in [4, 7, u32::MAX, 1, 3, 1, 0, 5] {
+                put_word(&mut file, word);
+            }
+            file.extend(main);
+            [3, 14, 0, 9, 0, 1, 0, 0]
+                .iter()
+                .for_each(|&word| put_word(&mut wanted, word));
+            let mut block = case.state;
+            block[13 + 13] = 5;
+            block.iter().for_each(|&word| put_word(&mut wanted, word));
+            let given = results(&file, &mut Counts::default());
+            assert!(given.bytes == wanted);
+            assert_eq!((given.damage, given.broken), (None, None));
+            let mut again = Vec::new();
+            first_case(&file).unwrap().0.write(&mut again);
+            assert!(again == file);
         }
     }
 

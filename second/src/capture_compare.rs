@@ -18,6 +18,7 @@ use crate::packet_points;
 use crate::path_points;
 use crate::random::Random;
 use crate::set_points;
+use crate::why_points;
 use crate::words::{word, WORD};
 
 /// Damaged files with longer runs are left out.
@@ -28,6 +29,7 @@ const MOST_STEPS: u64 = 1_000_000;
 pub fn compare(program: &Program, seeds: &[u64], runs: u64) -> Result<(), String> {
     let points = (packet_points::check()? + path_points::check()?) as u64;
     let set_points = set_points::check()? as u64;
+    let why_points = why_points::check()? as u64;
     let mut counts = Counts::default();
     let mut cuts = capture_cut_counts::Counts::default();
     let mut long = capture_long_counts::Counts::default();
@@ -58,6 +60,7 @@ pub fn compare(program: &Program, seeds: &[u64], runs: u64) -> Result<(), String
     rows.push(("damaged files".to_string(), damaged_files));
     rows.push(("points about packets and paths".to_string(), points));
     rows.push(("points about sets".to_string(), set_points));
+    rows.push(("points about whys".to_string(), why_points));
     report(&rows)
 }
 
@@ -83,6 +86,9 @@ fn compare_parts(program: &Program, families: &[Family]) -> Result<u64, String> 
 /// Hands back the results, which are both programs'.
 fn compare_file(program: &Program, file: &[u8], counts: &mut Counts) -> Result<Results, String> {
     let own = capture_cases::results(file, counts);
+    if let Some((case, call, told)) = &own.broken {
+        return Err(format!("our own case {case}, call {call}: {told}"));
+    }
     let theirs = program.run(file)?;
     match first_difference(&own.bytes, &theirs) {
         None => Ok(own),
@@ -200,12 +206,13 @@ fn spoil_case(made: &mut Vec<(String, Vec<u8>)>, file: &[u8], start: usize, inde
     spoil("M just too short for P", 1, (4 * held(2)).saturating_sub(1));
     let calls = held(9) as usize;
     if calls > 0 {
-        for kind in [0, 3, 4, 257, 259, u32::MAX] {
+        for kind in [0, 3, 4, 5, 257, 259, 260, u32::MAX] {
             spoil(&format!("first call of kind {kind}"), HEADER, kind);
         }
         spoil("last call of kind 0", HEADER + 4 * (calls - 1), 0);
         spoil("last call of kind 3", HEADER + 4 * (calls - 1), 3);
         spoil("last call of kind 4", HEADER + 4 * (calls - 1), 4);
+        spoil("last call of kind 5", HEADER + 4 * (calls - 1), 5);
     }
 }
 

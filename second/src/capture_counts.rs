@@ -19,6 +19,8 @@ use crate::state_block::{
 use crate::vif::{command_of, Code, Payload, Unit};
 use crate::vif_counts::{field_names, upload_word, wrong_fields};
 use crate::way::Given;
+use crate::why::Why;
+use crate::why_counts;
 use std::collections::HashMap;
 
 const IDS: [&str; 8] = ["refe", "cnt", "next", "ref", "refs", "call", "ret", "end"];
@@ -84,6 +86,7 @@ pub struct Counts {
     packets: capture_packet_counts::Counts,
     paths: capture_path_counts::Counts,
     sets: set_counts::Counts,
+    whys: why_counts::Counts,
 }
 
 impl Counts {
@@ -110,6 +113,7 @@ impl Counts {
         self.packets.begin_case();
         self.paths.begin_case();
         self.sets.begin_case(case.whole);
+        self.whys.begin_case(case.whole);
         self.add(if case.whole {
             "cases that show whole memories"
         } else {
@@ -376,6 +380,7 @@ impl Counts {
         self.runs += 1;
         self.sets.note_call("runs", before);
         let wrong = wrong_at_entry(before, now);
+        self.whys.note_run(stop.answer, !wrong.is_empty());
         let closes_next = now.state.is_some_and(|state| self.closes_next(&state));
         self.note_lent(before, wrong.first().copied(), now);
         if !matches!(wrong.first(), Some(refusals::MAIN..=refusals::CODE)) {
@@ -701,6 +706,7 @@ impl Counts {
     ) {
         self.starts += 1;
         self.sets.note_call("starts", before);
+        self.whys.note_call("starts", before);
         let (channel, tadr, tte) = values;
         if answer != 0 {
             self.note_refused_start(before, &start_fields(channel, tadr, tte));
@@ -732,6 +738,12 @@ impl Counts {
     ) {
         let refused = wrong_at_entry(before, now);
         self.sets.note_set(before, values, answer, &refused);
+        self.whys.note_call("sets", before);
+    }
+
+    pub fn note_why(&mut self, why: &Why, ignored: [u32; 3], now: &Standing) {
+        self.sets.note_call("whys", &now.block());
+        self.whys.note_why(why, ignored, now);
     }
 
     /// Notes a refused start by the values that are out of range.
@@ -805,6 +817,7 @@ impl Counts {
         rows.extend(self.packets.rows(&ENTRY));
         rows.extend(self.paths.rows());
         rows.extend(self.sets.rows(&ENTRY));
+        rows.extend(self.whys.rows(&ENTRY));
         rows.extend(named_rows(&self.by_name, names()));
         rows
     }

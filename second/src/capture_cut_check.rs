@@ -1,6 +1,8 @@
 //! Whether a run in parts gives what the uncut run gives, by the results of captures.
 
-use crate::capture_cases::{describe_case, describe_result, Call, Case, Results, Standing};
+use crate::capture_cases::{
+    describe_case, describe_result, Call, Case, Results, Standing, WHY_WORDS,
+};
 use crate::capture_cuts::{Family, Kind, Member};
 use crate::chain::{ALLOWANCE_USED, DONE};
 use crate::model::Model;
@@ -226,9 +228,16 @@ fn outcome(before: usize, member: &Member, bytes: &[u8]) -> Result<Outcome, Brok
     };
     for (call, of_case) in member.case.calls.iter().enumerate() {
         let broken = |what: String| Err(Broken { call, what });
-        let Call::Run { allowance } = *of_case else {
-            seen.read_other(&mut reader);
-            continue;
+        let allowance = match *of_case {
+            Call::Run { allowance } => allowance,
+            Call::Start { .. } | Call::Set { .. } => {
+                seen.read_other(&mut reader);
+                continue;
+            }
+            Call::Why { .. } => {
+                reader.words(WHY_WORDS);
+                continue;
+            }
         };
         let was = (allowance == 0).then(|| seen.clone());
         let told = seen.read_run(&mut reader, member.case.whole);
@@ -398,6 +407,7 @@ mod tests {
             bytes,
             starts,
             damage: None,
+            broken: None,
         }
     }
 

@@ -82,6 +82,7 @@ impl Trace {
         for call in before {
             answer = match *call {
                 Call::Start { .. } | Call::Set { .. } => standing.make(call),
+                Call::Why { .. } => answer,
                 Call::Run { allowance } => {
                     run_shortly(&mut standing, allowance, most, |_, _, _| {})?.answer
                 }
@@ -367,7 +368,7 @@ mod tests {
         let calls = &member.case.calls[before..before + member.parts];
         let allowance = |call: &Call| match *call {
             Call::Run { allowance } => allowance,
-            Call::Start { .. } | Call::Set { .. } => panic!("another call among the parts"),
+            _ => panic!("another call among the parts"),
         };
         calls.iter().map(allowance).collect()
     }

@@ -34,6 +34,8 @@ use crate::vif_generate::{
 };
 use crate::vif_points;
 use crate::vif_unpack::Cycle;
+use crate::why_cases;
+use crate::why_points;
 
 const CHANNELS: [u32; 3] = [0, 1, 2];
 const FILL: u64 = 0x0123_4567_89AB_CDEF;
@@ -68,6 +70,11 @@ pub fn cases(seed: u64, runs: u64) -> Vec<Case> {
         made += runs_of(&case).max(1);
         cases.push(case);
     }
+    why_cases::add_whys(&mut random, &mut cases);
+    cases.extend(why_points::in_captures());
+    cases.extend(why_cases::all(&mut random));
+    let walks = why_cases::walks(&mut random, &cases);
+    cases.extend(walks);
     cases
 }
 
@@ -106,6 +113,10 @@ pub fn set(unit: u32, number: u32, value: u32) -> Call {
         number,
         value,
     }
+}
+
+pub fn why() -> Call {
+    Call::Why { ignored: [0; 3] }
 }
 
 /// A case over these words of main memory, with a log of so many entries.

@@ -126,7 +126,7 @@ impl Counts {
         self.add_if("long captures that begin inside a plain V4-32", inside);
         for call in &case.calls {
             match *call {
-                Call::Start { .. } | Call::Set { .. } => {
+                Call::Start { .. } | Call::Set { .. } | Call::Why { .. } => {
                     standing.make(call);
                 }
                 Call::Run { allowance } => self.note_run(&main, &mut standing, allowance),

@@ -178,7 +178,7 @@ mod tests {
                     let stop = standing.run(allowance, |_, _, _| {});
                     runs.push((stop.answer, stop.steps, stop.packets));
                 }
-                Call::Set { .. } => panic!("a set among the runs"),
+                Call::Set { .. } | Call::Why { .. } => panic!("another call among the runs"),
             }
         }
         runs

@@ -70,6 +70,11 @@ mod vif_generate;
 mod vif_points;
 mod vif_unpack;
 mod way;
+mod why;
+mod why_cases;
+mod why_check;
+mod why_counts;
+mod why_points;
 mod words;
 
 use std::io::{Read, Write};
@@ -91,7 +96,7 @@ usage:
   second generate-capture SEED RUNS > CASES
   second generate-cuts SEED RUNS > CASES
   second generate-long SEED > CASES
-  second points-capture mask|filling|vif0|upload|packets|paths|sets > CASES
+  second points-capture mask|filling|vif0|upload|packets|paths|sets|whys > CASES
   second compare-capture PROGRAM SEED[,SEED..] RUNS
   second bench-chain PROGRAM
   second time-chain < INPUT > RESULT
@@ -283,6 +288,7 @@ fn capture_point_cases(name: &str) -> Option<Vec<capture_cases::Case>> {
         "packets" => Some(packet_points::in_captures()),
         "paths" => Some(path_points::in_captures()),
         "sets" => Some(set_points::in_captures()),
+        "whys" => Some(why_points::in_captures()),
         _ => {
             let points = vif_points::named(name)?;
             Some(points.iter().map(capture_points::case).collect())
@@ -317,7 +323,10 @@ fn capture_results(with_counts: bool) -> Result<(), String> {
     if with_counts {
         eprint!("{}", compare::table(&counts.rows()));
     }
-    Ok(())
+    match results.broken {
+        Some((case, call, told)) => Err(format!("case {case}, call {call}: {told}")),
+        None => Ok(()),
+    }
 }
 
 fn sheet_results(with_counts: bool) -> Result<(), String> {

@@ -27,7 +27,7 @@ const CHAIN: [(&str, usize, u32); 4] = [
 pub struct Counts {
     by_name: HashMap<String, u64>,
     sets: u64,
-    /// The call before: a start, a run or a set.
+    /// The call before: a start, a run, a set or a why.
     last: Option<&'static str>,
     /// Whether something was set of VIF0 and of VIF1 in this case.
     set: [bool; 2],
@@ -48,7 +48,7 @@ impl Counts {
         self.set = [false; 2];
     }
 
-    /// Notes a start or a run.
+    /// Notes a start, a run or a why.
     pub fn note_call(&mut self, call: &'static str, before: &StateBlock) {
         let after_set = self.last == Some("sets");
         self.add_if(&format!("{call} just after a set"), after_set);
@@ -268,8 +268,9 @@ fn beside_name(model: Model, name: &str) -> String {
 
 fn names(entry: &[u32]) -> Vec<String> {
     let mut names: Vec<String> = NAMES.iter().map(|name| name.to_string()).collect();
-    names.extend([None, Some("starts"), Some("runs"), Some("sets")].map(after_name));
-    for call in ["starts", "runs"] {
+    let calls = ["starts", "runs", "sets", "whys"].map(Some);
+    names.extend([None].into_iter().chain(calls).map(after_name));
+    for call in ["starts", "runs", "whys"] {
         names.push(format!("{call} just after a set"));
         names.push(format!(
             "{call} just after a set, over words that mean nothing"
