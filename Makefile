@@ -17,7 +17,7 @@ HOST = host/main.c host/identity.c host/options.c host/files.c host/output.c hos
 PREFIX = /usr/local
 DESTDIR =
 
-FUZZ_ENTRIES = build steps meaning salvage start set run build_and_run compare
+FUZZ_ENTRIES = build steps meaning salvage start set run why build_and_run compare
 FUZZ_SECONDS = 1200
 FUZZ_CC = clang
 FUZZ_CFLAGS = -std=c11 -Wall -Wextra -Werror -O1 -g -fsanitize=fuzzer,address,undefined -fno-sanitize-recover=all

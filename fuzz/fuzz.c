@@ -664,7 +664,7 @@ static void give_main(struct bytes *in, size_t bytes) {
 /* ---- The entry points ---- */
 
 /* The numbers of a result: the steps first, the packets closed last. */
-enum { RUN_RESULT = 2, BUILD_AND_RUN_RESULT = 3 };
+enum { RUN_RESULT = 2, BUILD_AND_RUN_RESULT = 3, WHY_RESULT = 4 };
 
 static void count_run(uint32_t answer, size_t numbers) {
     if (NUMBERS(RESULT) < numbers || WORDS(BLOCK) != TEJBORUN_BLOCK_WORDS || answer == TEJBORUN_SHORT) return;
@@ -925,6 +925,81 @@ static void fuzz_run(struct bytes *in) {
     }
 }
 
+/* What the next step comes to: the kind that a why has to tell, and the refusal. By the judge's run of one step, on copies that are lent anew afterwards. */
+static uint32_t found_by_a_step(struct memories m, uint32_t *refusal) {
+    uint64_t result[RUN_RESULT] = {0};
+    lend_all();
+    *refusal = judge_run(JUDGED(MAIN), BYTES(MAIN), JUDGED(m.data), WORDS(m.data), JUDGED(m.code), BYTES(m.code), JUDGED(LOG), NUMBERS(LOG), JUDGED(BLOCK),
+                         WORDS(BLOCK), 1, result, RUN_RESULT);
+    if (result[0] > 0) return TEJBORUN_WHY_NOTHING;
+    if (*refusal == 0) return TEJBORUN_WHY_ENDED;
+    return *refusal <= 5 ? TEJBORUN_WHY_ENTRY : TEJBORUN_WHY_STEP;
+}
+
+/* What is told is what the step comes to; 14 may be told of the entry or of the step. */
+static void same_as_a_step(struct memories m, uint32_t kind, const uint64_t *told) {
+    uint32_t refusal, found = found_by_a_step(m, &refusal);
+    if (found == TEJBORUN_WHY_NOTHING || found == TEJBORUN_WHY_ENDED) refusal = 0;
+    if (refusal == 14 && kind == TEJBORUN_WHY_ENTRY) found = TEJBORUN_WHY_ENTRY;
+    if (kind == found && told[0] == refusal) return;
+    fprintf(stderr, "kind %" PRIu32 ", refusal %" PRIu64 "; a step: kind %" PRIu32 ", refusal %" PRIu32 "\n", kind, told[0], found, refusal);
+    stop("a why that a step does not bear out");
+}
+
+static uint64_t refusals_told[4][ANSWERS];
+
+static void one_why(struct bytes *in) {
+    struct memories m = memories_of_channel(in);
+    lend_all();
+    uint32_t kind = tejborun_why(PROVED(MAIN), BYTES(MAIN), PROVED(m.data), WORDS(m.data), PROVED(m.code), BYTES(m.code), PROVED(LOG), NUMBERS(LOG),
+                                 PROVED(BLOCK), WORDS(BLOCK), PROVED(RESULT), NUMBERS(RESULT));
+    agreed(kind, judge_why(JUDGED(MAIN), BYTES(MAIN), JUDGED(m.data), WORDS(m.data), JUDGED(m.code), BYTES(m.code), JUDGED(LOG), NUMBERS(LOG), JUDGED(BLOCK),
+                           WORDS(BLOCK), JUDGED(RESULT), NUMBERS(RESULT)));
+    for (int i = 0; i < BUFFERS; i++)
+        if (i != RESULT) only_read(i);
+    if (kind == TEJBORUN_SHORT) return only_read(RESULT);
+    uint64_t told[WHY_RESULT];
+    memcpy(told, PROVED(RESULT), sizeof told);
+    if (told[0] >= ANSWERS) stop("a refusal that the header does not have");
+    refusals_told[kind][told[0]]++;
+    const uint32_t *block = buffers[BLOCK].given;
+    show_kind(17, kind * 4 + block[0] % 4, (uint32_t)told[0], magnitude(told[2]) * 64 + magnitude(told[3]));
+    same_as_a_step(m, kind, told);
+}
+
+/* A run to go on from, without a why; a chain may never end, so few steps. */
+static void go_on(struct bytes *in) {
+    struct memories m = memories_of_channel(in);
+    uint32_t how = take8(in);
+    uint64_t result[RUN_RESULT];
+    lend_all();
+    judge_run(JUDGED(MAIN), BYTES(MAIN), JUDGED(m.data), WORDS(m.data), JUDGED(m.code), BYTES(m.code), JUDGED(LOG), NUMBERS(LOG), JUDGED(BLOCK), WORDS(BLOCK),
+              how < 192 ? how % 32 : 2000, result, RUN_RESULT);
+    for (int i = 0; i < BUFFERS; i++)
+        if (BYTES(i) > 0 && i != RESULT) memcpy(buffers[i].given, buffers[i].judged, BYTES(i));
+}
+
+/* A why on the state that is given, and after each of up to four runs. */
+static void fuzz_why(struct bytes *in) {
+    size_t bytes = main_bytes(in);
+    struct lengths n = lengths_of(bytes, log_numbers(in), WHY_RESULT);
+    spoil(in, &n);
+    uint8_t calls_of[32];
+    for (size_t i = 0; i < sizeof calls_of; i++) calls_of[i] = (uint8_t)take8(in);
+    give_block(in, &n);
+    give_memories(in, &n);
+    give_result(n.result);
+    const uint32_t *block = buffers[BLOCK].given;
+    for_vif0 = WORDS(BLOCK) > 0 && block[0] == 0;
+    give_main(in, n.main);
+    struct bytes order = {calls_of, sizeof calls_of};
+    one_why(&order);
+    for (uint32_t runs = take8(&order) % 5; runs > 0; runs--) {
+        go_on(&order);
+        one_why(&order);
+    }
+}
+
 static void fuzz_build_and_run(struct bytes *in) {
     size_t bytes = main_bytes(in);
     struct lengths n = lengths_of(bytes, log_numbers(in), BUILD_AND_RUN_RESULT);
@@ -1025,7 +1100,7 @@ static void fuzz_compare(struct bytes *in) {
 
 /* ---- The program ---- */
 
-enum { entry_build, entry_steps, entry_meaning, entry_salvage, entry_start, entry_set, entry_run, entry_build_and_run, entry_compare };
+enum { entry_build, entry_steps, entry_meaning, entry_salvage, entry_start, entry_set, entry_run, entry_why, entry_build_and_run, entry_compare };
 
 static const struct {
     const char *name, *longest;
@@ -1038,6 +1113,7 @@ static const struct {
     {"start", "", fuzz_start},
     {"set", "", fuzz_set},
     {"run", "longest run", fuzz_run},
+    {"why", "", fuzz_why},
     {"build_and_run", "longest run", fuzz_build_and_run},
     {"compare", "most differences", fuzz_compare},
 };
@@ -1049,6 +1125,9 @@ static void print_counters(void) {
     if (built > 0) fprintf(stderr, " (0 is built) longest chain %" PRIu64 " bytes,", longest_chain);
     if (longest_sheet > 0) fprintf(stderr, " longest sheet %" PRIu64 " bytes,", longest_sheet);
     if (completed > 0) fprintf(stderr, " steps completed %" PRIu64 ", packets closed %" PRIu64 ",", completed, closed);
+    for (int i = 0; i < ANSWERS; i++)
+        for (int kind = TEJBORUN_WHY_ENTRY; kind <= TEJBORUN_WHY_STEP; kind++)
+            if (refusals_told[kind][i] > 0) fprintf(stderr, " %s %d: %" PRIu64 ",", kind == TEJBORUN_WHY_STEP ? "step" : "entry", i, refusals_told[kind][i]);
     if (*entries[ENTRY].longest) fprintf(stderr, " %s %" PRIu64 ",", entries[ENTRY].longest, longest_run);
     fprintf(stderr, " nothing differs\n");
 }

@@ -16,6 +16,8 @@ uint32_t judge_start(uint32_t *block, size_t block_words, uint32_t channel, uint
 uint32_t judge_set(uint32_t *block, size_t block_words, uint32_t unit, uint32_t number, uint32_t value);
 uint32_t judge_run(const uint8_t *main, size_t main_bytes, uint32_t *data, size_t data_words, uint8_t *code, size_t code_bytes, uint64_t *log,
                    size_t log_numbers, uint32_t *block, size_t block_words, uint64_t allowance, uint64_t *result, size_t result_numbers);
+uint32_t judge_why(const uint8_t *main, size_t main_bytes, const uint32_t *data, size_t data_words, const uint8_t *code, size_t code_bytes, const uint64_t *log,
+                   size_t log_numbers, const uint32_t *block, size_t block_words, uint64_t *result, size_t result_numbers);
 uint32_t judge_build_and_run(const uint8_t *sheet, size_t sheet_bytes, uint8_t *main, size_t main_bytes, uint32_t address, uint32_t *data, size_t data_words,
                              uint8_t *code, size_t code_bytes, uint64_t *log, size_t log_numbers, uint32_t *block, size_t block_words, uint64_t allowance,
                              uint64_t *result, size_t result_numbers);

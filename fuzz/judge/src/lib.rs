@@ -28,6 +28,8 @@ mod state_block;
 mod vif;
 #[path = "../../../second/src/vif_unpack.rs"]
 mod vif_unpack;
+#[path = "../../../second/src/why.rs"]
+mod why;
 #[path = "../../../second/src/words.rs"]
 mod words;
 
@@ -245,6 +247,38 @@ pub unsafe extern "C" fn judge_run(
     let stop = run(&mut memories, block, allowance);
     lent(result, result_numbers)[..2].copy_from_slice(&[stop.steps, stop.packets]);
     stop.answer
+}
+
+#[no_mangle]
+pub unsafe extern "C" fn judge_why(
+    main: *const u8,
+    main_bytes: usize,
+    _data: *const u32,
+    data_words: usize,
+    _code: *const u8,
+    code_bytes: usize,
+    _log: *const u64,
+    log_numbers: usize,
+    block: *const u32,
+    block_words: usize,
+    result: *mut u64,
+    result_numbers: usize,
+) -> u32 {
+    if result_numbers < 4 {
+        return SHORT;
+    }
+    let Ok(block) = <&StateBlock>::try_from(view(block, block_words)) else {
+        return SHORT;
+    };
+    let lent_memories = why::Lent {
+        main: view(main, main_bytes),
+        data_words,
+        code_bytes,
+        log_numbers,
+    };
+    let why = why::why(block, &lent_memories);
+    lent(result, result_numbers)[..4].copy_from_slice(&why.numbers());
+    why.kind()
 }
 
 /// Builds the chain in main memory and starts it in the block, or refuses; a refusal changes
