@@ -21,9 +21,11 @@ use Rattle.state_block.proofs.StateLaws.{none-read}
 use Rattle.chain.specs.Start.{startOf}
 use Rattle.chain.specs.Run.{runOf}
 use Rattle.conformance.specs.Play.{playRefusal, playOf}
-use Rattle.tejborun.specs.Buffers.{written, writtenBack}
+use Rattle.diagnosis.specs.Why.{whyOf}
+use Rattle.tejborun.specs.Buffers.{written, writtenBack, answered}
 use Rattle.tejborun.specs.Runs.{Blocked, blocked, startCall, left as leftByRun, runCall}
 use Rattle.tejborun.specs.Play.{left as leftByPlay, playCall}
+use Rattle.tejborun.specs.Reasons.{whyCall}
 
 -- a refusal's number
 pub record OneToFive (n : ℕ) : Type 0 where
@@ -98,3 +100,13 @@ module _ (block : List ℕ) (h : length block ≡ stateSize) (unknown : stateInB
   none-played sheet main address m allowance result l e =
       let f = play-refused main m standIn out address in
       (rw (eq-eqb (length block) stateSize h, le-ltb (length result) 3 l, none, ne-eqb _ 0 (not-zero f), ← e), rw e f)
+
+  -- why a run would stop: the same entry refusal
+  pub none-why : (main : List ℕ) (m : Lent) (result : List ℕ) → 4 ≤ length result
+      → {n : ℕ}
+      → n ≡ entryRefusal main m standIn
+      → (whyCall main m block result ≡ answered 2 (written (n ∷ 0 ∷ 0 ∷ 0 ∷ []) result)) × OneToFive n
+  unfolding whyCall whyOf if
+  none-why main m result l e =
+      let f = entry-refused main m standIn out in
+      (rw (eq-eqb (length block) stateSize h, le-ltb (length result) 4 l, none, ne-eqb _ 0 (not-zero f), ← e), rw e f)
