@@ -2,12 +2,12 @@
 use mathlib.Core.Path.{_≡_, refl, sym}
 use mathlib.Core.Bool.{Bool, true, false, not, _&&_}
 use mathlib.Core.List.{List}
-use Prim.Native.Nat.{ℕ, _+_, _*_, _-_, _/_, _%_, _<_}
+use Prim.Native.Nat.{ℕ, _+_, _*_, _%_, _<_}
 use native.Mathlib.Omega.{arith}
 use borrow.Author.Tests.{ltb-true, eqb-true, eqb-false}
 use lib.ListN.{length}
 use lib.Dec.{eqb, ltb}
-use Rattle.fields.specs.Fields.{if, bits}
+use Rattle.fields.specs.Fields.{if}
 use Rattle.fields.specs.Refusals.{tadrOutside, addrUnaligned, scratchpadSet, stackFull, payloadOutside}
 use Rattle.fields.proofs.ChoiceLaws.{if-ind-by, and-left, and-right, not-true}
 use Rattle.chain.specs.declared.Stack.{Stack}
@@ -17,7 +17,7 @@ use Rattle.chain.specs.declared.StepResult.{StepResult}
 use Rattle.chain.specs.declared.State.{State}
 use Rattle.chain.specs.Tags.{qwcOf, idOf, addrOf, sprOf, usesAddr, payloadAt, isFull, tagRefusal, completedResult, refusedResult, tagRead, tagStep}
 use Rattle.chain_reason.specs.Reason.{stackDepth, mostFits, readNumbers, tagNumbers}
-use Rattle.chain_reason.specs.Fault.{tagAt, fitsAt, TagFault, tadr-outside, addr-unaligned, scratchpad-set, stack-full, payload-outside}
+use Rattle.chain_reason.specs.Fault.{tagAt, TagFault, tadr-outside, addr-unaligned, scratchpad-set, stack-full, payload-outside}
 
 full-depth : (k : Stack) → isFull k ≡ true → stackDepth k ≡ 2
 full-depth Empty e = absurd (let z : _≡_ {A = ℕ} 0 1 = cc in omega arith)

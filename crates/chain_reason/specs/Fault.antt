@@ -26,9 +26,11 @@ pub data TagFault (main : List ℕ) (s : State) : ℕ → Numbers → Type 0 whe
   -- "10 TADR outside memory"
   tadr-outside : length main < s .tadr + 16 → TagFault main s tadrOutside (numbers (s .tadr) 0)
   -- "11 used ADDR not a multiple of 16"
-  addr-unaligned : usesAddr (idOf (tagAt main s)) ≡ true → (addrOf (tagAt main s) % 16 ≡ 0 → ⊥) → TagFault main s addrUnaligned (numbers (addrOf (tagAt main s)) 0)
+  addr-unaligned : usesAddr (idOf (tagAt main s)) ≡ true → (addrOf (tagAt main s) % 16 ≡ 0 → ⊥)
+      → TagFault main s addrUnaligned (numbers (addrOf (tagAt main s)) 0)
   -- "12 SPR set with a used ADDR"
-  scratchpad-set : usesAddr (idOf (tagAt main s)) ≡ true → bits (tagAt main s) 63 63 ≡ 1 → TagFault main s scratchpadSet (numbers (bits (tagAt main s) 63 63) 0)
+  scratchpad-set : usesAddr (idOf (tagAt main s)) ≡ true → bits (tagAt main s) 63 63 ≡ 1
+      → TagFault main s scratchpadSet (numbers (bits (tagAt main s) 63 63) 0)
   -- "13 call with two on the stack"
   stack-full : idOf (tagAt main s) ≡ 5 → stackDepth (s .stack) ≡ 2 → TagFault main s stackFull (numbers (stackDepth (s .stack)) 0)
   -- "14 payload outside memory, only if QWC > 0"

@@ -6,7 +6,7 @@ use gif_reason::Numbers;
 ghost use mathlib.Core.Path.{_≡_};
 ghost use mathlib.Core.Bool.{_||_};
 ghost use lib.Dec.{eqb};
-ghost use Rattle.chain.specs.Tags.{qwcOf, idOf, addrOf, payloadAt};
+ghost use Rattle.chain.specs.Tags.{idOf, addrOf, payloadAt};
 ghost use Rattle.gif_reason.specs.Reason.{numbers};
 ghost use Rattle.chain_reason.specs.Reason.{stackDepth, mostFits, readNumbers, tagNumbers};
 

@@ -1,10 +1,8 @@
 -- The entries that a step needs are shown with 31 alone.
 use mathlib.Core.Path.{_≡_, refl}
-use mathlib.Core.Bool.{Bool, true, false}
 use mathlib.Core.List.{List}
 use Prim.Native.Nat.{ℕ}
 use borrow.Author.Tests.{ne-eqb}
-use lib.Dec.{eqb}
 use Rattle.fields.specs.Fields.{if}
 use Rattle.fields.specs.Refusals.{logFull}
 use Rattle.gif.specs.declared.Path.{Path}
@@ -20,10 +18,8 @@ use Rattle.chain.specs.declared.Payload.{Payload}
 use Rattle.chain.specs.declared.Payload.the-variants.{Nothing as NoPayload, Words}
 use Rattle.chain.specs.declared.State.{State}
 use Rattle.chain.specs.Step.{fedUnit, heldBy}
-use Rattle.gif_reason.specs.declared.Numbers.{Numbers}
 use Rattle.gif_reason.specs.Reason.{quadwordNumbers}
 use Rattle.vif_reason.specs.Reason.{codeNumbers, directNumbers, waitingNumbers, wordNumbers}
-use Rattle.chain_reason.specs.Reason.{tagNumbers}
 use Rattle.diagnosis.specs.Why.{unitNumbers, payloadNumbers, payloadOrTagNumbers, pendingNumbers, nextNumbers}
 
 module _ (r : ℕ) (h : r ≡ logFull → ⊥) (j k used : ℕ) (log : List ℕ) where

@@ -1,5 +1,5 @@
 -- Every refusal is reached. By computation.
-use mathlib.Core.Path.{_≡_, refl}
+use mathlib.Core.Path.{refl}
 use Rattle.fields.specs.Fields.{if, bits, quadword}
 use Rattle.fields.specs.Memory.{wordAt, longAt}
 use Rattle.gif.specs.Log.{logged, lacksRoom, logRefused}

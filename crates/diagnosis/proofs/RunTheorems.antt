@@ -2,7 +2,7 @@
 use mathlib.Core.Path.{_≡_, refl, sym, ap, _∙_}
 use mathlib.Core.Bool.{Bool, true, false}
 use mathlib.Core.List.{List}
-use Prim.Native.Nat.{ℕ, zero, suc}
+use Prim.Native.Nat.{ℕ, suc}
 use native.Mathlib.Omega.{arith}
 use borrow.Author.Tests.{eqb-true, eqb-false, ne-eqb}
 use lib.Dec.{eqb}
@@ -18,9 +18,9 @@ use Rattle.chain.specs.Run.{Ran, ran, done, stepsOf, runOf}
 use Rattle.chain.specs.Stops.{Stops, at-end, at-allowance, at-interrupt, at-refusal}
 use Rattle.chain.proofs.RunLaws.{run-refuses}
 use Rattle.chain.proofs.Theorems.{run-stops, run-accepted}
-use Rattle.diagnosis.specs.declared.Reason.the-variants.{Entry, Ended}
+use Rattle.diagnosis.specs.declared.Reason.the-variants.{Ended}
 use Rattle.diagnosis.specs.Why.{whyOf}
-use Rattle.diagnosis.specs.Truth.{NextGives, Names, RunsSo}
+use Rattle.diagnosis.specs.Truth.{NextGives, RunsSo}
 use Rattle.diagnosis.proofs.Theorems.{says-true, to-end, named, gives}
 
 -- the four answers differ

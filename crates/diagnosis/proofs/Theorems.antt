@@ -2,12 +2,11 @@
 use mathlib.Core.Path.{_≡_, refl, sym, ap, _∙_}
 use mathlib.Core.Bool.{Bool, true, false, not}
 use mathlib.Core.List.{List}
-use Prim.Native.Nat.{ℕ, zero, suc, _+_, _<_, _≤_}
+use Prim.Native.Nat.{ℕ}
 use native.Mathlib.Omega.{arith}
-use borrow.Author.Tests.{eqb-true, eqb-false, eq-eqb, ne-eqb}
+use borrow.Author.Tests.{eqb-true, eqb-false, ne-eqb}
 use lib.Dec.{eqb}
 use Rattle.fields.specs.Fields.{if}
-use Rattle.fields.specs.Counts.{none}
 use Rattle.memories.specs.Lengths.{Lent}
 use Rattle.chain.specs.declared.StepAnswer.{StepAnswer}
 use Rattle.chain.specs.declared.StepAnswer.the-variants.{Completed, Refused}
@@ -16,7 +15,6 @@ use Rattle.chain.specs.Range.{entryRefusal}
 use Rattle.chain.specs.Step.{stepOf}
 use Rattle.chain.specs.Run.{done}
 use Rattle.chain_reason.specs.Reason.{nextPlace}
-use Rattle.gif_reason.specs.declared.Numbers.{Numbers}
 use Rattle.gif_reason.specs.Reason.{numbers}
 use Rattle.diagnosis.specs.declared.Reason.{Reason}
 use Rattle.diagnosis.specs.declared.Reason.the-variants.{Entry, Ended, NoComplaint, Step}

@@ -1,13 +1,13 @@
 -- The next step tried on memories and a log of its own tells what it answers on others.
-use mathlib.Core.Path.{_≡_, refl, sym, ap, _∙_}
+use mathlib.Core.Path.{_≡_, refl, sym, ap}
 use mathlib.Core.Bool.{Bool, true, false, not, _&&_}
 use mathlib.Core.List.{List}
-use Prim.Native.Nat.{ℕ, zero, suc, _+_, _*_, _%_, _≤_}
+use Prim.Native.Nat.{ℕ, _+_, _*_, _%_, _≤_}
 use native.Mathlib.Omega.{arith}
 use lib.ListN.{length}
 use lib.Dec.{eqb, ltb}
 use Rattle.fields.specs.Fields.{if}
-use Rattle.fields.specs.Refusals.{tadrOutside, addrUnaligned, scratchpadSet, stackFull, payloadOutside, logFull}
+use Rattle.fields.specs.Refusals.{logFull}
 use Rattle.fields.specs.Memory.{longAt, quadwordAt}
 use Rattle.fields.proofs.ChoiceLaws.{if-ind}
 use Rattle.gif.specs.declared.GifPath.the-variants.{Three}
@@ -32,18 +32,17 @@ use Rattle.chain.specs.declared.Stack.{Stack}
 use Rattle.chain.specs.declared.StepAnswer.{StepAnswer}
 use Rattle.chain.specs.declared.StepAnswer.the-variants.{Completed, Refused}
 use Rattle.chain.specs.declared.State.{State}
-use Rattle.chain.specs.Pending.{nothingPending, tagsAfter, payloadAfter}
+use Rattle.chain.specs.Pending.{tagsAfter, payloadAfter}
 use Rattle.chain.specs.Tags.{qwcOf, idOf, addrOf, sprOf, usesAddr, payloadAt, isFull, tagRefusal, tagState, completedResult, refusedResult, tagRead, tagStep}
 use Rattle.chain.specs.Range.{entryRefusal}
-use Rattle.chain.specs.Step.{Machine, Stepped, stepped, refusedStep, steppedBy, fedUnit, heldBy, afterVif, vifTook, vifGiven, afterGif, gifGiven, payloadStep, payloadOrTag, pendingOrTag, stepOf}
+use Rattle.chain.specs.Step.{Stepped, steppedBy, fedUnit, heldBy, afterVif, vifTook, vifGiven, afterGif, gifGiven, payloadStep, payloadOrTag, pendingOrTag, stepOf}
 use Rattle.chain.specs.Run.{Ran, ran, done, afterStep, stepsOf, runOf}
-use Rattle.chain.specs.Inner.{Ready}
-use Rattle.chain.proofs.ReadyLaws.{Facts, facts-of, ready-of}
+use Rattle.chain.proofs.ReadyLaws.{facts-of, ready-of}
 use Rattle.fields.specs.Counts.{none}
 use Rattle.gif_reason.specs.declared.Numbers.{Numbers}
 use Rattle.gif_reason.specs.Reason.{quadwordNeeds}
 use Rattle.chain_reason.specs.Reason.{nextPlace}
-use Rattle.gif_reason.proofs.Trial.{Outcome, goes, refuses, no-goes, same-number, withRoom, Tried as TriedOn, refuses-tried, goes-tried, carried, outcomeOf as gifOutcome, quadword-tried}
+use Rattle.gif_reason.proofs.Trial.{Outcome, goes, refuses, no-goes, same-number, Tried as TriedOn, refuses-tried, goes-tried, carried, outcomeOf as gifOutcome, quadword-tried}
 use Rattle.vif_reason.proofs.Trial.{outcomeOf as vifOutcome, word-tried}
 use Rattle.diagnosis.specs.declared.Trial.{Trial}
 use Rattle.diagnosis.specs.declared.Trial.the-variants.{Needs, Refused as TrialRefused}

@@ -6,14 +6,14 @@ use mathlib.Core.Path.{_≡_}
 use lib.ListN.{replicate}
 use Rattle.gif.specs.declared.TagFormat.{TagFormat}
 use Rattle.gif.specs.declared.TagFormat.the-variants.{Packed, Reglist, Image}
-use Rattle.gif.specs.declared.Place.the-variants.{Idle, Data}
+use Rattle.gif.specs.declared.Place.the-variants.{Data}
 use Rattle.gif.specs.declared.Path.{Path}
 use Rattle.memories.specs.declared.VifUnit.{VifUnit}
 use Rattle.memories.specs.declared.VifUnit.the-variants.{Vif0, Vif1}
 use Rattle.memories.specs.Units.{dataWords, codeBytes}
 use Rattle.memories.specs.Lengths.{Lent, lent}
 use Rattle.vif.specs.declared.Waiting.{Waiting}
-use Rattle.vif.specs.declared.Waiting.the-variants.{Nothing, MpgDue, DirectDue}
+use Rattle.vif.specs.declared.Waiting.the-variants.{MpgDue, DirectDue}
 use Rattle.vif.specs.declared.Vif.{Vif}
 use Rattle.vif.specs.Setters.{withCycle, withWaiting}
 use Rattle.vif.specs.Payload.{bytesOf}
@@ -25,7 +25,7 @@ use Rattle.chain.specs.declared.Payload.{Payload}
 use Rattle.chain.specs.declared.Payload.the-variants.{Nothing as NoPayload, Words}
 use Rattle.chain.specs.declared.State.{State}
 use Rattle.chain.specs.Start.{resetPath, resetUnit}
-use Rattle.diagnosis.specs.Why.{whyOf, reasonNumbers}
+use Rattle.diagnosis.specs.Why.{whyOf, reasonKind, reasonNumbers}
 
 -- ---- inputs
 
@@ -89,9 +89,9 @@ atQuadword p =
       path3 = p;
     }
 
--- VIF0 with CL and WL 1
-abbrev pub smallUnit : Vif
-smallUnit = withCycle resetUnit 1 1
+-- the next step gives VIF0, with CL and WL 1, the tag word at address 12
+abbrev pub atTagWord : State
+atTagWord = stateWith 0 0 false Empty (From 12) NoPayload (withCycle resetUnit 1 1) resetUnit resetPath resetPath
 
 -- ---- the table
 
@@ -105,7 +105,7 @@ AllHold [] = Unit {0}
 AllHold (p ∷ ps) = (p .told ≡ p .stated) × AllHold ps
 
 abbrev pub point : List ℕ → State → Lent → List ℕ → Point
-point main s m stated = record { told = reasonNumbers (whyOf main s m); stated = stated }
+point main s m stated = record { told = reasonKind (whyOf main s m) ∷ reasonNumbers (whyOf main s m); stated = stated }
 
 -- one quadword, by its first word
 abbrev pub quad : ℕ → List ℕ
@@ -141,8 +141,8 @@ points =
     ∷ point (quad 0) (atWord 4 3 (waitingFor (DirectDue 1 false)) resetPath) (blank Vif1 3) (3 ∷ 24 ∷ 4 ∷ 1 ∷ 0 ∷ [])
     ∷ point (quad 0) (atWord 4 3 (waitingFor (MpgDue 0 1 2 false)) resetPath) (blank Vif1 3) (3 ∷ 25 ∷ 4 ∷ 1 ∷ 0 ∷ [])
     -- on VIF0: UNPACK with IMM bit 15, and DIRECT, which it has not; both in tag word 3
-    ∷ point (memory (0 ∷ 0 ∷ 0 ∷ 0x6C00_8000 ∷ [])) (stateWith 0 0 false Empty (From 12) NoPayload smallUnit resetUnit resetPath resetPath) (blank Vif0 3) (3 ∷ 26 ∷ 12 ∷ 1 ∷ 0 ∷ [])
-    ∷ point (memory (0 ∷ 0 ∷ 0 ∷ 0x5000_0001 ∷ [])) (stateWith 0 0 false Empty (From 12) NoPayload smallUnit resetUnit resetPath resetPath) (blank Vif0 3) (3 ∷ 20 ∷ 12 ∷ 0x50 ∷ 0 ∷ [])
+    ∷ point (memory (0 ∷ 0 ∷ 0 ∷ 0x6C00_8000 ∷ [])) atTagWord (blank Vif0 3) (3 ∷ 26 ∷ 12 ∷ 1 ∷ 0 ∷ [])
+    ∷ point (memory (0 ∷ 0 ∷ 0 ∷ 0x5000_0001 ∷ [])) atTagWord (blank Vif0 3) (3 ∷ 20 ∷ 12 ∷ 0x50 ∷ 0 ∷ [])
     -- descriptor B at PACKED data on channel 2, and at REGLIST data in DIRECT
     ∷ point (quad 0) (atQuadword (pathWith Packed 11)) (blank Vif1 3) (3 ∷ 30 ∷ 0 ∷ 11 ∷ 0 ∷ [])
     ∷ point (quad 0) (atWord 0 4 (waitingFor (DirectDue 1 false)) (pathWith Reglist 11)) (blank Vif1 3) (3 ∷ 30 ∷ 0 ∷ 11 ∷ 0 ∷ [])

@@ -16,7 +16,7 @@ use Rattle.chain.specs.declared.State.{State}
 use Rattle.chain.specs.Tags.{tagStep}
 use Rattle.chain.specs.Range.{entryRefusal}
 use Rattle.chain.specs.Step.{steppedBy, fedUnit, heldBy, vifGiven, gifGiven, stepOf}
-use Rattle.chain.specs.Run.{Ran, ran, done, runOf}
+use Rattle.chain.specs.Run.{ran, done, runOf}
 use Rattle.gif_reason.specs.declared.Numbers.{Numbers}
 use Rattle.gif_reason.specs.Reason.{numbers}
 use Rattle.gif_reason.specs.Fault.{QuadwordFault}

@@ -1,5 +1,5 @@
--- Request 6: "We want a tool that takes the memories, log and state and tells the reason in numbers: the refusal, the address ... and the contents of the field at
--- fault".
+-- Request 6: "We want a tool that takes the memories, log and state and tells the reason in numbers: the refusal, the address ... and the contents of the field
+-- at fault".
 use Prim.Native.Nat.{ℕ}
 use mathlib.Core.Bool.{not}
 use mathlib.Core.List.{List, [], _∷_}

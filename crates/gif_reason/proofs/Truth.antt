@@ -1,12 +1,12 @@
 -- What a refused quadword shows is found there and breaks the rule.
-use mathlib.Core.Path.{_≡_, refl, sym, ap, _∙_}
+use mathlib.Core.Path.{_≡_, refl, sym, _∙_}
 use mathlib.Core.Bool.{Bool, true, false, _&&_, _||_}
 use mathlib.Core.List.{List}
-use Prim.Native.Nat.{ℕ, _+_, _*_, _-_, _/_, _<_, _≤_}
+use Prim.Native.Nat.{ℕ, _+_, _*_, _<_, _≤_}
 use native.Mathlib.Omega.{arith}
-use borrow.Author.Tests.{ltb-true, eqb-true, eqb-false, eq-eqb, ne-eqb}
+use borrow.Author.Tests.{ltb-true, eqb-true}
 use lib.ListN.{length}
-use lib.Dec.{eqb, ltb}
+use lib.Dec.{eqb}
 use Rattle.fields.specs.Fields.{if}
 use Rattle.fields.specs.Refusals.{descriptorB, logFull}
 use Rattle.fields.proofs.ChoiceLaws.{if-ind-by, and-left, and-right}
@@ -24,8 +24,7 @@ use Rattle.gif.specs.Tag.{takenOf, descriptorAt}
 use Rattle.gif.specs.Range.{pathInRange}
 use Rattle.gif.specs.Reglist.{firstItem, hasSecond, reglistRefused}
 use Rattle.gif.specs.Step.{Left, refused, commit, tagStep, packedWith, reglistStep, imageStep, dataStep, stepAt, gifStep}
-use Rattle.gif_reason.specs.declared.Numbers.{Numbers}
-use Rattle.gif_reason.specs.Reason.{numbers, freeEntries, dataWrites, writesAt, quadwordWrites, quadwordNeeds, reglistMet, dataMet, placeMet, metDescriptor, quadwordNumbers}
+use Rattle.gif_reason.specs.Reason.{numbers, freeEntries, dataWrites, quadwordWrites, quadwordNeeds, reglistMet, dataMet, placeMet, metDescriptor, quadwordNumbers}
 use Rattle.gif_reason.specs.Fault.{QuadwordFault, packed-b, reglist-low-b, reglist-high-b, no-room}
 
 -- a log that lacks room for so many entries has fewer free

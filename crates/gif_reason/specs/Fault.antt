@@ -13,8 +13,8 @@ use Rattle.gif.specs.Reglist.{firstItem, hasSecond}
 use Rattle.gif_reason.specs.declared.Numbers.{Numbers}
 use Rattle.gif_reason.specs.Reason.{numbers, freeEntries, quadwordNeeds}
 
--- the refusal of a quadword, what it shows, and the rule that this breaks: "30 descriptor B met at its data, PACKED or REGLIST; then 31, where the step's writes
--- don't all fit"
+-- the refusal of a quadword, what it shows, and the rule that this breaks: "30 descriptor B met at its data, PACKED or REGLIST; then 31, where the step's
+-- writes don't all fit"
 pub data QuadwordFault (p : Path) (quad used : ℕ) (log : List ℕ) : ℕ → Numbers → Type 0 where
   packed-b : (t : HeldTag) → p .place ≡ Data t → t .format ≡ Packed → descriptorAt t (takenOf t) ≡ 11
       → QuadwordFault p quad used log descriptorB (numbers (descriptorAt t (takenOf t)) 0)

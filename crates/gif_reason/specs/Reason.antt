@@ -1,5 +1,5 @@
 -- Request 6, of the GIF: "30 the held descriptor, 31 the free log entries and those needed".
-use Prim.Native.Nat.{ℕ, _+_, _*_, _-_, _/_}
+use Prim.Native.Nat.{ℕ, _+_, _-_, _/_}
 use mathlib.Core.List.{List, [], _∷_}
 use lib.ListN.{length}
 use lib.Dec.{eqb}

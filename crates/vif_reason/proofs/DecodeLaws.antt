@@ -1,12 +1,11 @@
 -- What a decoded word says of the word.
-use mathlib.Core.Path.{_≡_, refl, sym, _∙_}
-use mathlib.Core.Bool.{Bool, true, false, _&&_, _||_}
-use Prim.Native.Nat.{ℕ, _+_, _*_, _/_, _%_, _^_, _<_, _≤_}
-use native.Mathlib.Nat.{div-one}
+use mathlib.Core.Path.{_≡_, refl}
+use mathlib.Core.Bool.{Bool, true, false}
+use Prim.Native.Nat.{ℕ, _+_, _/_, _%_, _<_, _≤_}
 use native.Mathlib.Omega.{arith}
 use borrow.Author.Tests.{leb-true, eqb-true, eqb-false}
 use lib.Dec.{eqb, leb}
-use Rattle.fields.specs.Fields.{if, bits}
+use Rattle.fields.specs.Fields.{bits}
 use Rattle.fields.specs.Refusals.{cmdUnlisted, formatMissing}
 use Rattle.fields.proofs.ChoiceLaws.{if-ind-by, and-false}
 use Rattle.fields.proofs.FieldLaws.{bits-below}

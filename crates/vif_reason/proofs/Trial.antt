@@ -6,9 +6,9 @@ use Prim.Native.Nat.{ℕ, _+_, _*_, _^_, _≤_}
 use native.Mathlib.Omega.{arith}
 use borrow.Author.Tests.{le-ltb}
 use lib.ListN.{length}
-use lib.Dec.{eqb, leb, ltb}
+use lib.Dec.{eqb, leb}
 use Rattle.fields.specs.Fields.{if, bits, quadword}
-use Rattle.fields.specs.Refusals.{cmdUnlisted, formatMissing, cycleWrong, topsMissing, modeWrong, directUnaligned, mpgUnaligned, logFull}
+use Rattle.fields.specs.Refusals.{cmdUnlisted, formatMissing, modeWrong, directUnaligned, mpgUnaligned, logFull}
 use Rattle.fields.proofs.ChoiceLaws.{if-ind}
 use Rattle.gif.specs.declared.GifPath.the-variants.{Two}
 use Rattle.gif.specs.declared.Path.{Path}
@@ -26,7 +26,6 @@ use Rattle.unpack.specs.Range.{cycleRefused}
 use Rattle.vif.specs.declared.Code.{Code}
 use Rattle.vif.specs.declared.Code.the-variants.{Nop, Stcycl, Offset, Base, Itop, Stmod, Mskpath3, Mark, Flushe, Flush, Flusha, Mscal, Mscalf, Mscnt, Stmask, Strow, Stcol, Mpg, Direct, Directhl, Unpack}
 use Rattle.vif.specs.declared.UnpackCode.{UnpackCode}
-use Rattle.vif.specs.declared.CodeResult.{CodeResult}
 use Rattle.vif.specs.declared.Decoded.{Decoded}
 use Rattle.vif.specs.declared.Decoded.the-variants.{Known, Unknown}
 use Rattle.vif.specs.declared.Incoming.{Incoming}

@@ -2,14 +2,13 @@
 use mathlib.Core.Path.{_≡_, refl, sym, ap, _∙_}
 use mathlib.Core.Bool.{Bool, true, false, not, _&&_}
 use mathlib.Core.List.{List}
-use Prim.Native.Nat.{ℕ, _+_, _*_, _-_, _/_, _%_, _^_, _<_, _≤_}
-use native.Mathlib.Nat.{div-one}
+use Prim.Native.Nat.{ℕ, _+_, _*_, _%_, _^_, _≤_}
 use native.Mathlib.Omega.{arith}
-use borrow.Author.Tests.{eqb-true, eqb-false, not-false}
+use borrow.Author.Tests.{eqb-true, eqb-false}
 use lib.ListN.{length}
 use lib.Dec.{eqb}
 use Rattle.fields.specs.Fields.{if, bits, quadword}
-use Rattle.fields.specs.Refusals.{cycleWrong, modeWrong, directUnaligned, mpgUnaligned, topsMissing, logFull}
+use Rattle.fields.specs.Refusals.{modeWrong, directUnaligned, mpgUnaligned, logFull}
 use Rattle.fields.proofs.ChoiceLaws.{if-ind-by, and-left, and-right, not-true}
 use Rattle.gif.specs.declared.GifPath.the-variants.{Two}
 use Rattle.gif.specs.declared.Path.{Path}
@@ -31,20 +30,17 @@ use Rattle.vif.specs.declared.Decoded.{Decoded}
 use Rattle.vif.specs.declared.Decoded.the-variants.{Known, Unknown}
 use Rattle.vif.specs.declared.Incoming.{Incoming}
 use Rattle.vif.specs.declared.Incoming.the-variants.{Word0, Word1, Word2, Word3}
-use Rattle.vif.specs.declared.VifAnswer.{VifAnswer}
-use Rattle.vif.specs.declared.VifAnswer.the-variants.{Word, Quadword, Refused}
+use Rattle.vif.specs.declared.VifAnswer.the-variants.{Word, Refused}
 use Rattle.vif.specs.declared.Waiting.{Waiting}
 use Rattle.vif.specs.declared.Waiting.the-variants.{Nothing, MaskDue, RowDue, ColDue, MpgDue, DirectDue, DirecthlDue, UnpackDue}
 use Rattle.vif.specs.declared.Vif.{Vif}
-use Rattle.vif.specs.Codes.{cmdOf, immOf, interruptOf, decodeOf}
-use Rattle.vif.specs.Execute.{Executed, executed, codeResult, resultWith, startProgram, setMode, beginMpg, topsRefused, unpackRefusal, beginUnpack, executeOf, decodedStep}
+use Rattle.vif.specs.Codes.{immOf, interruptOf, decodeOf}
+use Rattle.vif.specs.Execute.{Executed, executed, resultWith, startProgram, setMode, beginMpg, topsRefused, unpackRefusal, beginUnpack, executeOf, decodedStep}
 use Rattle.vif.specs.Step.{Left, leaves, refused, wordIn, oddWord, afterGif, giveQuadword, directStep, mpgRefused, mpgStep, unpackStep, codeStep, stepBy, vifStep}
-use Rattle.gif_reason.specs.declared.Numbers.{Numbers}
-use Rattle.gif_reason.specs.Reason.{numbers, freeEntries, quadwordNeeds, quadwordNumbers}
-use Rattle.gif_reason.specs.Fault.{QuadwordFault}
+use Rattle.gif_reason.specs.Reason.{numbers}
 use Rattle.gif_reason.proofs.Truth.{free-below, quadword-told}
-use Rattle.vif_reason.specs.Reason.{wordNumber, vnOf, codeNumbers, directNumbers, waitingNumbers, wordNumbers, directNeeds, waitingNeeds, wordNeeds}
-use Rattle.vif_reason.specs.Fault.{IsUnpack, StartsProgram, isDirect, CodeFault, cmd-unlisted, format-missing, cycle-wrong, mode-wrong, tops-missing, start-full, WordFault, code, direct-unaligned, mpg-unaligned, direct}
+use Rattle.vif_reason.specs.Reason.{wordNumber, codeNumbers, directNumbers, waitingNumbers, wordNumbers, directNeeds, waitingNeeds, wordNeeds}
+use Rattle.vif_reason.specs.Fault.{StartsProgram, isDirect, CodeFault, cmd-unlisted, format-missing, cycle-wrong, mode-wrong, tops-missing, start-full, WordFault, code, direct-unaligned, mpg-unaligned, direct}
 use Rattle.vif_reason.proofs.DecodeLaws.{Cause, unlisted, missing, ModeOf, UnpackOf, CodeSays, Says, decoded-says}
 
 -- ---- a code's own step

@@ -8,7 +8,7 @@ use Rattle.fields.specs.Fields.{bits, quadword}
 use Rattle.fields.specs.Refusals.{cmdUnlisted, formatMissing, cycleWrong, modeWrong, directUnaligned, mpgUnaligned, topsMissing, logFull}
 use Rattle.gif.specs.declared.Path.{Path}
 use Rattle.memories.specs.declared.VifUnit.{VifUnit}
-use Rattle.memories.specs.declared.VifUnit.the-variants.{Vif0, Vif1}
+use Rattle.memories.specs.declared.VifUnit.the-variants.{Vif0}
 use Rattle.vif.specs.declared.Incoming.{Incoming}
 use Rattle.vif.specs.declared.Incoming.the-variants.{Word0}
 use Rattle.vif.specs.declared.Waiting.{Waiting}
@@ -92,10 +92,12 @@ pub data WordFault (which : VifUnit) (v : Vif) (p : Path) (n : Incoming) (used :
   -- of a code's own step
   code : {r : ℕ} {x : Numbers} → v .waiting ≡ Nothing → CodeFault which v (wordIn n) used log r x → WordFault which v p n used log r x
   -- "24 DIRECT payload due and the next word isn't word 0"
-  direct-unaligned : isDirect (v .waiting) ≡ true → (wordNumber n ≡ 0 → ⊥) → WordFault which v p n used log directUnaligned (numbers (wordNumber n) 0)
+  direct-unaligned : isDirect (v .waiting) ≡ true → (wordNumber n ≡ 0 → ⊥)
+      → WordFault which v p n used log directUnaligned (numbers (wordNumber n) 0)
   -- "25, VIF step, when the first MPG payload word is due and the next word is word 1 or 3"
   mpg-unaligned : (a k due : ℕ) (i : Bool) → v .waiting ≡ MpgDue a k due i → due ≡ k + k → wordNumber n % 2 ≡ 1
       → WordFault which v p n used log mpgUnaligned (numbers (wordNumber n) 0)
   -- of the quadword that DIRECT hands to path 2
-  direct : {r : ℕ} {x : Numbers} (a b c d : ℕ) → isDirect (v .waiting) ≡ true → n ≡ Word0 a b c d → QuadwordFault p (quadword (a + b * 2 ^ 32) (c + d * 2 ^ 32)) used log r x
+  direct : {r : ℕ} {x : Numbers} (a b c d : ℕ) → isDirect (v .waiting) ≡ true → n ≡ Word0 a b c d
+      → QuadwordFault p (quadword (a + b * 2 ^ 32) (c + d * 2 ^ 32)) used log r x
       → WordFault which v p n used log r x
