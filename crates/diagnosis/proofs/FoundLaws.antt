@@ -4,6 +4,7 @@ use mathlib.Core.Bool.{Bool, true, false}
 use mathlib.Core.List.{List}
 use Prim.Native.Nat.{ℕ}
 use native.Mathlib.Omega.{arith}
+use borrow.Author.Tests.{eqb-true, eqb-false}
 use lib.Dec.{eqb}
 use Rattle.fields.specs.Fields.{if}
 use Rattle.fields.specs.Memory.{quadwordAt}
@@ -34,7 +35,7 @@ use Rattle.vif_reason.proofs.Truth.{word-told}
 use Rattle.chain_reason.specs.Reason.{tagNumbers, payloadPlace, pendingPlace, nextPlace}
 use Rattle.chain_reason.proofs.Truth.{tag-told}
 use Rattle.diagnosis.specs.Why.{unitNumbers, unitNeeds, payloadNumbers, payloadNeeds, payloadOrTagNumbers, payloadOrTagNeeds, pendingNumbers, pendingNeeds, nextNumbers, nextNeeds}
-use Rattle.diagnosis.specs.Truth.{FoundAt, in-tag, in-word, in-quadword}
+use Rattle.diagnosis.specs.Truth.{NothingPending, no-payload, no-words, PayloadPending, WordPending, tag-word, payload-word, FoundAt, in-tag, in-word, in-quadword}
 use Rattle.diagnosis.proofs.TrialLaws.{log-held}
 
 no-completed : {i : Bool} {n : ℕ} → Completed i ≡ Refused n → ⊥
@@ -70,46 +71,47 @@ module _ (main : List ℕ) (s : State) (m : Lent) (h : entryRefusal main m s ≡
   answered : {x : Stepped} → Is x → x .answer ≡ Refused k
   answered q = ap (λ (y : Stepped). y .answer) (sym q) ∙ e
 
-  found-tag : Is (steppedBy (tagStep main s) m) → FoundAt main s m k (s .tadr) (tagNumbers k main s)
-  found-tag q = in-tag q (tag-told main s k (answered q))
+  found-tag : NothingPending s → Is (steppedBy (tagStep main s) m) → FoundAt main s m k (s .tadr) (tagNumbers k main s)
+  found-tag w q = in-tag w q (tag-told main s k (answered q))
 
-  found-word : (a : ℕ) (t : TagWords) (p : ℕ → Payload) → Is (vifGiven main a t p s m) → FoundAt main s m k a (unitNumbers k (unitNeeds main a s) main a s (m .log))
-  found-word a t p q =
-      in-word a t p q
+  found-word : (a : ℕ) (t : TagWords) (p : ℕ → Payload) → WordPending s a → Is (vifGiven main a t p s m)
+      → FoundAt main s m k a (unitNumbers k (unitNeeds main a s) main a s (m .log))
+  found-word a t p w q =
+      in-word a t p w q
       (word-told (fedUnit s) (heldBy (fedUnit s) s) (s .path2) (facts-of {main = main} {s = s} {m = m} (record { passed = h }) .fields .path2) (incomingAt main a) (s .used) m (log-held main s m h) k (given-by main a t p s m k (answered q)))
 
-  found-quadword : (a : ℕ) (p : Payload) → Is (gifGiven main a p s m)
+  found-quadword : (a : ℕ) (p : Payload) → PayloadPending s a → Is (gifGiven main a p s m)
       → FoundAt main s m k a (quadwordNumbers k (s .path3) (quadwordNeeds (s .path3) (quadwordAt main a)) (s .used) (m .log))
-  found-quadword a p q =
-      in-quadword a p q
+  found-quadword a p w q =
+      in-quadword a p w q
       (quadword-told Three (s .path3) (facts-of {main = main} {s = s} {m = m} (record { passed = h }) .fields .path3) (quadwordAt main a) (s .used) (m .log) (log-held main s m h) k (taken-by main a p s m k (answered q)))
 
-  found-payload : (at n : ℕ) → Is (payloadStep main at n s m) → FoundAt main s m k at (payloadNumbers k (payloadNeeds main at s) main at s (m .log))
+  found-payload : (at n : ℕ) → PayloadPending s at → Is (payloadStep main at n s m) → FoundAt main s m k at (payloadNumbers k (payloadNeeds main at s) main at s (m .log))
   unfolding payloadStep payloadNumbers payloadNeeds if
-  found-payload at n q = go (eqb (s .channel) 2) q
+  found-payload at n w q = go (eqb (s .channel) 2) q
     where
       go : (b : Bool) → Is (if b (gifGiven main at (payloadAfter at n 4) s m) (vifGiven main at (s .tags) (payloadAfter at n) s m))
           → FoundAt main s m k at
           (if b (quadwordNumbers k (s .path3) (if b (quadwordNeeds (s .path3) (quadwordAt main at)) (unitNeeds main at s)) (s .used) (m .log)) (unitNumbers k (if b (quadwordNeeds (s .path3) (quadwordAt main at)) (unitNeeds main at s)) main at s (m .log)))
-      go true r = found-quadword at (payloadAfter at n 4) r
-      go false r = found-word at (s .tags) (payloadAfter at n) r
+      go true r = found-quadword at (payloadAfter at n 4) w r
+      go false r = found-word at (s .tags) (payloadAfter at n) (payload-word w) r
 
-  found-payload-or-tag : (p : Payload) → Is (payloadOrTag p main s m)
+  found-payload-or-tag : (p : Payload) → s .tags ≡ NoTagWords → s .payload ≡ p → Is (payloadOrTag p main s m)
       → FoundAt main s m k (payloadPlace p s) (payloadOrTagNumbers p k (payloadOrTagNeeds p main s) main s (m .log))
   unfolding if
-  found-payload-or-tag NoPayload q = found-tag q
-  found-payload-or-tag (Words at n) q = go (eqb n 0) q
+  found-payload-or-tag NoPayload f g q = found-tag (no-payload f g) q
+  found-payload-or-tag (Words at n) f g q = go (eqb n 0) refl q
     where
-      go : (b : Bool) → Is (if b (steppedBy (tagStep main s) m) (payloadStep main at n s m))
+      go : (b : Bool) → eqb n 0 ≡ b → Is (if b (steppedBy (tagStep main s) m) (payloadStep main at n s m))
           → FoundAt main s m k (if b (s .tadr) at) (if b (tagNumbers k main s) (payloadNumbers k (if b 0 (payloadNeeds main at s)) main at s (m .log)))
-      go true r = found-tag r
-      go false r = found-payload at n r
+      go true z r = found-tag (no-words f g (eqb-true n 0 z)) r
+      go false z r = found-payload at n (record { count = n; no-tags = f; words = g; some = eqb-false n 0 z }) r
 
-  found-pending : (t : TagWords) (p : Payload) → Is (pendingOrTag t p main s m)
+  found-pending : (t : TagWords) (p : Payload) → s .tags ≡ t → s .payload ≡ p → Is (pendingOrTag t p main s m)
       → FoundAt main s m k (pendingPlace t p s) (pendingNumbers t p k (pendingNeeds t p main s) main s (m .log))
-  found-pending NoTagWords p q = found-payload-or-tag p q
-  found-pending (From a) p q = found-word a (tagsAfter a) (λ j. s .payload) q
+  found-pending NoTagWords p f g q = found-payload-or-tag p f g q
+  found-pending (From a) p f g q = found-word a (tagsAfter a) (λ j. s .payload) (tag-word f) q
 
   pub found-next : FoundAt main s m k (nextPlace s) (nextNumbers k (nextNeeds main s) main s (m .log))
   unfolding stepOf nextPlace nextNumbers nextNeeds
-  found-next = found-pending (s .tags) (s .payload) refl
+  found-next = found-pending (s .tags) (s .payload) refl refl refl

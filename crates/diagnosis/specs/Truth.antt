@@ -10,7 +10,9 @@ use Rattle.memories.specs.Lengths.{Lent}
 use Rattle.vif.specs.Words.{incomingAt}
 use Rattle.chain.specs.declared.Answer.the-variants.{Done, Refused as RunRefused}
 use Rattle.chain.specs.declared.TagWords.{TagWords}
+use Rattle.chain.specs.declared.TagWords.the-variants.{Nothing as NoTagWords, From}
 use Rattle.chain.specs.declared.Payload.{Payload}
+use Rattle.chain.specs.declared.Payload.the-variants.{Nothing as NoPayload, Words}
 use Rattle.chain.specs.declared.StepAnswer.the-variants.{Refused}
 use Rattle.chain.specs.declared.State.{State}
 use Rattle.chain.specs.Tags.{tagStep}
@@ -39,15 +41,30 @@ pub record Names (r : ℕ) (x : Reason) : Type 0 where
   pub second : ℕ
   pub named : x ≡ Step r address first second
 
+-- "the place the step reads", by what is pending in the state: transferred tag words come first, then payload, then the tag at TADR
+pub data NothingPending (s : State) : Type 0 where
+  no-payload : s .tags ≡ NoTagWords → s .payload ≡ NoPayload → NothingPending s
+  no-words : {a n : ℕ} → s .tags ≡ NoTagWords → s .payload ≡ Words a n → n ≡ 0 → NothingPending s
+
+pub record PayloadPending (s : State) (a : ℕ) : Type 0 where
+  pub count : ℕ
+  pub no-tags : s .tags ≡ NoTagWords
+  pub words : s .payload ≡ Words a count
+  pub some : count ≡ 0 → ⊥
+
+pub data WordPending (s : State) (a : ℕ) : Type 0 where
+  tag-word : s .tags ≡ From a → WordPending s a
+  payload-word : PayloadPending s a → WordPending s a
+
 -- a refusal, an address and what is shown: the address is the place that the step reads, and what is shown is found there and breaks the rule
 pub data FoundAt (main : List ℕ) (s : State) (m : Lent) : ℕ → ℕ → Numbers → Type 0 where
   -- the step reads the tag at TADR
-  in-tag : {r : ℕ} {x : Numbers} → stepOf main s m ≡ steppedBy (tagStep main s) m → TagFault main s r x → FoundAt main s m r (s .tadr) x
+  in-tag : {r : ℕ} {x : Numbers} → NothingPending s → stepOf main s m ≡ steppedBy (tagStep main s) m → TagFault main s r x → FoundAt main s m r (s .tadr) x
   -- the step gives the channel's unit the word at a
-  in-word : {r : ℕ} {x : Numbers} (a : ℕ) (t : TagWords) (p : ℕ → Payload) → stepOf main s m ≡ vifGiven main a t p s m
+  in-word : {r : ℕ} {x : Numbers} (a : ℕ) (t : TagWords) (p : ℕ → Payload) → WordPending s a → stepOf main s m ≡ vifGiven main a t p s m
       → WordFault (fedUnit s) (heldBy (fedUnit s) s) (s .path2) (incomingAt main a) (s .used) (m .log) r x → FoundAt main s m r a x
   -- the step gives path 3 the quadword at a
-  in-quadword : {r : ℕ} {x : Numbers} (a : ℕ) (p : Payload) → stepOf main s m ≡ gifGiven main a p s m
+  in-quadword : {r : ℕ} {x : Numbers} (a : ℕ) (p : Payload) → PayloadPending s a → stepOf main s m ≡ gifGiven main a p s m
       → QuadwordFault (s .path3) (quadwordAt main a) (s .used) (m .log) r x → FoundAt main s m r a x
 
 -- for any memories, log and state
