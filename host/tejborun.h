@@ -4,14 +4,15 @@
  * where the number is 0), aligned for its type, and no buffer that is written may overlap another one of the same call. What const points to is only
  * read. Nothing is kept between calls, nothing is allocated, and no function prints or stops the program.
  *
- * An answer is a number of the scope document, or TEJBORUN_SHORT; tejborun_build may answer a length, and tejborun_compare has answers of its own. A call
- * that is refused at once changes no memory and no log, a run that is refused after some steps leaves what those steps left; the result is written in both
- * cases, but not with TEJBORUN_SHORT, which is tested before all else. Numbers of a result beyond those stated are never written.
+ * An answer is a number of the scope document, or TEJBORUN_SHORT; tejborun_build may answer a length, and tejborun_compare and tejborun_why have answers of
+ * their own. A call that is refused at once changes no memory and no log, a run that is refused after some steps leaves what those steps left; the result is
+ * written in both cases, but not with TEJBORUN_SHORT, which is tested before all else. Numbers of a result beyond those stated are never written.
  *
  * state_shape.h has the words of a state block by name, docs/FORMATS.md says what they hold; a struct tejborun_state is lent as (uint32_t *)&state. On a block that
  * is a state's, a start and a build and run write back the state that they leave, also where they are refused, and so does a run that completes a step: the
  * words that mean nothing are then zero. A run that completes none leaves the block word for word, and a set changes one word of it or none. On a block that is
- * no state's each is refused with 5, or with a number that is tested before 5, and the block stays as it was. A reset writes any block.
+ * no state's each is refused with 5, or with a number that is tested before 5, and the block stays as it was. A reset writes any block, a why
+ * reads it alone.
  */
 #ifndef TEJBORUN_H
 #define TEJBORUN_H
@@ -158,6 +159,25 @@ uint32_t tejborun_set(uint32_t *block, size_t block_words, uint32_t unit, uint32
  * quadword of a tag with EOP, or a tag with EOP and NLOOP 0. */
 uint32_t tejborun_run(const uint8_t *main, size_t main_bytes, uint32_t *data, size_t data_words, uint8_t *code, size_t code_bytes, uint64_t *log,
                       size_t log_numbers, uint32_t *block, size_t block_words, uint64_t allowance, uint64_t *result, size_t result_numbers);
+
+/* What the next step of a run on this state would be refused with; lent as to a run, and nothing is changed. No allowance has part in it: after 90 or 91 there
+ * is no complaint where the next step is not refused. Answers TEJBORUN_SHORT, or
+ *   TEJBORUN_WHY_NOTHING  no complaint,
+ *   TEJBORUN_WHY_ENDED    the chain has ended, with nothing pending,
+ *   TEJBORUN_WHY_ENTRY    a run is refused at its entry (1 to 5, 14), named first, also where the chain has ended,
+ *   TEJBORUN_WHY_STEP     the next step is refused (10 to 14, 20 to 26, 30, 31).
+ * result[0]: the refusal; result[1]: the address that the step reads, of the tag, the VIF word or the GIF quadword; result[2], result[3]: the numbers below; each
+ * 0 where there is none.
+ *   10: TADR. 11: ADDR, 31 bits. 12: SPR. 13: the addresses on the stack. 14: QWC, and the most quadwords that fit from where the payload begins.
+ *   20: CMD, 7 bits. 21: vn. 22: WL. 23: IMM bits 0 and 1. 24, 25: the word's number in its quadword, 0 to 3. 26: IMM bit 15.
+ *   30: the descriptor that is held, 11. 31: the entries free in the log, and those that the whole step needs, 1 or 2. */
+#define TEJBORUN_WHY_NOTHING 0u
+#define TEJBORUN_WHY_ENDED 1u
+#define TEJBORUN_WHY_ENTRY 2u
+#define TEJBORUN_WHY_STEP 3u
+#define TEJBORUN_WHY_NUMBERS 4u
+uint32_t tejborun_why(const uint8_t *main, size_t main_bytes, const uint32_t *data, size_t data_words, const uint8_t *code, size_t code_bytes,
+                      const uint64_t *log, size_t log_numbers, const uint32_t *block, size_t block_words, uint64_t *result, size_t result_numbers);
 
 /* Builds a sheet's chain at an address in main memory, starts it on channel 1 and runs it; it is lent VIF1's memories, whatever channel the block holds.
  * Answers the run's answer, or, before any memory is changed, 1 to 5 or the builder's refusal. result[0]: the steps completed; result[1]: the offset of the

@@ -1286,6 +1286,240 @@ static void test_wrong_entry(bool end)
     }
 }
 
+/* Why, with nothing lent that could be written but the result. */
+static uint32_t call_why(struct bench *bench)
+{
+    struct lent *lent = bench->lent;
+    for (int i = 0; i < RESULT; i++)
+        only_read(&lent[i], true);
+    uint32_t kind = tejborun_why(lent[MAIN].at, bench->lengths.main, words(&lent[DATA]), bench->lengths.data, lent[CODE].at, bench->lengths.code,
+                                 numbers(&lent[LOG]), bench->lengths.log, words(&lent[BLOCK]), bench->lengths.block, numbers(&lent[RESULT]),
+                                 bench->lengths.result);
+    for (int i = 0; i < RESULT; i++)
+        only_read(&lent[i], false);
+    return kind;
+}
+
+/* Whether it says this refusal, address and these numbers, and no more. */
+static bool told(const struct bench *bench, uint64_t refusal, uint64_t address, uint64_t first, uint64_t second)
+{
+    const uint64_t *result = numbers(&bench->lent[RESULT]);
+    return result[0] == refusal && result[1] == address && result[2] == first && result[3] == second && kept_outside(&bench->lent[RESULT]) &&
+           kept_from(bench, TEJBORUN_WHY_NUMBERS);
+}
+
+/* Lengths with room for what a why says and one number more. */
+static struct lengths for_why(struct lengths lengths)
+{
+    lengths.result = TEJBORUN_WHY_NUMBERS + 1;
+    return lengths;
+}
+
+/* A chain's main memory from address 0 on, its length in bytes, the channel, TTE and the log's entries; and what its last step is refused with. */
+struct why_stop {
+    uint32_t channel, tte;
+    size_t entries, bytes;
+    uint32_t words[20];
+    uint64_t refusal, address, first, second;
+};
+
+/* On channel 0 or 1: an end tag and four words; on channel 2: an end tag, a GIF tag and a quadword. */
+#define VIF_STOP(channel, a, b, c, d) channel, 0, 0, 32, {0x70000001, 0, 0, 0, a, b, c, d}
+#define GIF_STOP(entries, low, high, regs) 2, 0, entries, 48, {0x70000002, 0, 0, 0, low, high, regs, 0, 1, 2, 3, 4}
+#define DIRECT_STOP(entries, low, high, regs) 1, 0, entries, 64, {0x70000003, 0, 0, 0, 0, 0, 0, 0x50000002, low, high, regs, 0, 1, 2, 3, 4}
+#define PACKED 0x10000000
+#define REGLIST 0x24000000
+#define IMAGE 0x08000000
+#define WITH_PRE 0x4000
+
+static const struct why_stop why_stops[] = {
+    {1, 0, 0, 32, {0x20000000, 0x20}, TEJBORUN_BAD_TADR, 0x20, 0x20, 0},
+    {0, 0, 0, 16, {0x10000000}, TEJBORUN_BAD_TADR, 0x10, 0x10, 0},
+    {2, 0, 0, 16, {0x20000000, 0x7FFFFFF0}, TEJBORUN_BAD_TADR, 0x7FFFFFF0, 0x7FFFFFF0, 0},
+    {1, 0, 0, 32, {0x30000000, 8}, TEJBORUN_BAD_ADDR, 0, 8, 0},
+    {0, 0, 0, 32, {0x10000000, 0, 0, 0, 0x40000000, 0xFFFFFFFF}, TEJBORUN_BAD_ADDR, 0x10, 0x7FFFFFFF, 0},
+    {1, 0, 0, 32, {0x30000000, 0x80000000}, TEJBORUN_BAD_SPR, 0, 1, 0},
+    {2, 0, 0, 32, {0x10000000, 0, 0, 0, 0x00000009, 0x80000010}, TEJBORUN_BAD_SPR, 0x10, 1, 0},
+    {1, 0, 0, 32, {0x50000000, 0x10, 0, 0, 0x50000000, 0x10}, TEJBORUN_BAD_CALL, 0x10, 2, 0},
+    {1, 0, 0, 32, {0x10000002}, TEJBORUN_BAD_PAYLOAD, 0, 2, 1},
+    {0, 0, 0, 32, {0x10000000, 0, 0, 0, 0x7000FFFF}, TEJBORUN_BAD_PAYLOAD, 0x10, 0xFFFF, 0},
+    {2, 0, 0, 32, {0x30000003, 0}, TEJBORUN_BAD_PAYLOAD, 0, 3, 2},
+    {1, 0, 0, 32, {0x30000001, 0x20}, TEJBORUN_BAD_PAYLOAD, 0, 1, 0},
+    {1, 0, 0, 32, {0x00000001, 0x7FFFFFF0}, TEJBORUN_BAD_PAYLOAD, 0, 1, 0},
+    {VIF_STOP(1, 0, 0x08000000, 0, 0), TEJBORUN_BAD_CMD, 0x14, 0x08, 0},
+    {VIF_STOP(1, 0xDFFFFFFF, 0, 0, 0), TEJBORUN_BAD_CMD, 0x10, 0x5F, 0},
+    {VIF_STOP(0, 0, 0, 0, 0xD1000001), TEJBORUN_BAD_CMD, 0x1C, 0x51, 0},
+    {VIF_STOP(0, 0, 0, 0x02000005, 0), TEJBORUN_BAD_CMD, 0x18, 0x02, 0},
+    {1, 1, 0, 16, {0x70000000, 0, 0x08000000, 0}, TEJBORUN_BAD_CMD, 0x8, 0x08, 0},
+    {0, 1, 0, 32, {0x10000000, 0, 0, 0, 0x70000000, 0, 0, 0x50000000}, TEJBORUN_BAD_CMD, 0x1C, 0x50, 0},
+    {VIF_STOP(1, 0x63010000, 0, 0, 0), TEJBORUN_BAD_FORMAT, 0x10, 0, 0},
+    {VIF_STOP(0, 0, 0x67018000, 0, 0), TEJBORUN_BAD_FORMAT, 0x14, 1, 0},
+    {VIF_STOP(1, 0, 0, 0, 0xFB010000), TEJBORUN_BAD_FORMAT, 0x1C, 2, 0},
+    {VIF_STOP(1, 0x01000005, 0x6C010000, 0, 0), TEJBORUN_BAD_CYCLE, 0x14, 0, 0},
+    {VIF_STOP(0, 0, 0, 0x6C018000, 0), TEJBORUN_BAD_CYCLE, 0x18, 0, 0},
+    {VIF_STOP(1, 0x05000003, 0, 0, 0), TEJBORUN_BAD_MODE, 0x10, 3, 0},
+    {VIF_STOP(0, 0, 0x0500FFFF, 0, 0), TEJBORUN_BAD_MODE, 0x14, 3, 0},
+    {VIF_STOP(1, 0x50000001, 0, 0, 0), TEJBORUN_BAD_DIRECT, 0x14, 1, 0},
+    {VIF_STOP(1, 0, 0x51000001, 0, 0), TEJBORUN_BAD_DIRECT, 0x18, 2, 0},
+    {VIF_STOP(1, 0, 0, 0x50000001, 0), TEJBORUN_BAD_DIRECT, 0x1C, 3, 0},
+    {VIF_STOP(1, 0x4A010000, 0, 0, 0), TEJBORUN_BAD_MPG, 0x14, 1, 0},
+    {VIF_STOP(0, 0, 0, 0x4A000000, 0), TEJBORUN_BAD_MPG, 0x1C, 3, 0},
+    {VIF_STOP(0, 0x01000101, 0x6C018000, 0, 0), TEJBORUN_BAD_TOPS, 0x14, 1, 0},
+    {GIF_STOP(9, 0x8001, PACKED, 0xB), TEJBORUN_BAD_DESCRIPTOR, 0x20, 11, 0},
+    {GIF_STOP(0, 0x8001, REGLIST, 0xB5), TEJBORUN_BAD_DESCRIPTOR, 0x20, 11, 0},
+    {DIRECT_STOP(9, 0x8001, PACKED, 0xB), TEJBORUN_BAD_DESCRIPTOR, 0x30, 11, 0},
+    {VIF_STOP(1, 0x14000005, 0, 0, 0), TEJBORUN_LOG_FULL, 0x10, 0, 1},
+    {VIF_STOP(1, 0, 0x15000005, 0, 0), TEJBORUN_LOG_FULL, 0x14, 0, 1},
+    {VIF_STOP(0, 0, 0, 0x17000000, 0), TEJBORUN_LOG_FULL, 0x18, 0, 1},
+    {1, 0, 1, 32, {0x70000001, 0, 0, 0, 0x14000005, 0x17000000}, TEJBORUN_LOG_FULL, 0x14, 0, 1},
+    {GIF_STOP(0, 0x8001, PACKED | WITH_PRE, 0xE), TEJBORUN_LOG_FULL, 0x10, 0, 1},
+    {GIF_STOP(1, 0x8001, PACKED | WITH_PRE, 0xE), TEJBORUN_LOG_FULL, 0x20, 0, 1},
+    {GIF_STOP(0, 0x8001, REGLIST, 0x51), TEJBORUN_LOG_FULL, 0x20, 0, 2},
+    {GIF_STOP(1, 0x8001, REGLIST, 0x51), TEJBORUN_LOG_FULL, 0x20, 1, 2},
+    {GIF_STOP(0, 0x8001, REGLIST, 0xF1), TEJBORUN_LOG_FULL, 0x20, 0, 1},
+    {GIF_STOP(1, 0x8001, IMAGE, 0), TEJBORUN_LOG_FULL, 0x20, 1, 2},
+    {DIRECT_STOP(1, 0x8001, IMAGE, 0), TEJBORUN_LOG_FULL, 0x30, 1, 2},
+    {DIRECT_STOP(0, 0x8001, PACKED | WITH_PRE, 0xE), TEJBORUN_LOG_FULL, 0x20, 0, 1},
+};
+enum { WHY_STOPS = sizeof why_stops / sizeof why_stops[0] };
+
+/* The chain a step at a time, each asked about before it is made: no complaint of a step that is made, and the refusal of the one that is not. */
+static void try_why_stop(const struct why_stop *stop, bool end)
+{
+    struct lengths lengths = for_why(stop->channel == 0 ? good0 : good);
+    struct bench bench;
+    lengths.main = stop->bytes;
+    lengths.log = stop->entries * TEJBORUN_ENTRY_NUMBERS;
+    new_bench(&bench, lengths, NULL, 0, end);
+    memcpy(bench.lent[MAIN].at, stop->words, stop->bytes);
+    CHECK(tejborun_start(words(&bench.lent[BLOCK]), TEJBORUN_BLOCK_WORDS, stop->channel, 0, stop->tte) == TEJBORUN_DONE);
+    remember_all(&bench);
+    while (call_why(&bench) == TEJBORUN_WHY_NOTHING) {
+        CHECK(told(&bench, 0, 0, 0, 0) && all_unchanged(&bench));
+        remember(&bench.lent[RESULT]);
+        CHECK(call_run(&bench, 1) == TEJBORUN_ALLOWANCE && ran(&bench, 1, 0));
+        remember_all(&bench);
+    }
+    CHECK(call_why(&bench) == TEJBORUN_WHY_STEP && told(&bench, stop->refusal, stop->address, stop->first, stop->second) && all_unchanged(&bench));
+    remember(&bench.lent[RESULT]);
+    CHECK(call_run(&bench, 1) == stop->refusal && ran(&bench, 0, 0));
+    free_bench(&bench);
+}
+
+/* Whether a point has the refusal. */
+static bool has_why_stop(uint32_t refusal)
+{
+    for (size_t i = 0; i < WHY_STOPS; i++)
+        if (why_stops[i].refusal == refusal)
+            return true;
+    return false;
+}
+
+static void test_why_stops(bool end)
+{
+    for (uint32_t refusal = TEJBORUN_BAD_TADR; refusal <= TEJBORUN_LOG_FULL; refusal++)
+        CHECK(has_why_stop(refusal) ==
+              (refusal <= TEJBORUN_BAD_PAYLOAD || (refusal >= TEJBORUN_BAD_CMD && refusal <= TEJBORUN_BAD_TOPS) || refusal >= TEJBORUN_BAD_DESCRIPTOR));
+    for (size_t i = 0; i < WHY_STOPS; i++)
+        try_why_stop(&why_stops[i], end);
+}
+
+/* A sheet's chain a step at a time: no complaint up to its end, then that it has ended. */
+static void test_why_ended(bool end)
+{
+    struct bench bench;
+    new_bench(&bench, for_why(good), sheet, sizeof sheet, end);
+    CHECK(tejborun_build(sheet, sizeof sheet, bench.lent[MAIN].at, bench.lengths.main) == SHEET_CHAIN);
+    for (uint64_t step = 1; step <= SHEET_STEPS; step++) {
+        remember_all(&bench);
+        CHECK(call_why(&bench) == TEJBORUN_WHY_NOTHING && told(&bench, 0, 0, 0, 0) && all_unchanged(&bench));
+        CHECK(call_run(&bench, 1) == (step < SHEET_STEPS ? TEJBORUN_ALLOWANCE : TEJBORUN_DONE) && numbers(&bench.lent[RESULT])[0] == 1);
+    }
+    remember_all(&bench);
+    CHECK(call_why(&bench) == TEJBORUN_WHY_ENDED && told(&bench, 0, 0, 0, 0) && all_unchanged(&bench));
+    state(&bench.lent[BLOCK])->vif1.mode = 3;
+    remember_all(&bench);
+    CHECK(call_why(&bench) == TEJBORUN_WHY_ENTRY && told(&bench, TEJBORUN_BAD_VALUE, 0, 0, 0) && all_unchanged(&bench));
+    free_bench(&bench);
+}
+
+/* A run that stopped at a mark: no complaint, unless the step after it is refused. */
+static void test_why_mark(bool end)
+{
+    for (uint32_t cmd = 0; cmd <= 8; cmd += 8) {
+        const uint32_t chain[8] = {0x70000001, 0, 0, 0, 0x80000000, cmd << 24};
+        struct lengths lengths = for_why(good);
+        struct bench bench;
+        lengths.main = sizeof chain;
+        new_bench(&bench, lengths, NULL, 0, end);
+        memcpy(bench.lent[MAIN].at, chain, sizeof chain);
+        remember_all(&bench);
+        CHECK(call_run(&bench, UINT64_MAX) == TEJBORUN_INTERRUPT && ran(&bench, 2, 0));
+        remember_all(&bench);
+        CHECK(call_why(&bench) == (cmd == 0 ? TEJBORUN_WHY_NOTHING : TEJBORUN_WHY_STEP) && all_unchanged(&bench));
+        CHECK(cmd == 0 ? told(&bench, 0, 0, 0, 0) : told(&bench, TEJBORUN_BAD_CMD, 0x14, cmd, 0));
+        free_bench(&bench);
+    }
+}
+
+/* What a run is refused with at its entry, also where the next step would be refused and where the chain has ended; 60 before all else. */
+static void try_why_entry(const struct wrong *wrong, uint32_t ended, bool end)
+{
+    struct bench bench;
+    new_bench(&bench, but_for(for_why(good), wrong), NULL, 0, end);
+    if (bench.lengths.block > WORD(chain.used)) {
+        state(&bench.lent[BLOCK])->chain.used[0] = 2;
+        state(&bench.lent[BLOCK])->chain.ended = ended;
+    }
+    if (bench.lengths.main > 0)
+        bench.lent[MAIN].at[0] = 0xFF;
+    remember_all(&bench);
+    if (wrong->answer == TEJBORUN_SHORT)
+        CHECK(call_why(&bench) == TEJBORUN_SHORT && unchanged(&bench.lent[RESULT]));
+    else
+        CHECK(call_why(&bench) == TEJBORUN_WHY_ENTRY && told(&bench, wrong->answer, 0, 0, 0));
+    CHECK(all_unchanged(&bench));
+    free_bench(&bench);
+}
+
+/* Words pending, as a state has them: beyond main memory they are refused at the entry with 14, in it they are a step's. */
+static void try_why_pending(uint32_t at, uint32_t count, uint32_t kind, uint64_t refusal, bool end)
+{
+    struct bench bench;
+    new_bench(&bench, for_why(good), NULL, 0, end);
+    struct tejborun_chain *chain = &state(&bench.lent[BLOCK])->chain;
+    chain->ended = 1;
+    chain->payload_at = at;
+    chain->payload_words = count;
+    if (kind == TEJBORUN_WHY_STEP)
+        words(&bench.lent[MAIN])[at / 4] = 0x08000000;
+    remember_all(&bench);
+    CHECK(call_why(&bench) == kind && all_unchanged(&bench));
+    CHECK(kind == TEJBORUN_WHY_STEP ? told(&bench, refusal, at, 8, 0) : told(&bench, refusal, 0, 0, 0));
+    free_bench(&bench);
+}
+
+static void test_why_entry(bool end)
+{
+    static const struct wrong no_numbers[] = {
+        {LENGTH(result), 2, TEJBORUN_SHORT}, {LENGTH(result), TEJBORUN_WHY_NUMBERS - 1, TEJBORUN_SHORT}, {LENGTH(main), 255, TEJBORUN_BAD_MAIN},
+    };
+    for (uint32_t ended = 0; ended < 2; ended++) {
+        for (size_t i = 0; i < WRONG_ENTRY; i++)
+            try_why_entry(&wrong_entry[i], ended, end);
+        for (size_t i = 0; i < sizeof no_numbers / sizeof no_numbers[0]; i++)
+            try_why_entry(&no_numbers[i], ended, end);
+    }
+    try_why_pending(256, 4, TEJBORUN_WHY_ENTRY, TEJBORUN_BAD_PAYLOAD, end);
+    try_why_pending(240, 8, TEJBORUN_WHY_ENTRY, TEJBORUN_BAD_PAYLOAD, end);
+    try_why_pending(240, 4, TEJBORUN_WHY_STEP, TEJBORUN_BAD_CMD, end);
+    try_why_pending(252, 1, TEJBORUN_WHY_STEP, TEJBORUN_BAD_CMD, end);
+    try_why_pending(240, 4, TEJBORUN_WHY_NOTHING, 0, end);
+    try_why_pending(240, 0, TEJBORUN_WHY_ENDED, 0, end);
+    try_why_pending(8, 8, TEJBORUN_WHY_ENTRY, TEJBORUN_BAD_VALUE, end);
+    CHECK(tejborun_why(NULL, 0, NULL, 0, NULL, 0, NULL, 0, NULL, 0, NULL, 0) == TEJBORUN_SHORT);
+}
+
 /* Entries used whose numbers wrap: refused with 4, by runs on each channel. */
 static void test_wrapping(bool end)
 {
@@ -1691,6 +1925,10 @@ int main(void)
         test_waiting_set(end);
         test_set_seen(end);
         test_wrong_entry(end);
+        test_why_stops(end);
+        test_why_ended(end);
+        test_why_mark(end);
+        test_why_entry(end);
         test_wrapping(end);
         test_short_results(end);
         test_lengths_by_channel(end);
@@ -1710,6 +1948,7 @@ int main(void)
     puts("packets: each way to close one, on both paths, with every allowance; at a mark and before a refusal");
     puts("paths: 2, 3 and 0 in one log, in both orders of the channels, with room for every number of entries; entries used that wrap");
     puts("set: each register of both units, one word of the block and no other; 60, 50, 5, 51 in their order; seen by the run");
+    puts("why: every refusal of a step with its address and numbers, each step before it without complaint; ended; the entry's; 60; nothing lent is changed");
     puts("salvage: sheets cut and broken at every byte, records inside others, the longest; just enough room and too little; 60, 46, 55, 56 in their order");
     puts("state block: every word under its name");
     return 0;
