@@ -69,7 +69,7 @@ static int capture_line(const struct text *text, const struct line *line, struct
     const struct shape *call = shape_named(calls, line->item[0]);
     if (call != NULL)
         return call_line(text, line, call, parts);
-    return memory_line(text, line, ", and no capture, state, " BOARD_LINES ", start, run or set", &parts->main);
+    return memory_line(text, line, ", and no capture, state, " BOARD_LINES ", start, run, set or why", &parts->main);
 }
 
 static int read_parts(struct text *text, struct parts *parts)

@@ -126,7 +126,7 @@ static int check_rest(const char *name, const struct bytes *file, const struct c
     for (size_t i = 0; i < head->calls; i++) {
         uint32_t kind = get_word(file->at + calls_at(head) + CALL_BYTES * i);
         if (shape_of(calls, kind) == NULL)
-            return complain(name, "damaged capture: call %zu is of kind %" PRIu32 "; 1 is a start, 2 a run, 3 a set", i, kind);
+            return complain(name, "damaged capture: call %zu is of kind %" PRIu32 "; 1 is a start, 2 a run, 3 a set, 4 a why", i, kind);
     }
     return STATUS_DONE;
 }

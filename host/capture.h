@@ -20,7 +20,7 @@ struct capture_head {
 enum { CALL_WORDS = 4, CALL_BYTES = 4 * CALL_WORDS };
 
 /* The kinds of calls, a call's word 0. */
-enum { CALL_START = 1, CALL_RUN = 2, CALL_SET = 3 };
+enum { CALL_START = 1, CALL_RUN = 2, CALL_SET = 3, CALL_WHY = 4 };
 
 /* The most that a capture gives: a little more than a run takes, so that its refusals can be seen. */
 enum {
@@ -35,7 +35,7 @@ struct counts most_counts(void);
 size_t longest_capture(void);
 
 struct call {
-    uint32_t words[CALL_WORDS]; /* a start: 1, channel, TADR, TTE; a run: 2, the allowance, 0; a set: 3, unit, number, value */
+    uint32_t words[CALL_WORDS]; /* a start: 1, channel, TADR, TTE; a run: 2, the allowance, 0; a set: 3, unit, number, value; a why: 4, 0, 0, 0 */
 };
 
 struct capture {

@@ -34,8 +34,8 @@ static const struct command commands[] = {
      "The exit status is 0 where nothing was dropped, 1 where something was or the sheet is refused (46: longer than 131,072 bytes).\n"},
     {"meaning", 1, 1, 0, TAKES(OPTION_OUTPUT), true, command_meaning, "meaning SHEET -o RESULT",
      "Writes what the sheet says a board holds afterwards: its records fed to zero memories and an empty log.\n"},
-    {"run", 1, 1, 0, TAKES(OPTION_OUTPUT) | TAKES(OPTION_ALLOWANCE) | TAKES(OPTION_FROM) | TAKES(OPTION_NO_START), false, command_run,
-     "run CAPTURE [-o RESULT] [--allowance N] [--from RESULT] [--no-start]",
+    {"run", 1, 1, 0, TAKES(OPTION_OUTPUT) | TAKES(OPTION_ALLOWANCE) | TAKES(OPTION_FROM) | TAKES(OPTION_NO_START) | TAKES(OPTION_WHY), false,
+     command_run, "run CAPTURE [-o RESULT] [--allowance N] [--from RESULT] [--no-start] [--why]",
      "Makes the calls of a capture, prints the answer, the steps and the packets closed of each run, and writes what the last\n"
      "call leaves, with these numbers of the last run. A packet is closed by the last data of a GIF tag with EOP, or by a GIF\n"
      "tag with EOP and NLOOP 0.\n"
@@ -43,7 +43,20 @@ static const struct command commands[] = {
      "  --from RESULT  begins with the state, memories and log of a result, in place of the capture's zeros; memories that it\n"
      "                 lacks and no run works on are lacking afterwards too\n"
      "  --no-start     leaves the capture's starts and sets out: with --from a run goes on where it stopped\n"
-     "A refused run is written too, with what its steps left, and so is one that Ctrl-C stops, as if its allowance were used.\n"},
+     "  --why          says in the end why the last run stopped, as the command why does\n"
+     "A refused run says by itself why, and is written too, with what its steps left; so is one that Ctrl-C stops, as if its\n"
+     "allowance were used.\n"},
+    {"why", 1, 1, 0, TAKES(OPTION_ALLOWANCE) | TAKES(OPTION_FROM) | TAKES(OPTION_NO_START), false, command_why,
+     "why CAPTURE [--allowance N] [--from RESULT] [--no-start]",
+     "Runs a capture as run does and says in one sentence why the last run stopped; of a capture without a run, what the next step\n"
+     "would be refused with. The sentence has the refusal, the address of the tag, the VIF word or the GIF quadword, and the number\n"
+     "at fault there:\n"
+     "  refused 22 at 0x00000A30: UNPACK with WL 0       the next step is refused\n"
+     "  refused at the entry, 5: a state or start ..     no step is begun: the lengths, the state, or pending words (14)\n"
+     "  the chain has ended                              with nothing pending\n"
+     "  no complaint                                     the next step is not refused, as after a used allowance or a mark\n"
+     "  --allowance N, --from RESULT, --no-start         as for run\n"
+     "Nothing is written. The exit status is that of run.\n"},
     {"play", 1, 1, 0, TAKES(OPTION_OUTPUT), false, command_play, "play SHEET [-o RESULT]",
      "Builds the chain of a test sheet at address 0 and runs it from reset on channel 1, over zero memories and an empty log.\n"
      "Prints the answer, the steps and the packets closed, as run does.\n"},

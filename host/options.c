@@ -32,6 +32,7 @@ static const struct option_shape shapes[OPTIONS] = {
     [OPTION_ROW] = {"--row", "I=VALUE", false},
     [OPTION_COL] = {"--col", "I=VALUE", false},
     [OPTION_RANGES] = {"--ranges", "FILE", false},
+    [OPTION_WHY] = {"--why", NULL, false},
 };
 
 enum option part_option(enum part part)

@@ -1,4 +1,4 @@
-/* The commands run and play. */
+/* The commands run, why and play. */
 #include <inttypes.h>
 #include <stdlib.h>
 #include <string.h>
@@ -13,6 +13,7 @@
 #include "progress.h"
 #include "sheet.h"
 #include "tejborun.h"
+#include "why.h"
 #include "words.h"
 
 /* The exit status of an answer of a start, a set or a run. */
@@ -37,9 +38,12 @@ static void print_run(const struct result *result)
     print_counts(result);
 }
 
-static uint32_t make_start(size_t number, const uint32_t *words, struct board *board)
+/* Each makes its call and hands back the answer; quiet: says it only where it is refused. */
+static uint32_t make_start(size_t number, const uint32_t *words, struct board *board, bool quiet)
 {
     uint32_t answer = tejborun_start(board_block(board), TEJBORUN_BLOCK_WORDS, words[1], words[2], words[3]);
+    if (quiet && answer == TEJBORUN_DONE)
+        return answer;
     say("call %zu, start on channel %" PRIu32 " at 0x%" PRIX32 ", TTE %" PRIu32 ": answer %" PRIu32 ", %s%s\n", number, words[1], words[2], words[3],
         answer, answer == TEJBORUN_DONE ? "started" : "refused: ", answer == TEJBORUN_DONE ? "" : tejborun_message(answer));
     if (answer == TEJBORUN_BAD_VALUE)
@@ -47,11 +51,13 @@ static uint32_t make_start(size_t number, const uint32_t *words, struct board *b
     return answer;
 }
 
-static uint32_t make_set(size_t number, const uint32_t *words, struct board *board)
+static uint32_t make_set(size_t number, const uint32_t *words, struct board *board, bool quiet)
 {
     char what[REGISTER_TEXT];
     register_words(words[1], words[2], what);
     uint32_t answer = tejborun_set(board_block(board), TEJBORUN_BLOCK_WORDS, words[1], words[2], words[3]);
+    if (quiet && answer == TEJBORUN_DONE)
+        return answer;
     say("call %zu, set %s to 0x%08" PRIX32 ": answer %" PRIu32 ", %s%s\n", number, what, words[3], answer, answer == TEJBORUN_DONE ? "set" : "refused: ",
         answer == TEJBORUN_DONE ? "" : tejborun_message(answer));
     if (answer == TEJBORUN_BAD_VALUE)
@@ -59,11 +65,14 @@ static uint32_t make_set(size_t number, const uint32_t *words, struct board *boa
     return answer;
 }
 
-/* What runs work on beside the board; and whose memories they were lent, by VIF. */
+/* What runs work on beside the board; whose memories they were lent, by VIF; and why the last one stopped. Quiet: nothing is said of runs and whys. */
 struct lent {
     const uint8_t *main;
     size_t main_bytes;
+    bool quiet;
     bool memories[VIFS];
+    bool has_run;
+    struct why why;
 };
 
 /* A long run is made in slices of so many steps, each on what the one before left, and their counts are added: the same as one run, also where it is
@@ -90,9 +99,9 @@ static void run_slices(uint64_t allowance, struct lent *lent, struct result *res
     end_progress();
 }
 
-static void make_run(size_t number, uint64_t allowance, struct lent *lent, struct result *result)
+/* What a run with this allowance did. */
+static void say_run(size_t number, uint64_t allowance, const struct lent *lent, const struct result *result)
 {
-    run_slices(allowance, lent, result);
     if (allowance == UINT64_MAX)
         say("call %zu, run without limit: ", number);
     else
@@ -103,8 +112,32 @@ static void make_run(size_t number, uint64_t allowance, struct lent *lent, struc
     } else {
         print_run(result);
     }
-    if (result->answer == TEJBORUN_BAD_VALUE)
-        blame_state(&result->board.state);
+    if (status_of(result->answer) == STATUS_REFUSED)
+        say_why("  ", &lent->why);
+}
+
+static void make_run(size_t number, uint64_t allowance, struct lent *lent, struct result *result)
+{
+    run_slices(allowance, lent, result);
+    lent->has_run = true;
+    lent->why = ask_why(lent->main, lent->main_bytes, &result->board);
+    if (!lent->quiet)
+        say_run(number, allowance, lent, result);
+}
+
+static void make_why(size_t number, const struct lent *lent, const struct board *board)
+{
+    if (lent->quiet)
+        return;
+    struct why why = ask_why(lent->main, lent->main_bytes, board);
+    say("call %zu, ", number);
+    say_why("why: ", &why);
+}
+
+/* Whether a call is left out: starts and sets where the run goes on. */
+static bool is_left_out(const struct words_given *given, const uint32_t *words)
+{
+    return given->option[OPTION_NO_START] != NULL && (words[0] == CALL_START || words[0] == CALL_SET);
 }
 
 /* Makes the calls. The status: of a refusal, and of the last run where it stopped before the end; a capture without a run stops there too. */
@@ -115,15 +148,17 @@ static int make_calls(const struct words_given *given, const struct capture *cap
     for (size_t i = 0; i < capture->head.calls && !is_interrupted(); i++) {
         const uint32_t *words = capture->call[i].words;
         uint64_t allowance = given->option[OPTION_ALLOWANCE] != NULL ? given->allowance : join_words(words + 1);
-        if (words[0] != CALL_RUN && given->option[OPTION_NO_START] != NULL)
+        if (is_left_out(given, words))
             continue;
-        if (words[0] != CALL_RUN) {
-            status = worse(status, status_of((words[0] == CALL_START ? make_start : make_set)(i, words, &result->board)));
-            continue;
+        if (words[0] == CALL_RUN) {
+            make_run(i, allowance, lent, result);
+            last = status_of(result->answer);
+            status = worse(status, last == STATUS_STOPPED ? STATUS_DONE : last);
+        } else if (words[0] == CALL_WHY) {
+            make_why(i, lent, &result->board);
+        } else {
+            status = worse(status, status_of((words[0] == CALL_START ? make_start : make_set)(i, words, &result->board, lent->quiet)));
         }
-        make_run(i, allowance, lent, result);
-        last = status_of(result->answer);
-        status = worse(status, last == STATUS_STOPPED ? STATUS_DONE : last);
     }
     unwatch_interrupts();
     return worse(status, is_interrupted() ? STATUS_STOPPED : last);
@@ -139,16 +174,27 @@ static int keep_result(const struct words_given *given, const struct result *res
     return status == STATUS_DONE ? write_result(name, result) : status;
 }
 
+/* Says why the last run stopped, or, where there was none, what the next step would be refused with. */
+static void say_last_why(struct lent *lent, const struct board *board)
+{
+    if (!lent->has_run)
+        lent->why = ask_why(lent->main, lent->main_bytes, board);
+    say_why("", &lent->why);
+}
+
 /* Runs the capture over a board that has these parts; the others stay lacking in the result. */
 static int run_capture(const struct words_given *given, const struct capture *capture, struct board *board, unsigned parts)
 {
     uint8_t *main = capture_main(capture);
-    struct lent lent = {.main = main, .main_bytes = capture->head.main_bytes};
+    struct lent lent = {.main = main, .main_bytes = capture->head.main_bytes, .quiet = given->option[OPTION_QUIET] != NULL};
     struct result result = {.parts = parts, .board = copy_board(board)};
     int status = make_calls(given, capture, &lent, &result);
     if (!lent.memories[VIF0] && !lent.memories[VIF1])
         lent.memories[lent_vif(&result.board.state)] = true;
-    print_changes(board, &result.board, lent.memories);
+    if (!lent.quiet)
+        print_changes(board, &result.board, lent.memories);
+    if (given->option[OPTION_WHY] != NULL)
+        say_last_why(&lent, &result.board);
     status = worse(status, keep_result(given, &result));
     free(main);
     free_board(&result.board);
@@ -166,19 +212,19 @@ static bool begins_with_something(const struct capture *capture)
     return is_test_case(&capture->head) || memcmp(&reset, &capture->board.state, sizeof reset) != 0;
 }
 
-/* The parts that the runs work on, by the channels that are started; before the first start the state's own. */
+/* The parts that the runs and whys work on, by the channels that are started; before the first start the state's own. */
 static unsigned parts_needed(const struct words_given *given, const struct capture *capture, const struct tejborun_state *state)
 {
     unsigned parts = 0;
     enum vif vif = lent_vif(state);
     for (size_t i = 0; i < capture->head.calls; i++) {
         const uint32_t *words = capture->call[i].words;
-        if (words[0] == CALL_RUN)
+        if (words[0] == CALL_RUN || words[0] == CALL_WHY)
             parts |= parts_of(vif);
         else if (words[0] == CALL_START && given->option[OPTION_NO_START] == NULL)
             vif = words[1] == 0 ? VIF0 : VIF1;
     }
-    return parts;
+    return given->option[OPTION_WHY] != NULL ? parts | parts_of(vif) : parts;
 }
 
 /* Runs the capture over what a result holds. */
@@ -209,6 +255,14 @@ int command_run(const struct words_given *given)
     status = given->option[OPTION_FROM] != NULL ? run_from(given, &capture) : run_capture(given, &capture, &capture.board, PARTS_ALL);
     free_capture(&capture);
     return status;
+}
+
+/* Runs the capture and says the last sentence, and starts and sets that were refused. */
+int command_why(const struct words_given *given)
+{
+    struct words_given run = *given;
+    run.option[OPTION_WHY] = run.option[OPTION_QUIET] = "";
+    return command_run(&run);
 }
 
 /* Plays the sheet over the result's board; before is the same board. */

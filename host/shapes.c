@@ -140,10 +140,17 @@ static const struct field set_call[] = {
     {"value", 96, 32, FIELD_SHOWN | FIELD_HEX, NULL},
 };
 
+static const struct field why_call[] = {
+    {"word1", 32, 32, FIELD_HEX, NULL},
+    {"word2", 64, 32, FIELD_HEX, NULL},
+    {"word3", 96, 32, FIELD_HEX, NULL},
+};
+
 const struct shape calls[] = {
     {"start", 4, UINT32_MAX, CALL_START, LIST(start_call)},
     {"run", 4, UINT32_MAX, CALL_RUN, LIST(run_call)},
     {"set", 4, UINT32_MAX, CALL_SET, LIST(set_call)},
+    {"why", 4, UINT32_MAX, CALL_WHY, LIST(why_call)},
     END,
 };
 

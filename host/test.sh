@@ -159,19 +159,19 @@ state_words() {
 usage() {
     expect 0 --help
     says out 'tejborun build SHEET -o CHAIN'
-    for name in build steps salvage meaning run play set compare report dump assemble; do
+    for name in build steps salvage meaning run why play set compare report dump assemble; do
         expect 0 "$name" --help
         says out "usage: tejborun $name"
         expect 2 "$name"
         says err "usage: tejborun $name"
         expect 2 "$name" --nonsense
         says err 'unknown option --nonsense'
-        case $name in run) says err '; known are -o, --output, --allowance, --from, --no-start' ;; esac
+        case $name in run) says err '; known are -o, --output, --allowance, --from, --no-start, --why' ;; esac
         expect 2 "$name" a b c d
     done
     expect 2
     expect 2 nonsense
-    says err 'no such command; known are build, steps, salvage, meaning, run, play, set, compare, report, import, export, dump, assemble'
+    says err 'no such command; known are build, steps, salvage, meaning, run, why, play, set, compare, report, import, export, dump, assemble'
     expect 2 build a.sheet
     says err 'say with -o where to write'
     expect 2 build a.sheet -o
@@ -363,17 +363,23 @@ generated_sheets() {
 
 # replayed: reads the results of the case for its calls; sets where the last state block, the last run, each unit's memories and the log are, the exit status
 # that the calls have (3 where the last run stopped before the end or there is none, else 1 where a call was refused), and whether none did anything; the file runs
-# has answer, steps and packets of each run, the file given the state block that the case gives, with the registers set.
+# has answer, steps and packets of each run, the file whys the sentence of each why, the file given the state block that the case gives, with the registers set.
 # The lengths: VIF1's data and code memory, the log, VIF0's data and code memory, the number of calls.
 replayed() {
     data=$1 code=$2 log=$3 data0=$4 code0=$5 calls=$6
     at=0 block=none run=none memories=none memories0=none log_at=none any_refused=0 last=90 idle=1
     channel=$(($(words case "$case_head" 1)))
     : > runs
+    : > whys
     slice case "$case_head" "$block_bytes" > given
     for call in $(seq 0 $((calls - 1))); do
         kind=$(($(words case $((case_calls_at + 16 * call)) 1)))
-        set -- $(words results $at 5)
+        set -- $(words results $at 7)
+        if test "$kind" = 4; then
+            why_sentence $(($1)) $(($2)) $(($3)) $(($4 + ($5 << 32))) $(($6 + ($7 << 32))) >> whys
+            at=$((at + 28))
+            continue
+        fi
         answer=$1
         case $kind$answer in
         30)
@@ -399,6 +405,53 @@ replayed() {
     case $last in
     90 | 91) status=3 ;;
     *) status=$any_refused ;;
+    esac
+}
+
+# why_sentence KIND REFUSAL ADDRESS FIRST SECOND: what is said of these numbers of a why, on the channel; of an entry without its words.
+why_sentence() {
+    case $1 in
+    0) echo 'no complaint' ;;
+    1) echo 'the chain has ended' ;;
+    2) echo "refused at the entry, $2" ;;
+    *) echo "refused $2 at $(printf '0x%08X' "$3"): $(step_sentence "$2" "$4" "$5")" ;;
+    esac
+}
+
+step_sentence() {
+    case $1 in
+    10) printf 'TADR 0x%X lies outside main memory' "$2" ;;
+    11) printf 'ADDR 0x%X of the tag is no multiple of 16' "$2" ;;
+    12) echo "SPR $2 in a tag that uses ADDR" ;;
+    13) echo "call with $2 addresses on the stack" ;;
+    14) case $3 in 1) echo "a tag with QWC $2 where 1 quadword fits" ;; *) echo "a tag with QWC $2 where $3 quadwords fit" ;; esac ;;
+    20) case $channel in 0) unit=0 ;; *) unit=1 ;; esac; printf 'a VIF code with CMD 0x%02X, which VIF%s does not have' "$2" "$unit" ;;
+    21) echo "UNPACK with vl 3 and vn $2" ;;
+    22) echo "UNPACK with WL $2" ;;
+    23) echo "STMOD with mode $2" ;;
+    24) echo "DIRECT payload is due and the next word is word $2 of its quadword, not word 0" ;;
+    25) echo "the first payload word of an MPG is due and the next word is word $2 of its quadword" ;;
+    26) echo "UNPACK with IMM bit 15 (TOPS) $2 on VIF0" ;;
+    30) echo "GIF descriptor $2 (B) is met at its data" ;;
+    31) case $2 in 1) echo "the log lacks room: 1 entry free, $3 needed" ;; *) echo "the log lacks room: $2 entries free, $3 needed" ;; esac ;;
+    *) fail "a why with refusal $1" ;;
+    esac
+}
+
+# whys_said: what the run of the case says of its whys is replay's; each refused run has its sentence; why exits as the run does and says the last one.
+whys_said() {
+    sed -n 's/^call [0-9]*, why: //p' said | sed 's/^\(refused at the entry, [0-9]*\): .*/\1/' > got
+    same got whys "what is said of the whys of capture $number"
+    with_whys=$((with_whys + $(wc -l < whys)))
+    grep -A 1 '^call [0-9]*, run .*: answer [0-9]*, refused: ' said | sed -n 's/^  refused at the entry, \([0-9]*\): .*/\1/p;s/^  refused \([0-9]*\) at 0x.*/\1/p' > got
+    sed -n 's/^call [0-9]*, run .*: answer \([0-9]*\), refused: .*/\1/p' said > refusals
+    same got refusals "the sentences of the refused runs of capture $number"
+    expect "$status" why case
+    sed -n 's/^refused at the entry, \([0-9]*\): .*/\1/p;s/^refused \([0-9]*\) at 0x.*/\1/p;s/^the chain has ended$/0/p;s/^no complaint$/none/p' out > got
+    test "$(wc -l < got)" = 1 || fail "why says not one sentence of capture $number"
+    case $run$last in
+    none* | *90 | *91) ;;
+    *) test "$(cat got)" = "$last" || fail "why says $(cat got), not $last of capture $number" ;;
     esac
 }
 
@@ -476,6 +529,7 @@ one_capture() {
     same part wanted "capture $number"
     sed -n 's/^call .*, run .*: answer \([0-9]*\), .*; \([0-9]*\) steps*; /\1 \2 /p' said > got
     same got runs "what is said of the runs of capture $number"
+    whys_said
     with_packets=$((with_packets + $(grep -vc 'no packet closed' runs)))
     case $memories0 in none) ;; *) on_vif0=$((on_vif0 + 1)) ;; esac
     round result result
@@ -484,7 +538,7 @@ one_capture() {
 generated_captures() {
     "$second" generate-capture 2 100 > captures || fail 'generate-capture'
     size=$(wc -c < captures)
-    at_case=0 number=0 tried=0 on_vif0=0 with_packets=0 with_sets=0
+    at_case=0 number=0 tried=0 on_vif0=0 with_packets=0 with_sets=0 with_whys=0
     while test $at_case -lt "$size"; do
         set -- $(words captures $((at_case + 8)) 8)
         length=$((case_calls_at + 16 * $8 + 4 * $1))
@@ -496,7 +550,7 @@ generated_captures() {
         at_case=$((at_case + length)) number=$((number + 1))
     done
     echo "generated captures: $tried of $number to text and back (capture, state, main memory, result), run as replay runs them; $on_vif0 with a run on VIF0," \
-        "$with_packets runs that closed packets, $with_sets registers set"
+        "$with_packets runs that closed packets, $with_sets registers set, $with_whys whys"
 }
 
 examples() {
@@ -636,8 +690,8 @@ damaged_files() {
     limit 40 $((data0_words + 4))
     limit 52 65536
     limit "$calls_at" 0
-    limit "$calls_at" 4
-    says err 'call 0 is of kind 4; 1 is a start, 2 a run, 3 a set'
+    limit "$calls_at" 5
+    says err 'call 0 is of kind 5; 1 is a start, 2 a run, 3 a set, 4 a why'
     sed 's/^capture/capture fill=0/' "$here/../examples/difference.capture.txt" > test-case.txt
     expect 0 assemble capture test-case.txt -o test-case
     patched test-case 32 2
@@ -803,7 +857,7 @@ bad_texts() {
     bad_text chain 1 'at 0xFFFFFFFFFFFFFFFF: main memory ends' 'at 0xFFFFFFFFFFFFFFFF\n'
     bad_text chain 1 "'vector' is no tag (refe, cnt, next, ref, refs, call, ret, end), code (NOP, STCYCL, " 'vector 1 2 3 4\n'
     bad_text capture 2 "'vector' is no tag (refe, " 'capture\nvector 1 2 3 4\n'
-    says err ', giftag, word, byte or at, and no capture, state, quadword, instruction, vif0.quadword, vif0.instruction, entry, start, run or set'
+    says err ', giftag, word, byte or at, and no capture, state, quadword, instruction, vif0.quadword, vif0.instruction, entry, start, run, set or why'
     bad_text chain '' 'makes 4 bytes; a chain is whole quadwords' 'NOP\n'
     bad_text chain '' 'makes 0 bytes' '\n# nothing\n'
     bad_text chain '' 'makes 1048592 bytes' 'at 0x100010\n'
@@ -2660,6 +2714,232 @@ salvage_shown() {
     same new/late whole.sheet
 }
 
+# Why it stopped: each refusal in a sentence with its numbers, by the command, by a run and by a capture's calls; nothing is changed.
+whys() {
+    why_of_tags
+    why_of_words
+    why_of_quadwords
+    why_at_entry
+    why_unrefused
+    why_of_last_run
+    why_calls
+    why_options
+    echo "whys: each refusal of a tag, a VIF word, a GIF quadword and at the entry in a sentence; ended, no complaint; by why, run, run --why and calls; nothing changed"
+}
+
+# why_told STATUS SENTENCE TEXT: of the capture of the text why says the sentence, and so does run --why in the end; a run that is refused says it by itself.
+why_told() {
+    capture_of why.capture "$3"
+    expect "$1" why why.capture
+    test "$(head -n 1 out)" = "$2" || { cat out >&2; fail "why does not say: $2"; }
+    test ! -s err || fail "why complains: $(cat err)"
+    cp out alone
+    expect "$1" run why.capture
+    case $1 in
+    1) grep -qxF -- "  $2" out || { cat out >&2; fail "run does not say: $2"; } ;;
+    *) if grep -q '^  refused' out; then fail 'a sentence where no run was refused'; fi ;;
+    esac
+    cp out without
+    expect "$1" run why.capture --why
+    cat without alone > wanted
+    same out wanted 'run --why'
+}
+
+# why_step REFUSAL ADDRESS WORDS HEAD CHAIN: a run from address 0, with this head and start, is refused so.
+why_step() {
+    why_told 1 "refused $1 at $2: $3" "capture $4\nrun\n$5\n"
+}
+
+why_of_tags() {
+    small='main-bytes=32\nstart'
+    why_step 10 0x00000020 'TADR 0x20 lies outside main memory' "$small" 'next addr=0x20'
+    why_step 10 0x7FFFFFF0 'TADR 0x7FFFFFF0 lies outside main memory' 'main-bytes=32\nstart channel=2' 'next addr=0x7FFFFFF0'
+    why_step 11 0x00000010 'ADDR 0x18 of the tag is no multiple of 16' "$small" 'cnt\nref addr=0x18 spr=1'
+    why_step 11 0x00000000 'ADDR 0x7FFFFFFF of the tag is no multiple of 16' 'main-bytes=32\nstart channel=0' 'call addr=0x7FFFFFFF'
+    why_step 12 0x00000010 'SPR 1 in a tag that uses ADDR' "$small" 'cnt\nrefs addr=0x10 spr=1'
+    why_step 13 0x00000000 'call with 2 addresses on the stack' "$small" 'call addr=0'
+    why_step 14 0x00000040 'a tag with QWC 300 where 12 quadwords fit' 'main-bytes=272\nstart' 'cnt\ncnt\ncnt\ncnt\nend qwc=300'
+    why_step 14 0x00000000 'a tag with QWC 2 where 1 quadword fits' "$small" 'cnt qwc=2'
+    why_step 14 0x00000010 'a tag with QWC 65535 where 0 quadwords fit' "$small" 'cnt\nrefe qwc=65535 addr=0x20'
+}
+
+why_of_words() {
+    for unit in 0 1; do
+        small="main-bytes=32\nstart channel=$unit"
+        why_step 20 0x00000014 "a VIF code with CMD 0x08, which VIF$unit does not have" "$small" 'end qwc=1\nNOP\nword 0x08000000'
+        why_step 20 0x00000008 "a VIF code with CMD 0x5F, which VIF$unit does not have" "$small tte=1" 'end word2=0xDFFFFFFF'
+        for vn in 0 1 2; do
+            why_step 21 0x0000001C "UNPACK with vl 3 and vn $vn" "$small" "end qwc=1\nNOP\nNOP\nNOP\nword $(((99 + 4 * vn) << 24))"
+        done
+        why_step 22 0x00000A30 'UNPACK with WL 0' "main-bytes=4096\nstart channel=$unit tadr=0xA20" 'at 0xA20\nend qwc=1\nUNPACK format=V4-32 num=1'
+        why_step 23 0x00000014 'STMOD with mode 3' "$small" 'end qwc=1\nNOP\nSTMOD mode=3 rest=5'
+        why_step 25 0x00000014 'the first payload word of an MPG is due and the next word is word 1 of its quadword' "$small" 'end qwc=1\nMPG num=1'
+        why_step 25 0x0000001C 'the first payload word of an MPG is due and the next word is word 3 of its quadword' "$small" 'end qwc=1\nNOP\nNOP\nMPG num=1'
+        why_step 31 0x00000010 'the log lacks room: 0 entries free, 1 needed' "log-entries=0 $small" 'end qwc=1\nMSCAL imm=5'
+        why_step 31 0x00000018 'the log lacks room: 0 entries free, 1 needed' "log-entries=2 $small" 'end qwc=1\nMSCAL\nMSCNT\nMSCNT'
+    done
+    for code in OFFSET:02 BASE:03 MSKPATH3:06 FLUSH:11 FLUSHA:13 MSCALF:15 DIRECT:50 DIRECTHL:51; do
+        why_step 20 0x00000010 "a VIF code with CMD 0x${code#*:}, which VIF0 does not have" 'main-bytes=32\nstart channel=0' "end qwc=1\n${code%:*}"
+    done
+    why_step 26 0x00000014 'UNPACK with IMM bit 15 (TOPS) 1 on VIF0' 'main-bytes=32\nstart channel=0' 'end qwc=1\nSTCYCL cl=1 wl=1\nUNPACK format=V4-32 num=1 tops=1'
+    nops=''
+    for word in 1 2 3; do
+        why_step 24 "$(printf '0x%08X' $((16 + 4 * word)))" \
+            "DIRECT payload is due and the next word is word $word of its quadword, not word 0" 'main-bytes=32\nstart' "end qwc=1\n${nops}DIRECT imm=1"
+        nops="${nops}NOP\n"
+    done
+}
+
+# why_quadword REFUSAL WORDS ENTRIES TAG PLACE: the GIF tag or its data (PLACE 0 or 1) is refused so, by DIRECT and on channel 2.
+why_quadword() {
+    why_step "$1" "0x000000$((1 + $5))0" "$2" "log-entries=$3 main-bytes=64\nstart channel=2" "end qwc=2\n$4\nword 1 2 3 4"
+    why_step "$1" "0x000000$((2 + $5))0" "$2" "log-entries=$3 main-bytes=64\nstart" "end qwc=3\nNOP\nNOP\nNOP\nDIRECT imm=2\n$4\nword 1 2 3 4"
+}
+
+why_of_quadwords() {
+    why_quadword 30 'GIF descriptor 11 (B) is met at its data' 9 'giftag nloop=1 eop=1 nreg=1 regs=0xB' 1
+    why_quadword 30 'GIF descriptor 11 (B) is met at its data' 0 'giftag nloop=1 eop=1 flg=REGLIST nreg=2 regs=0xB1' 1
+    why_quadword 31 'the log lacks room: 0 entries free, 1 needed' 0 'giftag nloop=1 eop=1 nreg=1 regs=0xE' 1
+    why_quadword 31 'the log lacks room: 0 entries free, 1 needed' 0 'giftag nloop=1 eop=1 pre=1 prim=6 nreg=1 regs=0xE' 0
+    why_quadword 31 'the log lacks room: 0 entries free, 1 needed' 1 'giftag nloop=1 eop=1 pre=1 prim=6 nreg=1 regs=0xE' 1
+    why_quadword 31 'the log lacks room: 1 entry free, 2 needed' 1 'giftag nloop=1 eop=1 flg=IMAGE' 1
+    why_quadword 31 'the log lacks room: 0 entries free, 2 needed' 0 'giftag nloop=1 eop=1 flg=REGLIST nreg=2 regs=0x51' 1
+}
+
+# A refusal at the entry comes first, also on a chain that has ended, and has no address; 14 there is another than that of a tag; 5 names the fields.
+why_at_entry() {
+    for state in '' 'state ended=1\n'; do
+        why_told 1 'refused at the entry, 1: main memory has length 0, no multiple of 16 or more than 1,048,576 bytes' "capture main-bytes=8\n${state}run\n"
+        why_told 1 'refused at the entry, 2: data memory is not 4,096 words, of VIF0 (channel 0) not 1,024' "capture data-words=8\n${state}run\n"
+        why_told 1 'refused at the entry, 2: data memory is not 4,096 words, of VIF0 (channel 0) not 1,024' "capture vif0.data-words=8\n${state}state channel=0\nrun\n"
+        why_told 1 'refused at the entry, 3: code memory is not 16,384 bytes, of VIF0 (channel 0) not 4,096' "capture code-bytes=8\n${state}run\n"
+        why_told 1 "refused at the entry, 4: the log's length is no multiple of 3, above 196,608 numbers or below three times the entries used" \
+            "capture log-entries=1\n${state}state used=2\nrun\n"
+        why_told 1 'refused at the entry, 5: a state or start value is outside the range of its field' "capture\n${state}state mode=3\nrun\n"
+        test "$(tail -n 1 alone)" = '  out of its range: state mode=3' || fail 'the field of 5'
+        why_told 1 'refused at the entry, 14: payload or pending words lie outside main memory' "capture main-bytes=32\n${state}state payload-words=8 payload-at=0x10\nrun\n"
+    done
+}
+
+# The chain has ended, with nothing pending; no complaint after an allowance or a mark, unless the next step is refused. Without a run it is said of the next step.
+why_unrefused() {
+    why_told 0 'the chain has ended' 'capture\nstart\nrun\nend\n'
+    why_told 0 'the chain has ended' 'capture\nstate ended=1\nrun\n'
+    why_told 3 'the chain has ended' 'capture\nstate ended=1\n'
+    why_told 3 'no complaint' 'capture main-bytes=32\nstate ended=1 payload-words=4 payload-at=0x10\n'
+    why_told 3 'refused 20 at 0x00000010: a VIF code with CMD 0x08, which VIF1 does not have' \
+        'capture main-bytes=32\nstate ended=1 payload-words=4 payload-at=0x10\nend\nword 0x08000000\n'
+    why_told 3 'no complaint' 'capture\nstart\nrun allowance=0\nend\n'
+    why_told 3 'no complaint' 'capture main-bytes=32\nstart\nrun\nend qwc=1\nNOP irq=1\n'
+    why_told 3 'refused 23 at 0x00000014: STMOD with mode 3' 'capture main-bytes=32\nstart\nrun\nend qwc=1\nNOP irq=1\nSTMOD mode=3\n'
+    why_told 3 'refused 23 at 0x00000014: STMOD with mode 3' 'capture main-bytes=32\nstart\nrun allowance=2\nend qwc=1\nNOP\nSTMOD mode=3\n'
+    why_told 3 'no complaint' 'capture\n'
+    why_told 3 'refused 12 at 0x00000000: SPR 1 in a tag that uses ADDR' 'capture\nstart\nref spr=1\n'
+    why_told 3 'refused at the entry, 5: a state or start value is outside the range of its field' 'capture\nstate mode=3\n'
+    test "$(tail -n 1 alone)" = '  out of its range: state mode=3' || fail 'the field of 5 without a run'
+}
+
+# Of several runs the last; what follows it is not asked about. A start and a set that are refused are said.
+why_of_last_run() {
+    why_told 0 'the chain has ended' 'capture main-bytes=32\nstart\nrun\nstart tadr=0x10\nend\nref spr=1\n'
+    capture_of why.capture 'capture main-bytes=32\nstart tadr=0x10\nrun\nstart\nrun\nend\nref spr=1\n'
+    expect 1 why why.capture
+    test "$(cat out)" = 'the chain has ended' || fail 'not the last run'
+    expect 1 run why.capture --why
+    says out '  refused 12 at 0x00000010: SPR 1 in a tag that uses ADDR'
+    test "$(tail -n 1 out)" = 'the chain has ended' || fail 'not the last run, by run --why'
+    capture_of why.capture 'capture main-bytes=16\nset register=8 value=1\nstart channel=3\nstart\nrun\nend\n'
+    expect 1 why why.capture
+    says out "call 0, set VIF1's register 8 to 0x00000001: answer 50, refused: "
+    says out 'call 1, start on channel 3 at 0x0, TTE 0: answer 5, refused: '
+    test "$(wc -l < out)" = 4 || fail 'more than the refusals is said'
+    test "$(tail -n 1 out)" = 'the chain has ended' || fail 'a sentence after refusals'
+}
+
+# A why among the calls: said where it stands, and nothing else changes; as text and back with all its words.
+why_calls() {
+    chain='end qwc=1\nNOP\nMSCAL imm=5\nSTMOD mode=3\n'
+    capture_of with.capture "capture main-bytes=32\nwhy\nstart\nwhy\nrun allowance=3\nwhy\nset register=row0 value=7\nrun\nwhy\n$chain"
+    capture_of without.capture "capture main-bytes=32\nstart\nrun allowance=3\nset register=row0 value=7\nrun\n$chain"
+    round capture with.capture
+    expect 1 run with.capture -o with.result
+    sed -n 's/^call [0-9]*, why: //p' out > got
+    printf '%s\n' 'no complaint' 'no complaint' 'refused 23 at 0x00000018: STMOD with mode 3' 'refused 23 at 0x00000018: STMOD with mode 3' > wanted
+    same got wanted 'the whys of a capture'
+    says out 'call 4, why: refused 23'
+    cp out said
+    expect 1 run without.capture -o without.result
+    same with.result without.result 'a why changes nothing'
+    grep -v ', why: ' said | sed 's/^call [0-9]*//' > got
+    sed 's/^call [0-9]*//' out > wanted
+    same got wanted 'all else that is said'
+    expect 1 why with.capture
+    test "$(cat out)" = 'refused 23 at 0x00000018: STMOD with mode 3' || fail 'whys among the calls of why'
+    set -- $(words with.capture "$calls_at" 4)
+    test "$*" = '4 0 0 0' || fail "the words of a why: $*"
+    capture_of words.capture 'capture\nwhy word1=1 word2=0xFFFFFFFF word3=3\nwhy word3=1\n'
+    round capture words.capture
+    says round.txt 'why word1=0x1 word2=0xFFFFFFFF word3=0x3'
+    expect 3 run words.capture
+    says out 'call 0, why: no complaint'
+    capture_of five.capture 'capture\nstate mode=3\nwhy\n'
+    expect 3 run five.capture
+    says out 'call 0, why: refused at the entry, 5: '
+    says out '  out of its range: state mode=3'
+    bad_text capture 2 "'why' has no field 'allowance'; it has word1, word2, word3" 'capture\nwhy allowance=1\n'
+    why_of_channels
+}
+
+# A why is of the unit of the channel that the state holds: of VIF0's memories on channel 0.
+why_of_channels() {
+    capture_of channels.capture 'capture main-bytes=32 vif0.data-words=8\nwhy\nstart channel=0\nwhy\nstart channel=2\nwhy\nend\n'
+    expect 3 run channels.capture
+    sed -n 's/^call [0-9]*, why: //p' out > got
+    printf '%s\n' 'no complaint' 'refused at the entry, 2: data memory is not 4,096 words, of VIF0 (channel 0) not 1,024' 'no complaint' > wanted
+    same got wanted 'whys on three channels'
+}
+
+why_options() {
+    chain='end qwc=1\nNOP\nNOP\nSTMOD mode=3\n'
+    capture_of why.capture "capture main-bytes=32\nstart\nwhy\nrun\n$chain"
+    expect 3 why why.capture --allowance 2
+    test "$(cat out)" = 'no complaint' || fail 'why --allowance'
+    expect 3 why why.capture --allowance=3
+    test "$(cat out)" = 'refused 23 at 0x00000018: STMOD with mode 3' || fail 'why before a refused step'
+    expect 3 run why.capture --allowance 2 -o half.result
+    expect 1 why why.capture --from half.result --no-start
+    test "$(cat out)" = 'refused 23 at 0x00000018: STMOD with mode 3' || fail 'why --from'
+    expect 1 run why.capture --from half.result --no-start --why
+    says out 'call 1, why: no complaint'
+    test "$(tail -n 1 out)" = 'refused 23 at 0x00000018: STMOD with mode 3' || fail 'run --from --why'
+    expect 1 run why.capture --why -o why.result
+    expect 1 run why.capture -o plain.result
+    same why.result plain.result 'run --why'
+    "$command" run why.capture --why -o - > got 2> err
+    same got plain.result 'run --why to standard output'
+    says err 'refused 23 at 0x00000018: STMOD with mode 3'
+    "$command" why - < why.capture > out 2> err
+    test "$?$(cat out)" = '1refused 23 at 0x00000018: STMOD with mode 3' || fail 'why of standard input'
+    expect 2 why why.capture -o bad.out
+    says err 'unknown option -o; known are --allowance, --from, --no-start'
+    expect 2 why why.capture --why
+    expect 2 run why.capture --why=1
+    says err '--why takes no value'
+    expect 2 why missing.capture
+    expect 2 why plain.result
+    absent bad.out
+    head -c $((4 * data_words)) /dev/zero > zero.data
+    expect 0 import --data zero.data -o lacks.result
+    for words in 'why start' 'run why'; do
+        capture_of lacks.capture "capture main-bytes=32\n${words#* }\nend\n"
+        expect 2 ${words% *} lacks.capture --from lacks.result
+        says err "lacks.result: has VIF1's data memory: this run begins with VIF1's data memory, VIF1's code memory and log"
+    done
+    capture_of endless.capture 'capture\nstart\nrun\nnext addr=0\n'
+    timeout --foreground --preserve-status -k 20 -s INT 1 "$command" why endless.capture > out 2> err
+    test "$?$(cat out)" = '3no complaint' || fail "Ctrl-C: $(cat out err)"
+}
+
 # What is given twice; and every one of 65,536 differences shown in a moment.
 repeated() {
     bad_text result 3 'quadword 10 is given twice' 'result\nquadword 10 1 2 3 4\nquadword 10 1 2 3 4\n'
@@ -2679,7 +2959,7 @@ repeated() {
 }
 
 for name in ${TESTS:-layout state_words usage bench_points meanings refused_sheets examples comparisons damaged_files other_layouts bad_texts entries_used \
-    unfinished beginnings one_file outputs dashes repeated rack messages long_runs conventions report dumps vif0 packets paths registers salvages generated_sheets generated_captures}; do
+    unfinished beginnings one_file outputs dashes repeated rack messages long_runs conventions report dumps vif0 packets paths registers whys salvages generated_sheets generated_captures}; do
     "$name"
 done
 echo "host/test.sh: all as it has to be"
