@@ -14,6 +14,7 @@ printf 'capture fill=5 whole=1\nstate mode=2\nquadword 3 1 2 3 4\ninstruction 5 
 seed 0 capture-vif0 < "$examples/vif0.capture.txt"
 seed 0 capture-paths < "$examples/paths.capture.txt"
 printf 'capture\nset unit=0 register=row3 value=-1\nstart\nset register=8 value=0x3F800000\nrun allowance=2\nset unit=2 register=col1 value=7\nrun\nend\n' | seed 0 capture-sets
+printf 'capture main-bytes=32\nwhy\nstart\nrun allowance=2\nwhy word1=5 word2=-1 word3=0x7\nrun\nwhy\nend qwc=1\nNOP\nSTMOD mode=3\n' | seed 0 capture-whys
 printf 'capture log-entries=7 log-rest=2\nentry 0 path=3 PRIM 1\nentry 1 MSCNT 0\nstart\nrun\nend\n' | seed 0 capture-log
 printf 'capture vif0.data-words=8 vif0.code-bytes=16 fill=5\nstate channel=0 vif0.waiting=MPG vif0.due=2 vif0.count=1\nstart\nrun\nend\n' | seed 0 case-vif0
 "$command" dump "$out/../r" | seed 1 result

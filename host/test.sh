@@ -386,10 +386,11 @@ replayed() {
             set_given $(words case $((case_calls_at + 16 * call + 4)) 3)
             with_sets=$((with_sets + 1))
             ;;
-        ?0 | ?90 | ?91) idle=0 ;;
+        10) idle=0 ;;
+        ?0 | ?90 | ?91) ;;
         *) any_refused=1 ;;
         esac
-        if test "$kind" = 2 && test "$2" != 0; then idle=0; fi
+        if test "$kind" = 2 && test "$2 $3" != '0 0'; then idle=0; fi
         if test "$kind" != 2; then
             block=$((at + 4))
             at=$((at + 4 + block_bytes))
@@ -524,7 +525,7 @@ one_capture() {
     expect "$status" run case -o result
     cp out said
     if test $run = none; then head -c "$result_head" result > part; else cp result part; fi
-    # A refusal changes no buffer: then the words that mean nothing may stand as they were given, where replay writes zero.
+    # A refusal and a run without a step change no block: then the words that mean nothing may stand as they were given, where replay writes zero.
     if test $idle = 1 && ! cmp -s part wanted; then wanted_result given 0 > wanted; fi
     same part wanted "capture $number"
     sed -n 's/^call .*, run .*: answer \([0-9]*\), .*; \([0-9]*\) steps*; /\1 \2 /p' said > got

@@ -1,14 +1,15 @@
 # Completion of tejborun's words for bash.
 _tejborun() {
     local word=${COMP_WORDS[COMP_CWORD]} command=${COMP_WORDS[1]}
-    local commands='build steps salvage meaning run play set compare report import export dump assemble help'
+    local commands='build steps salvage meaning run why play set compare report import export dump assemble help'
     local kinds='sheet chain state capture result'
     local parts='data code data0 code0 log'
     local registers='0= 1= 2= 3='
     local options='--help'
     case $command in
     build | meaning | play) options='-o --output --help' ;;
-    run) options='-o --output --allowance --from --no-start --help' ;;
+    run) options='-o --output --allowance --from --no-start --why --help' ;;
+    why) options='--allowance --from --no-start --help' ;;
     salvage) options='-o --output --ranges --quiet --json --help' ;;
     set) options='-o --output --unit --row --col --help' ;;
     compare) options='--only --all --unfinished --quiet --json --help' ;;
