@@ -166,8 +166,8 @@ uint32_t tejborun_run(const uint8_t *main, size_t main_bytes, uint32_t *data, si
  *   TEJBORUN_WHY_ENDED    the chain has ended, with nothing pending,
  *   TEJBORUN_WHY_ENTRY    a run is refused at its entry (1 to 5, 14), named first, also where the chain has ended,
  *   TEJBORUN_WHY_STEP     the next step is refused (10 to 14, 20 to 26, 30, 31).
- * result[0]: the refusal; result[1]: the address that the step reads, of the tag, the VIF word or the GIF quadword; result[2], result[3]: the numbers below; each
- * 0 where there is none.
+ * result[0]: the refusal; result[1]: the address that the step reads, of the tag, the VIF word or the GIF quadword; result[2], result[3]: the numbers below;
+ * each 0 where there is none.
  *   10: TADR. 11: ADDR, 31 bits. 12: SPR. 13: the addresses on the stack. 14: QWC, and the most quadwords that fit from where the payload begins.
  *   20: CMD, 7 bits. 21: vn. 22: WL. 23: IMM bits 0 and 1. 24, 25: the word's number in its quadword, 0 to 3. 26: IMM bit 15.
  *   30: the descriptor that is held, 11. 31: the entries free in the log, and those that the whole step needs, 1 or 2. */

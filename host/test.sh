@@ -2933,7 +2933,7 @@ why_options() {
     expect 0 import --data zero.data -o lacks.result
     for words in 'why start' 'run why'; do
         capture_of lacks.capture "capture main-bytes=32\n${words#* }\nend\n"
-        expect 2 ${words% *} lacks.capture --from lacks.result
+        expect 2 "${words% *}" lacks.capture --from lacks.result
         says err "lacks.result: has VIF1's data memory: this run begins with VIF1's data memory, VIF1's code memory and log"
     done
     capture_of endless.capture 'capture\nstart\nrun\nnext addr=0\n'
