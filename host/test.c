@@ -1499,6 +1499,20 @@ static void try_why_pending(uint32_t at, uint32_t count, uint32_t kind, uint64_t
     free_bench(&bench);
 }
 
+/* A block that is no state's: 5, after the lengths. */
+static void try_why_no_state(size_t word, uint32_t value, size_t main_bytes, bool end)
+{
+    struct lengths lengths = for_why(good);
+    struct bench bench;
+    lengths.main = main_bytes;
+    new_bench(&bench, lengths, NULL, 0, end);
+    words(&bench.lent[BLOCK])[word] = value;
+    remember_all(&bench);
+    CHECK(call_why(&bench) == TEJBORUN_WHY_ENTRY && all_unchanged(&bench));
+    CHECK(told(&bench, main_bytes == good.main ? TEJBORUN_BAD_VALUE : TEJBORUN_BAD_MAIN, 0, 0, 0));
+    free_bench(&bench);
+}
+
 static void test_why_entry(bool end)
 {
     static const struct wrong no_numbers[] = {
@@ -1509,6 +1523,10 @@ static void test_why_entry(bool end)
             try_why_entry(&wrong_entry[i], ended, end);
         for (size_t i = 0; i < sizeof no_numbers / sizeof no_numbers[0]; i++)
             try_why_entry(&no_numbers[i], ended, end);
+    }
+    for (size_t i = 0; i < sizeof no_state / sizeof no_state[0]; i++) {
+        try_why_no_state(no_state[i].word, no_state[i].value, good.main, end);
+        try_why_no_state(no_state[i].word, no_state[i].value, good.main + 8, end);
     }
     try_why_pending(256, 4, TEJBORUN_WHY_ENTRY, TEJBORUN_BAD_PAYLOAD, end);
     try_why_pending(240, 8, TEJBORUN_WHY_ENTRY, TEJBORUN_BAD_PAYLOAD, end);

@@ -550,6 +550,7 @@ generated_captures() {
         fi
         at_case=$((at_case + length)) number=$((number + 1))
     done
+    test $with_whys -gt 0 || fail 'no why in the captures'
     echo "generated captures: $tried of $number to text and back (capture, state, main memory, result), run as replay runs them; $on_vif0 with a run on VIF0," \
         "$with_packets runs that closed packets, $with_sets registers set, $with_whys whys"
 }
