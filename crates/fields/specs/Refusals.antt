@@ -119,6 +119,16 @@ padWrong = 45
 abbrev pub outputShort : ℕ
 outputShort = 47
 
+-- ---- request 12, the sheet's second edition
+
+-- "before 47 a 49 (offset 0) if the expanded chain exceeds 1,048,576 bytes"
+abbrev pub chainLong : ℕ
+chainLong = 49
+
+-- "52 for depth 9 right after 43"
+abbrev pub groupDeep : ℕ
+groupDeep = 52
+
 -- ---- the console
 
 -- request 7: "50 for a number above 7"

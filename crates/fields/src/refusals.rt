@@ -53,9 +53,13 @@ pub const SHEET_LONG: u32 = 46;
 
 pub const OUTPUT_SHORT: u32 = 47;
 
+pub const CHAIN_LONG: u32 = 49;
+
 pub const NUMBER_MISSING: u32 = 50;
 
 pub const CODE_WAITS: u32 = 51;
+
+pub const GROUP_DEEP: u32 = 52;
 
 pub const KEPT_EXCEED: u32 = 55;
 

@@ -7,8 +7,9 @@ use Rattle.fields.specs.Refusals.{outputShort}
 use Rattle.fields.specs.Fields.{if}
 use Rattle.sheet.specs.declared.BuildAnswer.{BuildAnswer}
 use Rattle.sheet.specs.declared.BuildAnswer.the-variants.{Built, Refused}
-use Rattle.sheet.specs.Reader.{Contents, valid, refused, contentsOf}
+use Rattle.sheet.specs.Reader.{Contents, valid, refused}
 use Rattle.sheet.specs.Layout.{chainOf}
+use Rattle.sheet.specs.Editions.{contentsOf}
 
 -- what the builder leaves: its answer and the output
 pub record Left : Type 0 where

@@ -9,7 +9,8 @@ use Rattle.memories.specs.declared.VifUnit.the-variants.{Vif1}
 use Rattle.memories.specs.Units.{dataWords, codeBytes}
 use Rattle.sheet.specs.declared.Kind.{Kind}
 use Rattle.sheet.specs.Records.{Record, bodyLength, bytesAt, number}
-use Rattle.sheet.specs.Reader.{Contents, valid, refused, contentsFrom, contentsOf}
+use Rattle.sheet.specs.Reader.{valid}
+use Rattle.sheet.specs.Editions.{contentsOf}
 use Rattle.sheet.specs.Sizes.{entriesOf, sheetEntries}
 use Rattle.sheet.specs.Meaning.{entriesBy, memBy, codeBy}
 use Rattle.sheet.specs.Results.{lengthRefusal}
@@ -45,11 +46,6 @@ unfoldable pub fedAll : List Record → Fed → Fed
 fedAll [] x = x
 fedAll (r ∷ rs) x = fedAll rs (fedBy r x)
 
--- what a sheet's contents do to them; a refused sheet does nothing
-abbrev pub fedIn : Contents → Fed → Fed
-fedIn (valid rs) x = fedAll rs x
-fedIn (refused n offset) x = x
-
 -- a record's body lies in the sheet, the memories have their lengths, and the log has room for the record's entries
 pub record FeedRoom (sheet : List ℕ) (body : ℕ) (k : Kind) (n : ℕ) (mem code log : List ℕ) (used : ℕ) : Type 0 where
   pub inside : body + bodyLength k n ≤ length sheet
@@ -57,13 +53,11 @@ pub record FeedRoom (sheet : List ℕ) (body : ℕ) (k : Kind) (n : ℕ) (mem co
   pub bytes : length code ≡ codeBytes Vif1
   pub room : entrySize * (used + entriesOf k n) ≤ length log
 
--- the records from a place of a sheet on are accepted, the memories have their lengths, and the log has room for the records' entries
-pub record Feeds (sheet : List ℕ) (at : ℕ) (mem code log : List ℕ) (used : ℕ) : Type 0 where
-  pub records : List Record
-  pub accepted : contentsFrom sheet at ≡ valid records
-  pub words : length mem ≡ dataWords Vif1
-  pub bytes : length code ≡ codeBytes Vif1
-  pub room : entrySize * (used + sheetEntries records) ≤ length log
+-- the memories have their lengths, and the log has room for the records' entries
+pub record RecordsRoom (rs : List Record) (x : Fed) : Type 0 where
+  pub words : length (x .mem) ≡ dataWords Vif1
+  pub bytes : length (x .code) ≡ codeBytes Vif1
+  pub room : entrySize * (x .used + sheetEntries rs) ≤ length (x .log)
 
 -- an accepted sheet with so many entries, and memories and a log whose lengths are accepted
 pub record Means (sheet mem code log : List ℕ) (used entries : ℕ) : Type 0 where

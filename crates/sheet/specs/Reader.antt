@@ -1,17 +1,17 @@
--- Reading a sheet: document 01's "Builder: 46 sheet too long, first; then records in order, each: 44 header cut, 40 mark, 41 kind, 42 count, 43 address, 44
+-- Reading a sheet of the first edition: document 01's "Builder: 46 sheet too long, first; then records in order, each: 44 header cut, 40 mark, 41 kind, 42 count, 43 address, 44
 -- body cut, 45 non-zero pad". "In the library's answer the record's offset comes with it (0 for 46, 47)."
 use Prim.Native.Nat.{ℕ, zero, suc, _+_, _*_}
 use mathlib.Core.Bool.{Bool, not, _&&_}
 use mathlib.Core.List.{List, [], _∷_}
 use lib.ListN.{length, getD}
 use lib.Dec.{eqb, leb, ltb}
-use Rattle.fields.specs.Refusals.{markWrong, kindWrong, countWrong, addressWrong, recordCut, padWrong, sheetLong}
+use Rattle.fields.specs.Refusals.{markWrong, kindWrong, countWrong, addressWrong, recordCut, padWrong}
 use Rattle.fields.specs.Fields.{if}
 use Rattle.sheet.specs.declared.Kind.{Kind}
 use Rattle.sheet.specs.declared.Kind.the-variants.{Data, Code, Gs, Start}
 use Rattle.sheet.specs.declared.Reading.{Reading}
 use Rattle.sheet.specs.declared.Reading.the-variants.{End, Found, Refused}
-use Rattle.sheet.specs.Records.{Record, recordOf, longest, headerLength, countFits, addressFits, bodyLength, bytesAt, padsFit}
+use Rattle.sheet.specs.Records.{Record, recordOf, headerLength, countFits, addressFits, bodyLength, bytesAt, padsFit}
 
 -- "mark 9Eh 51h"
 unfoldable pub marked : List ℕ → ℕ → Bool
@@ -90,7 +90,3 @@ recordsFrom (suc n) sheet at = onReading (recordsFrom n sheet) sheet at (reading
 -- the records from a place on: a sheet has no more records than bytes
 unfoldable pub contentsFrom : List ℕ → ℕ → Contents
 contentsFrom sheet at = recordsFrom (length sheet) sheet at
-
--- "A sheet is records to its end"; "46 sheet too long, first"
-unfoldable pub contentsOf : List ℕ → Contents
-contentsOf sheet = if (ltb longest (length sheet)) (refused sheetLong 0) (contentsFrom sheet 0)

@@ -13,11 +13,12 @@ use Rattle.sheet.specs.declared.StepsAnswer.{StepsAnswer}
 use Rattle.sheet.specs.declared.StepsAnswer.the-variants.{Steps, Refused as StepsRefused}
 use Rattle.sheet.specs.declared.MeaningAnswer.{MeaningAnswer}
 use Rattle.sheet.specs.declared.MeaningAnswer.the-variants.{Meant, Refused as MeaningRefused}
-use Rattle.sheet.specs.Reader.{Contents, valid, refused, contentsOf}
+use Rattle.sheet.specs.Reader.{Contents, valid, refused}
+use Rattle.sheet.specs.Editions.{contentsOf}
 use Rattle.sheet.specs.Sizes.{sheetSteps, sheetEntries}
 use Rattle.sheet.specs.Meaning.{Plain, plain, meaningOf}
 
--- the steps of a sheet, or its refusal (46, 40 to 45)
+-- the steps of a sheet, or its refusal (46, 40 to 45, 52, 49); request 12: "size and step formulas are sums over the expansion"
 abbrev pub stepsIn : Contents → StepsAnswer
 stepsIn (valid rs) = Steps (sheetSteps rs)
 stepsIn (refused n offset) = StepsRefused n offset

@@ -1,6 +1,9 @@
-// Test sheets: their records, the chain built from them, their steps and their plain meaning. What each function means is said by the definitions of specs/.
+// Test sheets of both editions: their records and groups, the chain built from them, their steps and their plain meaning. What each function means is said by the definitions of specs/.
+mod heads;
+mod items;
 mod plain;
 mod reader;
+mod sums;
 mod totals;
 mod writer;
 

@@ -1,9 +1,10 @@
 // The plain meaning of a sheet: a machine fed the records in order.
 use super::Kind;
 use super::MeaningAnswer;
-use super::Reading;
+use super::heads::Header;
+use super::heads::first_item;
+use super::heads::read_header;
 use super::reader::byte_at;
-use super::reader::read_record;
 use super::totals::Measured;
 use super::totals::measure;
 use super::writer::copy_bytes;
@@ -18,10 +19,18 @@ ghost use Rattle.gif.specs.Log.{entrySize, entry, numbers};
 ghost use Rattle.memories.specs.declared.VifUnit.the-variants.{Vif1};
 ghost use Rattle.memories.specs.Units.{dataWords, codeBytes};
 ghost use Rattle.sheet.specs.Records.{recordOf, bodyLength, bytesAt, number};
-ghost use Rattle.sheet.specs.Reader.{contentsFrom};
+ghost use Rattle.sheet.specs.Groups.{membersFrom, itemAt};
+ghost use Rattle.sheet.specs.Editions.{expansionFrom};
+ghost use Rattle.sheet.specs.Acts.{done, itemDone, membersDone, turnsDone, sheetDone, ItemFits, MembersFit, TurnsFit, SheetFits, firstItem};
 ghost use Rattle.sheet.specs.Meaning.{putVectors, putInstructions, entriesAt};
 ghost use Rattle.sheet.specs.Results.{left, lengthRefusal, meaningOfSheet};
-ghost use Rattle.sheet.specs.Fed.{vectorAt, FeedRoom, fed, fedBy, Feeds, fedIn, Means};
+ghost use Rattle.sheet.specs.Fed.{vectorAt, FeedRoom, fed, fedBy, fedAll, RecordsRoom, Means};
+
+// The place after what was read, and the entries used.
+struct Taken {
+    next: usize,
+    used: u64,
+}
 
 const QUADWORDS: usize = memories::VIF1_QUADWORDS as usize;
 
@@ -145,32 +154,117 @@ fn feed_record(
     }
 }
 
-// Feeds the records of an accepted sheet; answers the entries used afterwards.
-fn feed_records(sheet: &[u8], data: &mut [u32], code: &mut [u8], log: &mut [u64], used: u64) -> u64
-    requires { ⌜ Feeds (now sheet) 0 (now «data») (now code) (now log) used ⌝ }
-    ensures { λ r. ⌜ fed (now («data» .exit)) (now (code .exit)) (now (log .exit)) r ≡ fedIn (contentsFrom (now (sheet .entry)) 0) (fed (now («data» .entry)) (now (code .entry)) (now (log .entry)) used) ⌝ }
+// Feeds the item at a place, which is accepted.
+fn feed_item(
+    sheet: &[u8],
+    depth: u32,
+    at: usize,
+    data: &mut [u32],
+    code: &mut [u8],
+    log: &mut [u64],
+    used: u64,
+) -> Taken
+    requires { ⌜ ItemFits RecordsRoom (itemAt (now sheet) depth at) (fed (now «data») (now code) (now log) used) ⌝ }
+    ensures { λ r. ⌜ done (r .next) (fed (now («data» .exit)) (now (code .exit)) (now (log .exit)) (r .used)) ≡ itemDone fedAll (itemAt (now (sheet .entry)) depth at) (fed (now («data» .entry)) (now (code .entry)) (now (log .entry)) used) ⌝ }
 {
-    let mut at = 0;
-    let mut u = used;
-    loop {
-        match read_record(sheet, at) {
-            Reading::End => {
-                return u;
-            }
-            Reading::Found {
-                kind,
-                count,
-                address,
-                next,
-            } => {
-                u = feed_record(sheet, at + 6, kind, count, address, data, code, log, u);
-                at = next;
-            }
-            Reading::Refused { number, offset } => {
-                return u;
-            }
-        }
+    match read_header(sheet, depth, at) {
+        Header::End => Taken { next: at, used },
+        Header::Single {
+            kind,
+            count,
+            address,
+            next,
+        } => Taken {
+            next,
+            used: feed_record(sheet, at + 6, kind, count, address, data, code, log, used),
+        },
+        Header::Group {
+            repetitions,
+            members,
+        } => feed_group(
+            sheet,
+            depth - 1,
+            at + 6,
+            repetitions,
+            members,
+            data,
+            code,
+            log,
+            used,
+        ),
+        Header::Refused {
+            number: _,
+            offset: _,
+        } => Taken { next: at, used },
     }
+}
+
+// Feeds the members from a place on so many times.
+fn feed_group(
+    sheet: &[u8],
+    depth: u32,
+    at: usize,
+    repetitions: u32,
+    members: u32,
+    data: &mut [u32],
+    code: &mut [u8],
+    log: &mut [u64],
+    used: u64,
+) -> Taken
+    requires { ⌜ (0 < repetitions) × TurnsFit RecordsRoom repetitions (membersFrom (itemAt (now sheet) depth) (length (now sheet)) members at) (fed (now «data») (now code) (now log) used) ⌝ }
+    ensures { λ r. ⌜ done (r .next) (fed (now («data» .exit)) (now (code .exit)) (now (log .exit)) (r .used)) ≡ turnsDone fedAll repetitions (membersFrom (itemAt (now (sheet .entry)) depth) (length (now (sheet .entry))) members at) (fed (now («data» .entry)) (now (code .entry)) (now (log .entry)) used) ⌝ }
+{
+    let mut next = at;
+    let mut u = used;
+    let mut turns = repetitions;
+    while turns > 0 {
+        let t = feed_members(sheet, depth, at, members, data, code, log, u);
+        next = t.next;
+        u = t.used;
+        turns -= 1;
+    }
+    Taken { next, used: u }
+}
+
+// Feeds the members from a place on once.
+fn feed_members(
+    sheet: &[u8],
+    depth: u32,
+    at: usize,
+    members: u32,
+    data: &mut [u32],
+    code: &mut [u8],
+    log: &mut [u64],
+    used: u64,
+) -> Taken
+    requires { ⌜ MembersFit RecordsRoom (membersFrom (itemAt (now sheet) depth) (length (now sheet)) members at) (fed (now «data») (now code) (now log) used) ⌝ }
+    ensures { λ r. ⌜ done (r .next) (fed (now («data» .exit)) (now (code .exit)) (now (log .exit)) (r .used)) ≡ membersDone fedAll (membersFrom (itemAt (now (sheet .entry)) depth) (length (now (sheet .entry))) members at) (fed (now («data» .entry)) (now (code .entry)) (now (log .entry)) used) ⌝ }
+{
+    let mut next = at;
+    let mut u = used;
+    let mut rest = members;
+    while rest > 0 {
+        let t = feed_item(sheet, depth, next, data, code, log, u);
+        next = t.next;
+        u = t.used;
+        rest -= 1;
+    }
+    Taken { next, used: u }
+}
+
+// Feeds the items of an accepted sheet; answers the entries used afterwards.
+fn feed_items(sheet: &[u8], data: &mut [u32], code: &mut [u8], log: &mut [u64], used: u64) -> u64
+    requires { ⌜ SheetFits RecordsRoom (now sheet) (firstItem (now sheet)) (fed (now «data») (now code) (now log) used) ⌝ }
+    ensures { λ r. ⌜ fed (now («data» .exit)) (now (code .exit)) (now (log .exit)) r ≡ sheetDone fedAll (expansionFrom (now (sheet .entry)) (firstItem (now (sheet .entry)))) (fed (now («data» .entry)) (now (code .entry)) (now (log .entry)) used) ⌝ }
+{
+    let mut at = first_item(sheet);
+    let mut u = used;
+    while at < sheet.len() {
+        let t = feed_item(sheet, 8, at, data, code, log, u);
+        at = t.next;
+        u = t.used;
+    }
+    u
 }
 
 // The meaning of an accepted sheet with so many entries, where the log has room for them.
@@ -192,7 +286,7 @@ fn mean_measured(
             offset: 0,
         };
     }
-    MeaningAnswer::Meant(feed_records(sheet, data, code, log, used))
+    MeaningAnswer::Meant(feed_items(sheet, data, code, log, used))
 }
 
 // Feeds a sheet's records to the memories and the log, which a refusal leaves as they are.

@@ -22,7 +22,7 @@ pub(crate) fn byte_at(sheet: &[u8], at: usize) -> u32
     wide(sheet[at])
 }
 
-fn has_mark(sheet: &[u8], at: usize) -> bool
+pub(crate) fn has_mark(sheet: &[u8], at: usize) -> bool
     requires { ⌜ at + 6 ≤ length (now sheet) ⌝ }
     ensures { λ r. ⌜ r ≡ marked (now (sheet .entry)) at ⌝ }
 {
@@ -135,14 +135,14 @@ fn kind_at(sheet: &[u8], at: usize) -> Kind
     kind_of(byte_at(sheet, at + 2))
 }
 
-fn count_at(sheet: &[u8], at: usize) -> u32
+pub(crate) fn count_at(sheet: &[u8], at: usize) -> u32
     requires { ⌜ at + 6 ≤ length (now sheet) ⌝ }
     ensures { λ r. ⌜ r ≡ countAt (now (sheet .entry)) at ⌝ }
 {
     byte_at(sheet, at + 3)
 }
 
-fn address_at(sheet: &[u8], at: usize) -> u32
+pub(crate) fn address_at(sheet: &[u8], at: usize) -> u32
     requires { ⌜ at + 6 ≤ length (now sheet) ⌝ }
     ensures { λ r. ⌜ r ≡ addressAt (now (sheet .entry)) at ⌝ }
 {

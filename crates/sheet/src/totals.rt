@@ -1,93 +1,71 @@
-// The sums over a sheet's records: quadwords of the chain, steps and log entries.
-use super::Kind;
-use super::Reading;
+// The sums of a sheet of either edition, and its steps.
 use super::StepsAnswer;
-use super::reader::read_record;
+use super::heads::edition_refusal;
+use super::heads::starts_second;
+use super::items::ItemAnswer;
+use super::items::read_item;
+use super::sums::Totals;
+use super::sums::end_totals;
+use super::sums::joined;
+use super::sums::none;
 use fields::refusals;
 ghost use mathlib.Core.Path.{_≡_};
-ghost use Rattle.sheet.specs.Sizes.{quadwordsOf, stepsOf, entriesOf};
-ghost use Rattle.sheet.specs.Reader.{contentsOf};
+ghost use mathlib.Core.Bool.{true};
+ghost use Rattle.sheet.specs.Groups.{startsSecond};
+ghost use Rattle.sheet.specs.Editions.{expansionFrom, limited, secondOf, contentsOf};
 ghost use Rattle.sheet.specs.Results.{stepsOfSheet};
-ghost use Rattle.sheet.specs.Inner.{Within, recordTotals, endTotals, together, measuredOf};
-
-pub(crate) struct Totals {
-    pub quadwords: u64,
-    pub steps: u64,
-    pub entries: u64,
-}
+ghost use Rattle.sheet.specs.Sums.{measuredOf, within};
 
 pub(crate) enum Measured {
     Whole(Totals),
     Refused { number: u32, offset: usize },
 }
 
-fn quadwords_of(kind: Kind, n: u32) -> u64
-    ensures { λ r. ⌜ r ≡ quadwordsOf kind n ⌝ }
+// 49 where the chain would be longer than 1,048,576 bytes.
+fn within(t: Totals) -> Measured
+    ensures { λ r. ⌜ r ≡ within t ⌝ }
 {
-    let count = n as u64;
-    match kind {
-        Kind::Data => 2 + count,
-        Kind::Code => 2 + (count + 1) / 2,
-        Kind::Gs => 3 + count,
-        Kind::Start => 2,
+    if 65536 < t.quadwords {
+        return Measured::Refused {
+            number: refusals::CHAIN_LONG,
+            offset: 0,
+        };
+    }
+    Measured::Whole(t)
+}
+
+// The sums of the items from a place on, or the refusal.
+fn measure_items(sheet: &[u8], first: usize) -> Measured
+    ensures { λ r. ⌜ r ≡ measuredOf (limited (expansionFrom (now (sheet .entry)) first)) ⌝ }
+{
+    let mut sum = none();
+    let mut at = first;
+    loop {
+        match read_item(sheet, 8, at) {
+            ItemAnswer::End => {
+                return within(joined(sum, end_totals()));
+            }
+            ItemAnswer::Found { next, totals } => {
+                sum = joined(sum, totals);
+                at = next;
+            }
+            ItemAnswer::Refused { number, offset } => {
+                return Measured::Refused { number, offset };
+            }
+        }
     }
 }
 
-fn steps_of(kind: Kind, n: u32) -> u64
-    ensures { λ r. ⌜ r ≡ stepsOf kind n ⌝ }
+// The sums of a sheet whose first record is of kind 0, or its refusal.
+fn measure_second(sheet: &[u8]) -> Measured
+    requires { ⌜ startsSecond (now sheet) ≡ true ⌝ }
+    ensures { λ r. ⌜ r ≡ measuredOf (secondOf (now (sheet .entry))) ⌝ }
 {
-    let count = n as u64;
-    match kind {
-        Kind::Data => 5 + 4 * count,
-        Kind::Code => 5 + 4 * ((count + 1) / 2),
-        Kind::Gs => 6 + count,
-        Kind::Start => 5,
+    let number = edition_refusal(sheet);
+    if number != 0 {
+        return Measured::Refused { number, offset: 0 };
     }
-}
-
-fn entries_of(kind: Kind, n: u32) -> u64
-    ensures { λ r. ⌜ r ≡ entriesOf kind n ⌝ }
-{
-    match kind {
-        Kind::Data => 0,
-        Kind::Code => 0,
-        Kind::Gs => n as u64,
-        Kind::Start => 1,
-    }
-}
-
-// The sums of a record.
-fn record_totals(kind: Kind, n: u32) -> Totals
-    ensures { λ r. ⌜ r ≡ recordTotals kind n ⌝ }
-{
-    Totals {
-        quadwords: quadwords_of(kind, n),
-        steps: steps_of(kind, n),
-        entries: entries_of(kind, n),
-    }
-}
-
-// Two sums as one.
-fn together(t: Totals, u: Totals) -> Totals
-    requires { ⌜ Within t 131072 × Within u 131072 ⌝ }
-    ensures { λ r. ⌜ r ≡ together t u ⌝ }
-{
-    Totals {
-        quadwords: t.quadwords + u.quadwords,
-        steps: t.steps + u.steps,
-        entries: t.entries + u.entries,
-    }
-}
-
-// The end tag is one quadword and one step.
-fn end_totals() -> Totals
-    ensures { λ r. ⌜ r ≡ endTotals ⌝ }
-{
-    Totals {
-        quadwords: 1,
-        steps: 1,
-        entries: 0,
-    }
+    measure_items(sheet, 6)
 }
 
 // The sums of a sheet, or its refusal.
@@ -100,31 +78,10 @@ pub(crate) fn measure(sheet: &[u8]) -> Measured
             offset: 0,
         };
     }
-    let mut sum = Totals {
-        quadwords: 0,
-        steps: 0,
-        entries: 0,
-    };
-    let mut at = 0;
-    loop {
-        match read_record(sheet, at) {
-            Reading::End => {
-                return Measured::Whole(together(sum, end_totals()));
-            }
-            Reading::Found {
-                kind,
-                count,
-                address: _,
-                next,
-            } => {
-                sum = together(sum, record_totals(kind, count));
-                at = next;
-            }
-            Reading::Refused { number, offset } => {
-                return Measured::Refused { number, offset };
-            }
-        }
+    if starts_second(sheet) {
+        return measure_second(sheet);
     }
+    measure_items(sheet, 0)
 }
 
 // The steps of a sheet, or its refusal.

@@ -1,9 +1,10 @@
 // The chain, as document 01 lays it out.
 use super::BuildAnswer;
 use super::Kind;
-use super::Reading;
+use super::heads::Header;
+use super::heads::first_item;
+use super::heads::read_header;
 use super::reader::body_length;
-use super::reader::read_record;
 use super::totals::Measured;
 use super::totals::measure;
 use fields::refusals;
@@ -12,11 +13,19 @@ ghost use Prim.Native.Nat.{_+_, _*_, _<_, _≤_};
 ghost use lib.ListN.{length};
 ghost use lib.Seq.{sets};
 ghost use Rattle.sheet.specs.Records.{recordOf, bodyLength, bytesAt};
-ghost use Rattle.sheet.specs.Reader.{contentsFrom};
 ghost use Rattle.sheet.specs.Sizes.{quadwordsOf};
 ghost use Rattle.sheet.specs.Layout.{wordBytes, wordsBytes, codeWords, gifTagWords, oddPadding, paddingWords, leadWords, laidOut};
 ghost use Rattle.sheet.specs.Build.{left, buildOf, exportedNumber};
-ghost use Rattle.sheet.specs.Inner.{RecordRoom, Fits, Counted, chainIn};
+ghost use Rattle.sheet.specs.Groups.{membersFrom, itemAt};
+ghost use Rattle.sheet.specs.Editions.{expansionFrom};
+ghost use Rattle.sheet.specs.Acts.{done, itemDone, membersDone, turnsDone, ItemFits, MembersFit, TurnsFit, SheetFits, firstItem};
+ghost use Rattle.sheet.specs.Inner.{RecordRoom, out, write, WriteRoom, Counted, chainIn};
+
+// The places after what was read and written.
+struct Written {
+    next: usize,
+    to: usize,
+}
 
 fn put_word(output: &mut [u8], at: usize, w: u32)
     requires { ⌜ at + 4 ≤ length (now output) ⌝ }
@@ -148,33 +157,95 @@ fn put_record(
     put_padding(kind, n, output, to + size)
 }
 
+// Writes the item at a place, which is accepted.
+fn put_item(sheet: &[u8], depth: u32, at: usize, output: &mut [u8], to: usize) -> Written
+    requires { ⌜ ItemFits WriteRoom (itemAt (now sheet) depth at) (out (now output) to) ⌝ }
+    ensures { λ r. ⌜ done (r .next) (out (now (output .exit)) (r .to)) ≡ itemDone write (itemAt (now (sheet .entry)) depth at) (out (now (output .entry)) to) ⌝ }
+{
+    match read_header(sheet, depth, at) {
+        Header::End => Written { next: at, to },
+        Header::Single {
+            kind,
+            count,
+            address,
+            next,
+        } => Written {
+            next,
+            to: put_record(sheet, at + 6, kind, count, address, output, to),
+        },
+        Header::Group {
+            repetitions,
+            members,
+        } => put_group(sheet, depth - 1, at + 6, repetitions, members, output, to),
+        Header::Refused {
+            number: _,
+            offset: _,
+        } => Written { next: at, to },
+    }
+}
+
+// Writes the members from a place on so many times.
+fn put_group(
+    sheet: &[u8],
+    depth: u32,
+    at: usize,
+    repetitions: u32,
+    members: u32,
+    output: &mut [u8],
+    to: usize,
+) -> Written
+    requires { ⌜ (0 < repetitions) × TurnsFit WriteRoom repetitions (membersFrom (itemAt (now sheet) depth) (length (now sheet)) members at) (out (now output) to) ⌝ }
+    ensures { λ r. ⌜ done (r .next) (out (now (output .exit)) (r .to)) ≡ turnsDone write repetitions (membersFrom (itemAt (now (sheet .entry)) depth) (length (now (sheet .entry))) members at) (out (now (output .entry)) to) ⌝ }
+{
+    let mut next = at;
+    let mut place = to;
+    let mut turns = repetitions;
+    while turns > 0 {
+        let w = put_members(sheet, depth, at, members, output, place);
+        next = w.next;
+        place = w.to;
+        turns -= 1;
+    }
+    Written { next, to: place }
+}
+
+// Writes the members from a place on once.
+fn put_members(
+    sheet: &[u8],
+    depth: u32,
+    at: usize,
+    members: u32,
+    output: &mut [u8],
+    to: usize,
+) -> Written
+    requires { ⌜ MembersFit WriteRoom (membersFrom (itemAt (now sheet) depth) (length (now sheet)) members at) (out (now output) to) ⌝ }
+    ensures { λ r. ⌜ done (r .next) (out (now (output .exit)) (r .to)) ≡ membersDone write (membersFrom (itemAt (now (sheet .entry)) depth) (length (now (sheet .entry))) members at) (out (now (output .entry)) to) ⌝ }
+{
+    let mut next = at;
+    let mut place = to;
+    let mut rest = members;
+    while rest > 0 {
+        let w = put_item(sheet, depth, next, output, place);
+        next = w.next;
+        place = w.to;
+        rest -= 1;
+    }
+    Written { next, to: place }
+}
+
 // The chain of an accepted sheet, in an output that has room for it.
 fn put_chain(sheet: &[u8], output: &mut [u8])
-    requires { ⌜ Fits (now sheet) 0 (now output) 0 ⌝ }
-    ensures { λ _. ⌜ now (output .exit) ≡ sets (now (output .entry)) 0 (chainIn (contentsFrom (now (sheet .entry)) 0)) ⌝ }
+    requires { ⌜ SheetFits WriteRoom (now sheet) (firstItem (now sheet)) (out (now output) 0) ⌝ }
+    ensures { λ _. ⌜ now (output .exit) ≡ sets (now (output .entry)) 0 (chainIn (expansionFrom (now (sheet .entry)) (firstItem (now (sheet .entry))))) ⌝ }
 {
-    let mut at = 0;
+    let mut at = first_item(sheet);
     let mut to = 0;
-    loop {
-        match read_record(sheet, at) {
-            Reading::End => {
-                put_quadword(output, to, [1879048192, 0, 0, 0]);
-                return;
-            }
-            Reading::Found {
-                kind,
-                count,
-                address,
-                next,
-            } => {
-                to = put_record(sheet, at + 6, kind, count, address, output, to);
-                at = next;
-            }
-            Reading::Refused { number, offset } => {
-                return;
-            }
-        }
+    while at < sheet.len() {
+        let w = put_item(sheet, 8, at, output, to);
+        at = w.next;
+        to = w.to;
     }
+    put_quadword(output, to, [1879048192, 0, 0, 0]);
 }
 
 // Builds the chain of an accepted sheet, which has so many quadwords.
