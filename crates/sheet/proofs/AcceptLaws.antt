@@ -1,20 +1,24 @@
--- The reader takes every sheet of records that meet their rows: the converse of `reader-loses-nothing`.
+-- The reader takes every sheet of records that meet their rows, which is of the first edition: the converse of `reader-loses-nothing`.
 use mathlib.Core.Path.{_≡_, refl, sym, _∙_}
-use mathlib.Core.Bool.{true}
-use mathlib.Core.List.{List, _∷_, _++_}
+use mathlib.Core.Bool.{true, false}
+use mathlib.Core.List.{List, [], _∷_, _++_}
 use Prim.Native.Nat.{ℕ, _+_, _-_, _≤_}
 use native.Mathlib.Nat.{add-zero}
 use native.Mathlib.Omega.{arith}
 use lib.ListN.{length, getD, drop, length-drop, length-append}
 use lib.Seq.{getD-drop, drop-drop, take-at, drop-at}
+use lib.Dec.{eqb, leb}
 use borrow.Author.Tests.{le-ltb, lt-leb}
 use Rattle.fields.specs.Fields.{if}
+use Rattle.fields.proofs.ChoiceLaws.{and-false}
 use Rattle.sheet.specs.declared.BuildAnswer.the-variants.{Built}
 use Rattle.sheet.specs.declared.Kind.{Kind}
 use Rattle.sheet.specs.declared.Kind.the-variants.{Data, Code, Gs, Start}
 use Rattle.sheet.specs.declared.Reading.the-variants.{Found}
 use Rattle.sheet.specs.Records.{Record, longest, kindNumber, bodyLength, bytesAt}
-use Rattle.sheet.specs.Reader.{valid, marked, kindListed, kindOf, rowRefusal, recordRefusal, readingAt, contentsFrom, contentsOf}
+use Rattle.sheet.specs.Reader.{valid, marked, kindListed, kindOf, rowRefusal, recordRefusal, readingAt, contentsFrom}
+use Rattle.sheet.specs.Groups.{opensKind, startsSecond}
+use Rattle.sheet.specs.Editions.{contentsOf}
 use Rattle.sheet.specs.Whole.{recordBytes, sheetBytes, MeetsRow, AllMeet, none, more}
 use Rattle.sheet.specs.Layout.{chainOf}
 use Rattle.sheet.specs.Build.{left, stored, buildOf}
@@ -94,9 +98,21 @@ read-back sheet at none e = from-end sheet at (past sheet at (omega (arith, left
 read-back sheet at (more {r} {rs} m ms) e =
     taken sheet at r (sheetBytes rs) m e (read-back sheet _ ms (onward sheet at r (sheetBytes rs) m e))
 
+-- and none of them is of kind 0
+kind-some : (k : Kind) → eqb (kindNumber k) 0 ≡ false
+kind-some Data = refl
+kind-some Code = refl
+kind-some Gs = refl
+kind-some Start = refl
+
+pub records-first : (rs : List Record) → startsSecond (sheetBytes rs) ≡ false
+unfolding startsSecond opensKind marked sheetBytes
+records-first [] = refl
+records-first (r ∷ rs) = rw (kind-some (r .kind)) (and-false (leb 6 (length (sheetBytes (r ∷ rs)))))
+
 pub reader-takes-all : (rs : List Record) → AllMeet rs → length (sheetBytes rs) ≤ longest → contentsOf (sheetBytes rs) ≡ valid rs
 unfolding contentsOf if
-reader-takes-all rs ms h = rw (le-ltb longest (length (sheetBytes rs)) h, read-back (sheetBytes rs) 0 ms refl)
+reader-takes-all rs ms h = rw (le-ltb longest (length (sheetBytes rs)) h, records-first rs, read-back (sheetBytes rs) 0 ms refl)
 
 -- and the builder builds it wherever the chain has room
 pub sheet-accepted : (rs : List Record) (output : List ℕ) → AllMeet rs → length (sheetBytes rs) ≤ longest → length (chainOf rs) ≤ length output

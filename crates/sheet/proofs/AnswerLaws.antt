@@ -14,16 +14,17 @@ use Rattle.memories.specs.Units.{dataWords, codeBytes}
 use Rattle.memories.specs.Lengths.{lent}
 use Rattle.memories.proofs.LengthLaws.{lengths-fit}
 use Rattle.sheet.specs.declared.MeaningAnswer.the-variants.{Meant, Refused}
-use Rattle.sheet.specs.declared.totals.Totals.{Totals}
+use Rattle.sheet.specs.declared.sums.Totals.{Totals}
 use Rattle.sheet.specs.declared.totals.Measured.{Measured}
 use Rattle.sheet.specs.declared.totals.Measured.the-variants.{Whole, Refused as MeasureRefused}
-use Rattle.sheet.specs.Reader.{contentsFrom, contentsOf}
+use Rattle.sheet.specs.Editions.{expansionFrom, contentsOf}
+use Rattle.sheet.specs.Acts.{SheetFits, sheetDone, firstItem}
 use Rattle.sheet.specs.Sizes.{sheetEntries}
 use Rattle.sheet.specs.Meaning.{plain, meaningOf}
 use Rattle.sheet.specs.Results.{left, lengthRefusal, meaningOfSheet}
-use Rattle.sheet.specs.Inner.{measuredOf}
-use Rattle.sheet.specs.Fed.{Fed, fed, fedIn, Feeds, Means}
-use Rattle.sheet.proofs.WholeLaws.{from-start}
+use Rattle.sheet.specs.Sums.{measuredOf}
+use Rattle.sheet.specs.Fed.{Fed, fed, fedAll, RecordsRoom, Means}
+use Rattle.sheet.proofs.EditionLaws.{contents-items}
 use Rattle.sheet.proofs.TotalsLaws.{measured-whole, measured-refused}
 use Rattle.sheet.proofs.MeaningLaws.{log-same}
 use Rattle.sheet.proofs.FedLaws.{fedPlain, fed-sheet}
@@ -58,20 +59,24 @@ module _ {sheet mem code log : List ℕ} {used entries : ℕ} (m : Means sheet m
         let s = m .sum in
         omega arith
 
-    pub mean-feeds : Feeds sheet 0 mem code log used
+    pub mean-feeds : SheetFits RecordsRoom sheet (firstItem sheet) (fed mem code log used)
     mean-feeds =
         let l = means-lengths in
-        record { records = m .records; accepted = from-start sheet (m .records) (m .accepted); words = l .words; bytes = l .bytes; room = room }
+        record {
+          records = m .records;
+          accepted = contents-items sheet (m .records) (m .accepted);
+          room = record { words = l .words; bytes = l .bytes; room = room };
+        }
 
     -- the whole sheet fed is its meaning
-    fed-meaning : fedIn (contentsFrom sheet 0) (fed mem code log used) ≡ fedPlain (meaningOf (m .records) (plain mem code (entriesIn log used))) log
+    fed-meaning : sheetDone fedAll (expansionFrom sheet (firstItem sheet)) (fed mem code log used) ≡ fedPlain (meaningOf (m .records) (plain mem code (entriesIn log used))) log
     fed-meaning =
         let l = means-lengths in
         let n = in-count log used (l .held) in
         let s : fedPlain (plain mem code (entriesIn log used)) log ≡ fed mem code log used = rw (log-same log used (l .held), n) in
-        rw (from-start sheet (m .records) (m .accepted), ← s) (fed-sheet (m .records) (plain mem code (entriesIn log used)) log (rw n room))
+        rw (contents-items sheet (m .records) (m .accepted), ← s) (fed-sheet (m .records) (plain mem code (entriesIn log used)) log (rw n room))
 
-    pub mean-fed : {mem′ code′ log′ : List ℕ} {r : ℕ} → fed mem′ code′ log′ r ≡ fedIn (contentsFrom sheet 0) (fed mem code log used)
+    pub mean-fed : {mem′ code′ log′ : List ℕ} {r : ℕ} → fed mem′ code′ log′ r ≡ sheetDone fedAll (expansionFrom sheet (firstItem sheet)) (fed mem code log used)
         → left (Meant r) mem′ code′ log′ ≡ meaningOfSheet sheet mem code log used
     unfolding meaningOfSheet if
     mean-fed e =

@@ -9,24 +9,26 @@ use lib.Seq.{sets}
 use Rattle.fields.specs.Fields.{if}
 use Rattle.sheet.specs.declared.BuildAnswer.{BuildAnswer}
 use Rattle.sheet.specs.declared.BuildAnswer.the-variants.{Built, Refused}
-use Rattle.sheet.specs.declared.totals.Totals.{Totals}
+use Rattle.sheet.specs.declared.sums.Totals.{Totals}
 use Rattle.sheet.specs.declared.totals.Measured.{Measured}
 use Rattle.sheet.specs.declared.totals.Measured.the-variants.{Whole, Refused as MeasureRefused}
-use Rattle.sheet.specs.Reader.{refused, contentsFrom, contentsOf}
-use Rattle.sheet.specs.Whole.{Bytes}
+use Rattle.sheet.specs.Reader.{refused}
 use Rattle.sheet.specs.Layout.{chainOf}
 use Rattle.sheet.specs.Build.{Left, left, buildOf, exportedNumber}
-use Rattle.sheet.specs.Inner.{chainIn, Fits, Counted, measuredOf}
+use Rattle.sheet.specs.Editions.{expansionFrom, contentsOf}
+use Rattle.sheet.specs.Acts.{SheetFits, firstItem}
+use Rattle.sheet.specs.Sums.{measuredOf}
+use Rattle.sheet.specs.Inner.{chainIn, out, WriteRoom, Counted}
 use Rattle.sheet.proofs.ListLaws.{sets-front}
-use Rattle.sheet.proofs.WholeLaws.{from-start, reader-loses-nothing}
+use Rattle.sheet.proofs.EditionLaws.{contents-items, contents-meet}
 use Rattle.sheet.proofs.TotalsLaws.{measured-whole, measured-refused}
 use Rattle.sheet.proofs.LayoutLaws.{chain-length}
 
 -- an accepted sheet, and the room of its output
-module _ {sheet : List ℕ} (output : List ℕ) {q : ℕ} (b : Bytes sheet) (m : Counted sheet q) where
+module _ {sheet : List ℕ} (output : List ℕ) {q : ℕ} (m : Counted sheet q) where
   chain-bytes : length (chainOf (m .records)) ≡ 16 * q
   chain-bytes =
-      let h = chain-length (reader-loses-nothing sheet (m .records) b (m .accepted) .1) in
+      let h = chain-length (contents-meet sheet (m .records) (m .accepted)) in
       let s = m .sum in
       omega arith
 
@@ -38,14 +40,15 @@ module _ {sheet : List ℕ} (output : List ℕ) {q : ℕ} (b : Bytes sheet) (m :
     room : length (chainOf (m .records)) ≤ length output
     room = let e = chain-bytes in omega arith
 
-    pub build-fits : Fits sheet 0 output 0
+    pub build-fits : SheetFits WriteRoom sheet (firstItem sheet) (out output 0)
     build-fits =
-        let r = room in record { records = m .records; accepted = from-start sheet (m .records) (m .accepted); room = omega arith }
+        let r = room in
+        record { records = m .records; accepted = contents-items sheet (m .records) (m .accepted); room = record { room = omega arith } }
 
-    pub build-whole : {o : List ℕ} → o ≡ sets output 0 (chainIn (contentsFrom sheet 0)) → left (Built (16 * q)) o ≡ buildOf sheet output
+    pub build-whole : {o : List ℕ} → o ≡ sets output 0 (chainIn (expansionFrom sheet (firstItem sheet))) → left (Built (16 * q)) o ≡ buildOf sheet output
     unfolding buildOf if
     build-whole e =
-        rw (e, m .accepted, from-start sheet (m .records) (m .accepted), le-ltb (length output) (length (chainOf (m .records))) room, sets-front output (chainOf (m .records)) room, chain-bytes)
+        rw (e, m .accepted, contents-items sheet (m .records) (m .accepted), le-ltb (length output) (length (chainOf (m .records))) room, sets-front output (chainOf (m .records)) room, chain-bytes)
 
 -- a measured sheet: refused, or of so many quadwords
 module _ (sheet : List ℕ) {m : Measured} (e : m ≡ measuredOf (contentsOf sheet)) where

@@ -6,18 +6,12 @@ use native.Mathlib.Omega.{arith}
 use lib.ListN.{length, length-append}
 use Rattle.gif.specs.declared.Entry.{Entry}
 use Rattle.gif.specs.Log.{entrySize}
-use Rattle.sheet.specs.declared.Kind.{Kind}
-use Rattle.sheet.specs.declared.Reading.{Reading}
-use Rattle.sheet.specs.declared.Reading.the-variants.{End, Found}
 use Rattle.sheet.specs.Records.{Record}
-use Rattle.sheet.specs.Reader.{readingAt, contentsFrom}
 use Rattle.sheet.specs.Sizes.{entriesOf, sheetEntries}
 use Rattle.sheet.specs.Meaning.{Plain, plain, entriesBy, fedRecord, meaningOf}
 use Rattle.sheet.specs.Results.{logWith}
-use Rattle.sheet.specs.Fed.{Fed, fed, fedBy, fedAll, fedIn, FeedRoom, Feeds}
+use Rattle.sheet.specs.Fed.{Fed, fed, fedBy, fedAll}
 use Rattle.sheet.proofs.MeaningLaws.{row-count, fed-count, log-then}
-use Rattle.sheet.proofs.ReaderLaws.{from-found}
-use Rattle.sheet.proofs.RestLaws.{Rest, recordAt, found-after, rest-end, rest-found}
 
 -- ---- the machine's state with a log for its entries
 
@@ -37,36 +31,3 @@ pub fed-sheet : (rs : List Record) (x : Plain) (log : List ℕ) → entrySize * 
 unfolding fedAll meaningOf sheetEntries
 fed-sheet [] x log h = refl
 fed-sheet (r ∷ rs) x log h = rw (fed-record r x log (omega arith)) (fed-sheet rs (fedRecord r x) log (omega (arith, fed-count r x)))
-
--- ---- one turn of the loop over the records
-
-module _ (sheet : List ℕ) (at : ℕ) {g : Reading} (e : g ≡ readingAt sheet at) {mem code log : List ℕ} {used : ℕ} (f : Feeds sheet at mem code log used) where
-  pub end-fed : g ≡ End → (x : Fed) → fedIn (contentsFrom sheet at) x ≡ x
-  unfolding fedAll
-  end-fed q x = rw (f .accepted, rest-end sheet at e (f .accepted) q)
-
-  module _ {k : Kind} {n a next : ℕ} (q : g ≡ Found k n a next) where
-    after : Rest (recordAt sheet at k n a) (contentsFrom sheet next) (f .records)
-    after = rest-found sheet at e (f .accepted) q
-
-    room-after : entrySize * (used + (entriesOf k n + sheetEntries (after .others))) ≤ length log
-    unfolding sheetEntries
-    room-after = rw (after .whole) at (f .room)
-
-    pub found-room : FeedRoom sheet (at + 6) k n mem code log used
-    found-room =
-        let t = found-after sheet at e q in
-        let h = room-after in
-        record { inside = omega arith; words = f .words; bytes = f .bytes; room = omega arith }
-
-    module _ {mem′ code′ log′ : List ℕ} {used′ : ℕ} (p : fed mem′ code′ log′ used′ ≡ fedBy (recordAt sheet at k n a) (fed mem code log used)) where
-      pub found-feeds : length mem′ ≡ length mem → length code′ ≡ length code → length log′ ≡ length log → Feeds sheet next mem′ code′ log′ used′
-      unfolding fedBy
-      found-feeds m c l =
-          let h = room-after in
-          let u : used′ ≡ used + entriesOf k n = ap (λ (x : Fed). x .used) p in
-          record { records = after .others; accepted = after .are; words = m ∙ f .words; bytes = c ∙ f .bytes; room = omega arith }
-
-      pub found-fed : fedIn (contentsFrom sheet next) (fed mem′ code′ log′ used′) ≡ fedIn (contentsFrom sheet at) (fed mem code log used)
-      unfolding fedAll
-      found-fed = rw (from-found sheet at k n a next (sym e ∙ q), after .are, p)

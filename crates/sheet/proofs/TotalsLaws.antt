@@ -1,80 +1,47 @@
--- The sums over a sheet's records: where they begin, one record more, the end and a refusal.
+-- A measured sheet: its edition, and what the sums say of its contents.
 use mathlib.Core.Path.{_≡_, refl, sym, ap, _∙_}
+use mathlib.Core.Bool.{true, false}
 use mathlib.Core.List.{List}
-use Prim.Native.Nat.{ℕ, _+_, _≤_, _<_}
-use native.Mathlib.Nat.{zero-add, add-assoc}
+use Prim.Native.Nat.{ℕ, _≤_, _<_}
 use native.Mathlib.Omega.{arith}
 use lib.ListN.{length}
-use borrow.Author.Needs.{needs}
-use borrow.Author.Tests.{lt-ltb, le-ltb}
+use borrow.Author.Tests.{lt-ltb, le-ltb, eq-eqb, ne-eqb}
 use Rattle.fields.specs.Fields.{if}
-use Rattle.sheet.specs.declared.Kind.{Kind}
-use Rattle.sheet.specs.declared.Kind.the-variants.{Data, Code, Gs, Start}
-use Rattle.sheet.specs.declared.Reading.{Reading}
-use Rattle.sheet.specs.declared.Reading.the-variants.{End, Found, Refused}
 use Rattle.sheet.specs.declared.StepsAnswer.the-variants.{Steps, Refused as StepsRefused}
-use Rattle.sheet.specs.declared.totals.Totals.{Totals}
+use Rattle.sheet.specs.declared.sums.Totals.{Totals}
 use Rattle.sheet.specs.declared.totals.Measured.{Measured}
 use Rattle.sheet.specs.declared.totals.Measured.the-variants.{Whole, Refused as MeasureRefused}
-use Rattle.sheet.specs.Records.{Record, recordOf, bodyLength}
-use Rattle.sheet.specs.Reader.{Contents, valid, refused, before, readingAt, contentsFrom, contentsOf}
-use Rattle.sheet.specs.Sizes.{sheetQuadwords, sheetSteps, sheetEntries}
+use Rattle.sheet.specs.Records.{Record}
+use Rattle.sheet.specs.Reader.{Contents, valid, refused}
+use Rattle.sheet.specs.Groups.{startsSecond}
+use Rattle.sheet.specs.Editions.{expansionFrom, limited, editionRefusal, secondOf, contentsOf}
 use Rattle.sheet.specs.Results.{stepsIn}
-use Rattle.sheet.specs.Inner.{totals, recordTotals, endTotals, sheetTotals, together, Within, measuredFrom, measuredOf}
-use Rattle.sheet.proofs.ReaderLaws.{found-next, from-end, from-found, from-refused}
+use Rattle.sheet.specs.Sums.{sheetTotals, measuredOf}
+use Rattle.sheet.proofs.EditionLaws.{first-limited}
 
--- a record's sums are not above its bytes
-record-within : (k : Kind) (n : ℕ) → Within (recordTotals k n) (6 + bodyLength k n)
-record-within Data n = search needs
-record-within Code n = search needs
-record-within Gs n = search needs
-record-within Start n = search needs
-
-pub within-more : {t : Totals} {a b : ℕ} → Within t a → a ≤ b → Within t b
-within-more w h = search needs
-
--- from nothing on
-from-nothing : (c : Contents) → measuredFrom (totals 0 0 0) c ≡ measuredOf c
-from-nothing (valid rs) = rw (zero-add (sheetQuadwords rs), zero-add (sheetSteps rs), zero-add (sheetEntries rs))
-from-nothing (refused n offset) = refl
-
--- a record more
-module _ (t : Totals) (r : Record) where
-  record-more : (c : Contents) → measuredFrom t (before r c) ≡ measuredFrom (together t (recordTotals (r .kind) (r .count))) c
-  unfolding sheetQuadwords sheetSteps sheetEntries
-  record-more (valid rs) = simp add-assoc
-  record-more (refused n offset) = refl
+-- ---- by the edition
 
 module _ (sheet : List ℕ) where
+  pub second-refused : {n : ℕ} → n ≡ editionRefusal sheet → (n ≡ 0 → ⊥) → MeasureRefused n 0 ≡ measuredOf (secondOf sheet)
+  unfolding secondOf if
+  second-refused e z = rw (← e, ne-eqb _ _ z)
+
+  pub second-items : {n : ℕ} {m : Measured} → n ≡ editionRefusal sheet → n ≡ 0 → m ≡ measuredOf (limited (expansionFrom sheet 6)) → m ≡ measuredOf (secondOf sheet)
+  unfolding secondOf if
+  second-items e z h = rw (← e, eq-eqb _ _ z) h
+
   pub too-long : 131072 < length sheet → MeasureRefused 46 0 ≡ measuredOf (contentsOf sheet)
   unfolding contentsOf if
   too-long h = rw (lt-ltb _ _ h)
 
-  pub begins : length sheet ≤ 131072 → measuredFrom (totals 0 0 0) (contentsFrom sheet 0) ≡ measuredOf (contentsOf sheet)
-  unfolding contentsOf if
-  begins h = rw (le-ltb _ _ h) (from-nothing (contentsFrom sheet 0))
+  module _ (h : length sheet ≤ 131072) {m : Measured} where
+    pub measured-second : startsSecond sheet ≡ true → m ≡ measuredOf (secondOf sheet) → m ≡ measuredOf (contentsOf sheet)
+    unfolding contentsOf if
+    measured-second s e = rw (le-ltb _ _ h, s) e
 
-  module _ (t : Totals) (at : ℕ) {x : Measured} {r : Reading} (e : measuredFrom t (contentsFrom sheet at) ≡ x) (re : r ≡ readingAt sheet at) where
-    pub at-end : {u s : Totals} → r ≡ End → u ≡ endTotals → s ≡ together t u → Whole s ≡ x
-    unfolding sheetQuadwords sheetSteps sheetEntries
-    at-end h ue se = rw (se, ue) (rw (from-end sheet at (sym re ∙ h)) at e)
-
-    pub at-refused : {n offset : ℕ} → r ≡ Refused n offset → MeasureRefused n offset ≡ x
-    at-refused h = rw (from-refused sheet at _ _ (sym re ∙ h)) at e
-
-    module _ {k : Kind} {n a next : ℕ} (h : r ≡ Found k n a next) {u s : Totals} (ue : u ≡ recordTotals k n) (se : s ≡ together t u) where
-      pub at-found : measuredFrom s (contentsFrom sheet next) ≡ x
-      at-found = rw (se, ue) (sym (record-more t (recordOf k n a _) (contentsFrom sheet next)) ∙ rw (from-found sheet at k n a next (sym re ∙ h)) at e)
-
-      pub found-small : length sheet ≤ 131072 → Within u 131072
-      found-small l =
-          let f = found-next sheet at k n a next (sym re ∙ h) in rw ue (within-more (record-within k n) (omega arith))
-
-      pub found-within : Within t at → Within s next
-      found-within w =
-          let f = found-next sheet at k n a next (sym re ∙ h) in
-          let v = record-within k n in
-          rw (se, ue) (search needs)
+    pub measured-first : startsSecond sheet ≡ false → m ≡ measuredOf (limited (expansionFrom sheet 0)) → m ≡ measuredOf (contentsOf sheet)
+    unfolding contentsOf if
+    measured-first s e = rw (le-ltb _ _ h, s) (rw (first-limited sheet s h) at e)
 
 -- ---- what a measured sheet says of its contents
 

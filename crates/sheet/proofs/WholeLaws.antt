@@ -1,19 +1,17 @@
--- The reader loses nothing: a sheet that is read as records is those records' bytes, and each record meets its row.
+-- The reader of the first edition loses nothing: what is read as records is those records' bytes, and each record meets its row.
 use mathlib.Core.Path.{_≡_, refl, sym, _∙_}
-use mathlib.Core.Bool.{Bool, true, false}
 use mathlib.Core.List.{List, [], _∷_, _++_}
 use Prim.Native.Nat.{ℕ, zero, suc, _+_, _*_, _%_, _/_, _≤_, _<_}
 use native.Mathlib.Nat.{add-zero, add-assoc}
 use native.Mathlib.Omega.{arith}
 use lib.ListN.{length, getD, take, drop, take-append-drop, drop-of-length-le, length-drop}
 use lib.Seq.{drop-cons, length-take-le, getD-take, getD-drop, drop-drop}
-use Rattle.fields.specs.Fields.{if}
 use Rattle.sheet.specs.declared.Kind.{Kind}
 use Rattle.sheet.specs.declared.Kind.the-variants.{Data, Code, Gs, Start}
 use Rattle.sheet.specs.declared.Reading.{Reading}
 use Rattle.sheet.specs.declared.Reading.the-variants.{End, Found, Refused}
 use Rattle.sheet.specs.Records.{Record, recordOf, bodyLength, bytesAt, zerosAt, padsZero, padsFit}
-use Rattle.sheet.specs.Reader.{Contents, valid, refused, before, readingAt, contentsFrom, contentsOf}
+use Rattle.sheet.specs.Reader.{Contents, valid, refused, before, readingAt, contentsFrom}
 use Rattle.sheet.specs.Whole.{recordBytes, sheetBytes, MeetsRow, AllMeet, none, more, Bytes}
 use Rattle.sheet.proofs.ReaderLaws.{FoundThere, found-next, reading-end, from-end, from-found, from-refused}
 
@@ -39,14 +37,14 @@ part-fits Gs xs p n = part-pads xs p (16 * n) n 0 (omega arith) ∙ rw add-zero
 part-fits Start xs p n = refl
 
 -- six elements and the others
-six : (xs : List ℕ) → 6 ≤ length xs
+pub six : (xs : List ℕ) → 6 ≤ length xs
     → xs ≡ getD xs 0 0 ∷ getD xs 1 0 ∷ getD xs 2 0 ∷ getD xs 3 0 ∷ getD xs 4 0 ∷ getD xs 5 0 ∷ drop 6 xs
 six xs h =
     drop-cons xs 0 0 (omega arith)
     ∙ rw (drop-cons xs 1 0 (omega arith), drop-cons xs 2 0 (omega arith), drop-cons xs 3 0 (omega arith), drop-cons xs 4 0 (omega arith), drop-cons xs 5 0 (omega arith))
 
 -- a refused sheet is not valid
-refused-not : {n offset : ℕ} {rs : List Record} → refused n offset ≡ valid rs → ⊥
+pub refused-not : {n offset : ℕ} {rs : List Record} → refused n offset ≡ valid rs → ⊥
 refused-not e = let z : _≡_ {A = ℕ} 0 1 = cc in omega arith
 
 -- a record before others is the first of them
@@ -59,6 +57,16 @@ not-none : (r : Record) (c : Contents) → before r c ≡ valid [] → ⊥
 not-none r (valid rs) e = let z : _≡_ {A = ℕ} 0 1 = cc in omega arith
 not-none r (refused n offset) e = refused-not e
 
+-- a record found meets its row
+pub found-meets : (sheet : List ℕ) (at : ℕ) {k : Kind} {n a next : ℕ} → FoundThere sheet at k n a next → MeetsRow (recordOf k n a (bytesAt sheet (at + 6) (bodyLength k n)))
+found-meets sheet at {k} {n} f =
+    record {
+      count = f .counted;
+      address = f .addressed;
+      size = length-take-le (bodyLength k n) (drop (at + 6) sheet) (rw length-drop (omega arith));
+      pads = part-fits k sheet (at + 6) n ∙ f .padded;
+    }
+
 module _ (sheet : List ℕ) (b : Bytes sheet) where
   module _ (at : ℕ) {k : Kind} {n a next : ℕ} (f : FoundThere sheet at k n a next) where
     -- the record found is its bytes, and the sheet goes on after them
@@ -70,17 +78,8 @@ module _ (sheet : List ℕ) (b : Bytes sheet) where
         six (drop at sheet) (rw length-drop (omega arith))
         ∙ simp (getD-drop, drop-drop, add-zero, f .first, f .second, f .kind, f .count, low, high, body)
 
-    pub found-meets : MeetsRow (recordOf k n a (bytesAt sheet (at + 6) (bodyLength k n)))
-    found-meets =
-        record {
-          count = f .counted;
-          address = f .addressed;
-          size = length-take-le (bodyLength k n) (drop (at + 6) sheet) (rw length-drop (omega arith));
-          pads = part-fits k sheet (at + 6) n ∙ f .padded;
-        }
-
   -- what is read from a place on is what stands there
-  read-on : (rs : List Record) (at : ℕ) (x : Reading) → readingAt sheet at ≡ x → contentsFrom sheet at ≡ valid rs → (drop at sheet ≡ sheetBytes rs) × AllMeet rs
+  pub read-on : (rs : List Record) (at : ℕ) (x : Reading) → readingAt sheet at ≡ x → contentsFrom sheet at ≡ valid rs → (drop at sheet ≡ sheetBytes rs) × AllMeet rs
   unfolding sheetBytes
   read-on [] at End h e = (drop-of-length-le sheet (reading-end sheet at h), none)
   read-on [] at (Found k n a next) h e =
@@ -91,18 +90,5 @@ module _ (sheet : List ℕ) (b : Bytes sheet) where
       let f = found-next sheet at k n a next h in
       let p = first-of _ (sym (from-found sheet at k n a next h) ∙ e) in
       let on = read-on rs next (readingAt sheet next) refl (p .1) in
-      (found-bytes at f ∙ rw (← p .0, on .0), more (rw (p .0) at (found-meets at f)) (on .1))
+      (found-bytes at f ∙ rw (← p .0, on .0), more (rw (p .0) at (found-meets sheet at f)) (on .1))
   read-on (r ∷ rs) at (Refused n offset) h e = absurd (refused-not (sym (from-refused sheet at n offset h) ∙ e))
-
--- a sheet that is read was not too long
-not-long : (t : Bool) (c : Contents) (rs : List Record) → if t (refused 46 0) c ≡ valid rs → c ≡ valid rs
-unfolding if
-not-long true c rs e = absurd (refused-not e)
-not-long false c rs e = e
-
-pub from-start : (sheet : List ℕ) (rs : List Record) → contentsOf sheet ≡ valid rs → contentsFrom sheet 0 ≡ valid rs
-unfolding contentsOf
-from-start sheet rs e = not-long _ _ rs e
-
-pub reader-loses-nothing : (sheet : List ℕ) (rs : List Record) → Bytes sheet → contentsOf sheet ≡ valid rs → (sheet ≡ sheetBytes rs) × AllMeet rs
-reader-loses-nothing sheet rs b e = read-on sheet b rs 0 (readingAt sheet 0) refl (from-start sheet rs e)

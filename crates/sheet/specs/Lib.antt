@@ -1,10 +1,10 @@
 -- Test sheets, as document 01's chapter "Test sheets and the chain built" and document 02's request 12 have them, read top to bottom.
 pub mod Records
 pub mod Reader
+pub mod Items
 pub mod Whole
 pub mod Sizes
 pub mod Layout
-pub mod Items
 pub mod Groups
 pub mod Editions
 pub mod Build

@@ -1,10 +1,11 @@
--- A sheet as bytes: document 01's "A sheet is records to its end, at most 131,072 bytes. Each: mark 9Eh 51h, kind, count n, address (16 bits), body", and its table.
-use Prim.Native.Nat.{ℕ, _%_, _/_, _<_}
+-- A sheet as bytes, of records and of items: document 01's "A sheet is records to its end, at most 131,072 bytes. Each: mark 9Eh 51h, kind, count n, address (16 bits), body", and its table.
+use Prim.Native.Nat.{ℕ, suc, _%_, _/_, _<_}
 use mathlib.Core.Path.{_≡_}
 use mathlib.Core.Bool.{true}
 use mathlib.Core.List.{List, [], _∷_, _++_}
 use lib.ListN.{length, getD}
 use Rattle.sheet.specs.Records.{Record, kindNumber, countFits, addressFits, bodyLength, padsFit}
+use Rattle.sheet.specs.Items.{Item, single, group, Items, none as no-items, then}
 
 -- the bytes of a record
 abbrev pub recordBytes : Record → List ℕ
@@ -30,3 +31,35 @@ pub data AllMeet : List Record → Type 0 where
 -- a list of bytes
 pub record Bytes (xs : List ℕ) : Type 0 where
   pub below : (i : ℕ) → getD xs i 0 < 256
+
+-- ---- the second edition
+
+-- "a group counts as one record outside": how many items stand inside a group
+unfoldable pub countOf : Items → ℕ
+countOf no-items = 0
+countOf (then i is) = suc (countOf is)
+
+-- the bytes of an item: a record's, or "kind 5, count = repetitions 1 to 255, address = number of records inside, at least 1, which follow at once"
+unfoldable mutual
+  pub itemBytes : Item → List ℕ
+  itemBytes (single r) = recordBytes r
+  itemBytes (group n is) = 158 ∷ 81 ∷ 5 ∷ n ∷ (countOf is % 256) ∷ (countOf is / 256) ∷ itemsBytes is
+
+  pub itemsBytes : Items → List ℕ
+  itemsBytes no-items = []
+  itemsBytes (then i is) = itemBytes i ++ itemsBytes is
+
+-- "kind 0, count 2, address 0 (no body ..)": the record that says the second edition
+abbrev pub editionBytes : List ℕ
+editionBytes = 158 ∷ 81 ∷ 0 ∷ 2 ∷ 0 ∷ 0 ∷ []
+
+-- an item that meets its row: a record its own, a group "repetitions 1 to 255", "at least 1" inside, no more than 16 bits hold, and it stands where groups may stand
+-- so deep
+mutual
+  pub data ItemMeets : ℕ → Item → Type 0 where
+    record-meets : {depth : ℕ} {r : Record} → MeetsRow r → ItemMeets depth (single r)
+    group-meets : {depth n : ℕ} {is : Items} → 0 < n → n < 256 → 0 < countOf is → countOf is < 65536 → ItemsMeet depth is → ItemMeets (suc depth) (group n is)
+
+  pub data ItemsMeet : ℕ → Items → Type 0 where
+    no-more : {depth : ℕ} → ItemsMeet depth no-items
+    one-more : {depth : ℕ} {i : Item} {is : Items} → ItemMeets depth i → ItemsMeet depth is → ItemsMeet depth (then i is)

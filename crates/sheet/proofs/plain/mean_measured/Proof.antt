@@ -10,8 +10,8 @@ sub-room c = let l = means-lengths (c .before .before .before .before .pre) in o
 returns : tie.Need-returns
 returns c = mean-full (c .before .before .before .before .before .pre) (c .if1 .taken)
 
-feed-records-requires : tie.Need-feed-records-requires
-feed-records-requires c κs =
+feed-items-requires : tie.Need-feed-items-requires
+feed-items-requires c κs =
     let q = c .before .before .before in
     mean-feeds (q .before .before .before .before .before .pre) (q .if1 .left)
 
@@ -19,7 +19,7 @@ returns-2 : tie.Need-returns-2
 returns-2 c =
     let w = c .before .before .before .before .before .before in
     let q = w .before .before .before .before in
-    mean-fed (q .before .before .before .before .before .pre) (q .if1 .left) (w .feed-records .ensures)
+    mean-fed (q .before .before .before .before .before .pre) (q .if1 .left) (w .feed-items .ensures)
 
 pub mean-measured-spec : {M : Type 1} → statement M
 mean-measured-spec =
@@ -27,7 +27,7 @@ mean-measured-spec =
     (tie.spec
     sub-room
     returns
-    feed-records-requires
+    feed-items-requires
     (λ c. search needs)
     (λ c. search needs)
     (λ c. search needs)

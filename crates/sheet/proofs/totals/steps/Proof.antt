@@ -1,4 +1,4 @@
-use Rattle.sheet.specs.Reader.{contentsOf}
+use Rattle.sheet.specs.Editions.{contentsOf}
 use Rattle.sheet.proofs.TotalsLaws.{steps-whole, steps-refused}
 use borrow.Author.Needs.{needs}
 use Rattle.sheet.proofs.totals.steps.Statement.{statement}

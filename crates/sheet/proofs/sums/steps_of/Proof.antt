@@ -1,8 +1,8 @@
 use borrow.Author.Needs.{needs}
-use Rattle.sheet.proofs.totals.steps_of.Statement.{statement}
-use Rattle.sheet.proofs.totals.steps_of.Tie as tie
-use Rattle.sheet.proofs.totals.steps_of.Reads as reads
-use Rattle.sheet.proofs.totals.steps_of.Lts as lts
+use Rattle.sheet.proofs.sums.steps_of.Statement.{statement}
+use Rattle.sheet.proofs.sums.steps_of.Tie as tie
+use Rattle.sheet.proofs.sums.steps_of.Reads as reads
+use Rattle.sheet.proofs.sums.steps_of.Lts as lts
 
 enum-told : tie.Need-enum-told
 enum-told c = search needs
