@@ -23,7 +23,8 @@ use Rattle.chain.specs.Start.{startOf}
 use Rattle.chain.specs.Run.{Ran, leftBy, runOf}
 use Rattle.sheet.specs.declared.BuildAnswer.{BuildAnswer}
 use Rattle.sheet.specs.declared.BuildAnswer.the-variants.{Built, Refused as BuildRefused}
-use Rattle.sheet.specs.Reader.{Contents, valid, refused, contentsOf}
+use Rattle.sheet.specs.Reader.{Contents, valid, refused}
+use Rattle.sheet.specs.Editions.{contentsOf}
 use Rattle.sheet.specs.Layout.{chainOf}
 use Rattle.sheet.specs.Build.{Left, left, builtFrom, buildOf}
 use Rattle.conformance.specs.declared.PlayAnswer.the-variants.{Ended, Refused}

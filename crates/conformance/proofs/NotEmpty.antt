@@ -1,15 +1,15 @@
--- Demand 3 speaks of something: for every accepted sheet the reset state, with memories of the right lengths, meets every premise.
+-- Demand 3 speaks of something: for every accepted sheet of either edition the reset state, with memories of the right lengths, meets every premise.
 use mathlib.Core.Path.{_≡_, refl, sym, ap, _∙_}
 use mathlib.Core.Bool.{true, false, not}
 use mathlib.Core.List.{List, [], _++_, append-nil}
 use Prim.Native.Nat.{ℕ, _+_, _*_, _%_, _^_, _≤_}
 use native.Mathlib.Omega.{arith}
-use borrow.Author.Tests.{ltb-false, le-ltb, lt-ltb, eq-eqb, leb-true}
+use borrow.Author.Tests.{ltb-false, le-ltb, lt-ltb, eq-eqb}
 use lib.ListN.{length, take, drop, length-append, length-drop}
 use lib.Seq.{take-at}
-use lib.Dec.{eqb, ltb, leb}
+use lib.Dec.{eqb, ltb}
 use Rattle.fields.specs.Fields.{if}
-use Rattle.fields.proofs.ChoiceLaws.{if-ind-by, and-left, or-right}
+use Rattle.fields.proofs.ChoiceLaws.{or-right}
 use Rattle.gif.specs.Log.{entrySize, logMost, entriesIn, logRefused}
 use Rattle.memories.specs.declared.VifUnit.the-variants.{Vif1}
 use Rattle.memories.specs.Units.{dataWords, codeBytes}
@@ -19,17 +19,20 @@ use Rattle.chain.specs.declared.StartAnswer.the-variants.{Started}
 use Rattle.chain.specs.declared.StartResult.{StartResult}
 use Rattle.chain.specs.Range.{mainRefused, channelInRange, stateInRange, startInRange, stackInRange, tagsInRange, payloadInRange}
 use Rattle.chain.specs.Start.{resetState, startResult, startedFrom, startOf}
-use Rattle.sheet.specs.declared.Kind.{Kind}
-use Rattle.sheet.specs.declared.Kind.the-variants.{Data, Code, Gs, Start}
 use Rattle.sheet.specs.declared.BuildAnswer.the-variants.{Built}
-use Rattle.sheet.specs.Records.{Record, countFits, bodyLength}
-use Rattle.sheet.specs.Reader.{Contents, valid, contentsOf}
-use Rattle.sheet.specs.Whole.{Bytes, AllMeet, none, more, sheetBytes}
-use Rattle.sheet.specs.Sizes.{quadwordsOf, entriesOf, sheetQuadwords, sheetSteps, sheetEntries}
+use Rattle.sheet.specs.Records.{Record, longest}
+use Rattle.sheet.specs.Reader.{valid}
+use Rattle.sheet.specs.Items.{Items, expanded}
+use Rattle.sheet.specs.Editions.{deepest, longestChain, contentsOf}
+use Rattle.sheet.specs.Whole.{AllMeet, sheetBytes, itemsBytes, editionBytes, ItemsMeet}
+use Rattle.sheet.specs.Sizes.{sheetQuadwords, sheetSteps}
 use Rattle.sheet.specs.Layout.{chainOf}
 use Rattle.sheet.specs.Build.{stored, buildOf}
 use Rattle.sheet.specs.Meaning.{plain}
-use Rattle.sheet.proofs.WholeLaws.{reader-loses-nothing}
+use Rattle.sheet.proofs.EditionLaws.{contents-meet, contents-short}
+use Rattle.sheet.proofs.AcceptLaws.{reader-takes-all}
+use Rattle.sheet.proofs.TakenLaws.{tree-takes-all}
+use Rattle.sheet.proofs.MeasureLaws.{quadwords-some, entries-few}
 use Rattle.sheet.proofs.LayoutLaws.{chain-length}
 use Rattle.sheet.proofs.MeaningLaws.{meaning-count}
 use Rattle.conformance.specs.Demand.{recordsOf, meansFrom, Premises}
@@ -37,40 +40,6 @@ use Rattle.conformance.specs.Play.{PlayPremises}
 use Rattle.conformance.proofs.StartLaws.{start-accepted, start-ready}
 use Rattle.conformance.proofs.AnswerLaws.{main-passes}
 use Rattle.conformance.proofs.PlayLaws.{passed-by}
-
--- ---- a sheet's chain and its entries are few
-
--- a record's quadwords and entries, by its bytes
-row-quadwords : (k : Kind) (n : ℕ) → countFits k n ≡ true → 3 * quadwordsOf k n ≤ 6 + bodyLength k n
-row-quadwords Data n h = omega arith
-row-quadwords Code n h = omega arith
-row-quadwords Gs n h = let s = leb-true 1 n (and-left (leb 1 n) (leb n 255) h) in omega arith
-row-quadwords Start n h = omega arith
-
-row-entries : (k : Kind) (n : ℕ) → 6 * entriesOf k n ≤ 6 + bodyLength k n
-row-entries Data n = omega arith
-row-entries Code n = omega arith
-row-entries Gs n = omega arith
-row-entries Start n = omega arith
-
-record Few (rs : List Record) : Type 0 where
-  quadwords : 3 * sheetQuadwords rs ≤ length (sheetBytes rs) + 3
-  some : 1 ≤ sheetQuadwords rs
-  entries : 6 * sheetEntries rs ≤ length (sheetBytes rs)
-
-few : {rs : List Record} → AllMeet rs → Few rs
-unfolding sheetQuadwords sheetEntries sheetBytes
-few none = record { quadwords = omega arith; some = omega arith; entries = omega arith }
-few (more {r} {rs} f fs) =
-    let x = few fs in
-    let q = x .quadwords in
-    let s = x .some in
-    let e = x .entries in
-    let a = row-quadwords (r .kind) (r .count) (f .count) in
-    let b = row-entries (r .kind) (r .count) in
-    let l = length-append (r .body) (sheetBytes rs) in
-    let z = f .size in
-    record { quadwords = omega arith; some = omega arith; entries = omega arith }
 
 -- ---- the reset state
 
@@ -84,21 +53,9 @@ reset-used = refl
 
 -- ---- the premises
 
--- an accepted sheet is short enough
-short-sheet : (sheet : List ℕ) {rs : List Record} → contentsOf sheet ≡ valid rs → length sheet ≤ 131072
-unfolding contentsOf
-short-sheet sheet {rs} h =
-    if-ind-by (λ (c : Contents). c ≡ valid rs → length sheet ≤ 131072) (ltb 131072 (length sheet)) (λ t q. absurd (let z : _≡_ {A = ℕ} 0 1 = cc in omega arith)) (λ t q. ltb-false 131072 (length sheet) t) h
-
-module _ (sheet : List ℕ) (rs : List Record) (b : Bytes sheet) (c : contentsOf sheet ≡ valid rs) where
-  few-of : Few rs
-  few-of = few (reader-loses-nothing sheet rs b c .1)
-
-  sheet-length : length (sheetBytes rs) ≤ 131072
-  sheet-length = let e = ap length (reader-loses-nothing sheet rs b c .0) in let s = short-sheet sheet c in omega arith
-
+module _ (sheet : List ℕ) (rs : List Record) (c : contentsOf sheet ≡ valid rs) where
   chain-whole : length (chainOf rs) ≡ 16 * sheetQuadwords rs
-  chain-whole = chain-length (reader-loses-nothing sheet rs b c .1)
+  chain-whole = chain-length (contents-meet sheet rs c)
 
   records-are : recordsOf sheet ≡ rs
   unfolding recordsOf
@@ -133,8 +90,9 @@ module _ (sheet : List ℕ) (rs : List Record) (b : Bytes sheet) (c : contentsOf
     unfolding resetState
     room-all =
         let n = meaning-count rs (plain (m .mem) (m .code) (entriesIn (m .log) 0)) in
-        let e = few-of .entries in
-        let l = sheet-length in
+        let e = entries-few rs in
+        let l = contents-short sheet rs c in
+        let w = chain-whole in
         rw records-are (omega arith)
 
     -- the chain built there
@@ -176,9 +134,8 @@ module _ (sheet : List ℕ) (rs : List Record) (b : Bytes sheet) (c : contentsOf
       (log : length (m .log) ≡ logMost) where
     taken-whole : mainRefused (length main) ≡ false
     taken-whole =
-        let q = few-of .quadwords in
-        let s = few-of .some in
-        let l = sheet-length in
+        let s = quadwords-some rs in
+        let l = contents-short sheet rs c in
         let w = chain-whole in
         main-passes (length main) (λ z. omega arith) (omega arith) (omega arith)
 
@@ -190,3 +147,13 @@ module _ (sheet : List ℕ) (rs : List Record) (b : Bytes sheet) (c : contentsOf
       → Premises sheet (chainOf rs) (chainOf rs) 0 (length (chainOf rs)) (sheetSteps rs) resetState m
   not-empty m words bytes log =
       reset-meets (chainOf rs) 0 (sheetSteps rs) m (omega arith) (omega arith) (taken-whole (chainOf rs) m refl words bytes log) words bytes log (omega arith) (chainOf rs) [] (omega arith) (sym (append-nil (chainOf rs)))
+
+-- and there are accepted sheets of both editions: all records that meet their rows, and all items that meet theirs and whose chain is not too long
+module _ (m : Lent) (words : length (m .mem) ≡ dataWords Vif1) (bytes : length (m .code) ≡ codeBytes Vif1) (log : length (m .log) ≡ logMost) where
+  pub first-not-empty : (rs : List Record) → AllMeet rs → length (sheetBytes rs) ≤ longest
+      → Premises (sheetBytes rs) (chainOf rs) (chainOf rs) 0 (length (chainOf rs)) (sheetSteps rs) resetState m
+  first-not-empty rs ms h = not-empty (sheetBytes rs) rs (reader-takes-all rs ms h) m words bytes log
+
+  pub second-not-empty : (is : Items) → ItemsMeet deepest is → length (editionBytes ++ itemsBytes is) ≤ longest → length (chainOf (expanded is)) ≤ longestChain
+      → Premises (editionBytes ++ itemsBytes is) (chainOf (expanded is)) (chainOf (expanded is)) 0 (length (chainOf (expanded is))) (sheetSteps (expanded is)) resetState m
+  second-not-empty is ms h l = not-empty (editionBytes ++ itemsBytes is) (expanded is) (tree-takes-all is ms h l) m words bytes log

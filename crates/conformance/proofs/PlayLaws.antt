@@ -23,7 +23,8 @@ use Rattle.chain.specs.Inner.{Ready}
 use Rattle.chain.proofs.ReadyLaws.{tadr-whole}
 use Rattle.sheet.specs.declared.BuildAnswer.the-variants.{Built}
 use Rattle.sheet.specs.Records.{Record}
-use Rattle.sheet.specs.Reader.{Contents, valid, refused, contentsOf}
+use Rattle.sheet.specs.Reader.{Contents, valid, refused}
+use Rattle.sheet.specs.Editions.{contentsOf}
 use Rattle.sheet.specs.Layout.{laidOut, chainOf}
 use Rattle.sheet.specs.Build.{Left, builtFrom, buildOf}
 use Rattle.conformance.specs.declared.PlayAnswer.the-variants.{Ended}

@@ -33,7 +33,9 @@ use Rattle.chain.specs.Step.{vifGiven, gifGiven, payloadStep, stepOf}
 use Rattle.chain.specs.Run.{done, stepsOf, runOf}
 use Rattle.console.specs.Register.{isWaiting, numberSet, setOf}
 use Rattle.sheet.specs.Records.{zerosAt, padsZero}
-use Rattle.sheet.specs.Reader.{marked, kindOf, rowRefusal, recordRefusal, readingAt, recordsFrom, contentsFrom, contentsOf}
+use Rattle.sheet.specs.Reader.{marked, kindOf, rowRefusal, recordRefusal, readingAt, recordsFrom, contentsFrom}
+use Rattle.sheet.specs.Groups.{opensKind, startsSecond}
+use Rattle.sheet.specs.Editions.{contentsOf}
 use Rattle.sheet.specs.Sizes.{sheetSteps}
 use Rattle.sheet.specs.Layout.{laidOut, chainOf}
 use Rattle.sheet.specs.Build.{buildOf}
@@ -60,7 +62,7 @@ unfolding wordAt longAt incomingAt payloadAfter unitOf channelInRange startInRan
 chainOpen = tt
 
 sheetOpen : Unit {0}
-unfolding zerosAt padsZero marked kindOf rowRefusal recordRefusal readingAt recordsFrom contentsFrom contentsOf sheetSteps laidOut chainOf buildOf
+unfolding zerosAt padsZero marked kindOf rowRefusal recordRefusal readingAt recordsFrom contentsFrom opensKind startsSecond contentsOf sheetSteps laidOut chainOf buildOf
 sheetOpen = tt
 
 benchOpen : Unit {0}

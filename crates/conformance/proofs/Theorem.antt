@@ -30,14 +30,16 @@ use Rattle.chain.proofs.RunLaws.{run-done}
 use Rattle.chain.proofs.Theorems.{run-from}
 use Rattle.sheet.specs.declared.BuildAnswer.the-variants.{Built}
 use Rattle.sheet.specs.Records.{Record}
-use Rattle.sheet.specs.Reader.{Contents, valid, refused, contentsOf}
+use Rattle.sheet.specs.Reader.{Contents, valid, refused}
+use Rattle.sheet.specs.Editions.{contentsOf}
 use Rattle.sheet.specs.Sizes.{sheetSteps, sheetEntries}
 use Rattle.sheet.specs.Layout.{chainOf}
 use Rattle.sheet.specs.Build.{Left, builtFrom, buildOf}
 use Rattle.sheet.specs.Meaning.{Plain, plain, meaningOf}
 use Rattle.sheet.specs.Results.{logWith}
 use Rattle.sheet.specs.Fed.{Fed, fed, fedAll}
-use Rattle.sheet.proofs.WholeLaws.{reader-loses-nothing}
+use Rattle.sheet.specs.Whole.{sheetBytes}
+use Rattle.sheet.proofs.SoundLaws.{reader-sound}
 use Rattle.sheet.proofs.MeaningLaws.{meaning-count, log-same}
 use Rattle.sheet.proofs.FedLaws.{fedPlain, fed-sheet}
 use Rattle.conformance.specs.Demand.{recordsOf, meansFrom, Typed, Premises, runFrom, Conclusion}
@@ -185,9 +187,9 @@ module _ (sheet output main : List ℕ) (a size allowance : ℕ) (s : State) (m 
 
   ends : Ended main (sheetSteps rs) begun m (fedPlain means (m .log))
   ends =
-      let w = reader-loses-nothing sheet rs (t .bytes) contents in
+      let w = reader-sound sheet rs (t .bytes) contents in
       rw (← fed-means rs (m .mem) (m .code) (m .log) (s .used) holds room)
-      (sheet-ends main (w .1) (rw (w .0) at (octets sheet (t .bytes))) a begun m idle-begun (p .aligned) room (p .rest) placed)
+      (sheet-ends main (w .meet) (octets (sheetBytes rs) (w .octets .bytes)) a begun m idle-begun (p .aligned) room (p .rest) placed)
 
   run-is : runFrom main a allowance s m ≡ ran Done (ends .state) (ends .reached .counts) (lent (means .mem) (means .code) (logWith (means .entries) (m .log)))
   run-is =

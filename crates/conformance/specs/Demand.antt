@@ -17,7 +17,8 @@ use Rattle.chain.specs.Start.{startOf}
 use Rattle.chain.specs.Run.{Ran, runOf}
 use Rattle.sheet.specs.declared.BuildAnswer.the-variants.{Built}
 use Rattle.sheet.specs.Records.{Record}
-use Rattle.sheet.specs.Reader.{Contents, valid, refused, contentsOf}
+use Rattle.sheet.specs.Reader.{Contents, valid, refused}
+use Rattle.sheet.specs.Editions.{contentsOf}
 use Rattle.sheet.specs.Whole.{Bytes}
 use Rattle.sheet.specs.Sizes.{sheetSteps}
 use Rattle.sheet.specs.Build.{buildOf}

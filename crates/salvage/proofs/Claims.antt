@@ -1,5 +1,6 @@
 -- The sentences of request 8, for every sheet.
 use mathlib.Core.Path.{_≡_, refl, sym, _∙_}
+use mathlib.Core.Bool.{false}
 use mathlib.Core.List.{List, [], _∷_, _++_, append-assoc}
 use Prim.Native.Nat.{ℕ, suc, _+_, _-_, _<_, _≤_}
 use native.Mathlib.Omega.{arith}
@@ -10,14 +11,17 @@ use Rattle.sheet.specs.declared.BuildAnswer.the-variants.{Built}
 use Rattle.sheet.specs.declared.Reading.{Reading}
 use Rattle.sheet.specs.declared.Reading.the-variants.{End, Found, Refused}
 use Rattle.sheet.specs.Records.{Record, longest, bytesAt}
-use Rattle.sheet.specs.Reader.{valid, readingAt, contentsFrom, contentsOf}
+use Rattle.sheet.specs.Reader.{valid, readingAt, contentsFrom}
+use Rattle.sheet.specs.Groups.{startsSecond}
+use Rattle.sheet.specs.Editions.{contentsOf}
 use Rattle.sheet.specs.Whole.{AllMeet, Bytes, none as none-meets, more as meets-more}
 use Rattle.sheet.specs.Layout.{chainOf}
 use Rattle.sheet.specs.Build.{left as built, stored, buildOf}
 use Rattle.sheet.proofs.ReaderLaws.{found-next, reading-end}
 use Rattle.sheet.proofs.RestLaws.{recordAt, rest-end, rest-never, rest-found}
-use Rattle.sheet.proofs.WholeLaws.{found-bytes, found-meets, from-start, reader-loses-nothing}
-use Rattle.sheet.proofs.AcceptLaws.{reader-takes-all, sheet-accepted}
+use Rattle.sheet.proofs.WholeLaws.{found-bytes, found-meets}
+use Rattle.sheet.proofs.EditionLaws.{from-start, reader-loses-nothing}
+use Rattle.sheet.proofs.AcceptLaws.{records-first, reader-takes-all, sheet-accepted}
 use Rattle.salvage.specs.Salvage.{Piece, piecesFrom, piecesOf, recordsIn, keptBytes, Range, range, droppedRanges}
 use Rattle.salvage.specs.Claims.{pieceBytes, bytesOf, outside, ComesTo, start, after-record, after-byte, KeptAt, Apart, none, last, more}
 use Rattle.salvage.specs.Inner.{keptFrom, droppedFrom, rangeEnd}
@@ -33,7 +37,7 @@ module _ (sheet : List ℕ) (b : Bytes sheet) where
   all-meet =
       along sheet (λ (at : ℕ). AllMeet (recordsIn (piecesFrom sheet at)))
       (λ at e. rw (pieces-end sheet at e) none-meets)
-      (λ at k n a next e i. rw (pieces-found sheet at e) (meets-more (found-meets sheet b at (found-next sheet at k n a next e)) i))
+      (λ at k n a next e i. rw (pieces-found sheet at e) (meets-more (found-meets sheet at (found-next sheet at k n a next e)) i))
       (λ at n offset e i. rw (pieces-refused sheet at e) (i (at + 1) (omega arith)))
 
   no-longer : (at : ℕ) → at ≤ length sheet → at + length (keptFrom sheet at) ≤ length sheet
@@ -57,13 +61,17 @@ module _ (sheet : List ℕ) (b : Bytes sheet) where
     pub result-valid : contentsOf (keptBytes sheet) ≡ valid (recordsIn (piecesOf sheet))
     result-valid = let f = kept-few in reader-takes-all (recordsIn (piecesOf sheet)) (all-meet 0) (omega arith)
 
+    -- a sheet of the first edition
+    pub result-first : startsSecond (keptBytes sheet) ≡ false
+    result-first = records-first (recordsIn (piecesOf sheet))
+
     -- and it is built wherever the chain has room
     pub result-built : (output : List ℕ) → length (chainOf (recordsIn (piecesOf sheet))) ≤ length output
         → buildOf (keptBytes sheet) output
         ≡ built (Built (length (chainOf (recordsIn (piecesOf sheet))))) (stored (chainOf (recordsIn (piecesOf sheet))) output)
     result-built output r = let f = kept-few in sheet-accepted (recordsIn (piecesOf sheet)) output (all-meet 0) (omega arith) r
 
--- ---- "A valid sheet comes back unchanged with no range."
+-- ---- "A valid sheet comes back unchanged with no range."; request 12: "Salvage, with its claim on valid sheets, keeps to the first edition"
 
 module _ (sheet : List ℕ) where
   all-kept : (at : ℕ) (rs : List Record) → contentsFrom sheet at ≡ valid rs → (recordsIn (piecesFrom sheet at) ≡ rs) × (droppedFrom sheet at ≡ [])
@@ -77,10 +85,10 @@ module _ (sheet : List ℕ) where
       (rw (pieces-found sheet at e, o .0) (sym (r .whole)), ranges-found sheet at e ∙ o .1))
       (λ at n offset e i rs v. absurd (rest-never sheet at refl v e))
 
-  pub valid-unchanged : (rs : List Record) → Bytes sheet → contentsOf sheet ≡ valid rs → (keptBytes sheet ≡ sheet) × (droppedRanges sheet ≡ [])
-  valid-unchanged rs b v =
-      let k = all-kept 0 rs (from-start sheet rs v) in
-      (rw (k .0) (sym (reader-loses-nothing sheet rs b v .0)), k .1)
+  pub valid-unchanged : (rs : List Record) → Bytes sheet → startsSecond sheet ≡ false → contentsOf sheet ≡ valid rs → (keptBytes sheet ≡ sheet) × (droppedRanges sheet ≡ [])
+  valid-unchanged rs b s v =
+      let k = all-kept 0 rs (from-start sheet rs s v) in
+      (rw (k .0) (sym (reader-loses-nothing sheet rs b s v .0)), k .1)
 
 -- ---- "Kept and dropped bytes together are the input."
 

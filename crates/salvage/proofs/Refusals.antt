@@ -2,6 +2,7 @@
 -- half its length in numbers, rounded down; both buffers untouched."
 use mathlib.Core.Path.{_≡_, sym, ap, _∙_}
 use mathlib.Core.Logic.{_↔_}
+use mathlib.Core.Bool.{false}
 use mathlib.Core.List.{List}
 use Prim.Native.Nat.{ℕ, _*_, _/_, _<_, _≤_}
 use native.Mathlib.Omega.{arith}
@@ -12,9 +13,12 @@ use lib.Dec.{ltb}
 use Rattle.fields.specs.Refusals.{sheetLong, keptExceed, rangesExceed}
 use Rattle.fields.proofs.ChoiceLaws.{if-ind-by}
 use Rattle.sheet.specs.Records.{Record, longest}
-use Rattle.sheet.specs.Reader.{Contents, valid, contentsOf}
+use Rattle.sheet.specs.Reader.{valid}
+use Rattle.sheet.specs.Groups.{startsSecond}
+use Rattle.sheet.specs.Editions.{contentsOf}
 use Rattle.sheet.specs.Whole.{Bytes}
 use Rattle.sheet.specs.Build.{stored}
+use Rattle.sheet.proofs.EditionLaws.{sheet-short}
 use Rattle.salvage.specs.declared.SalvageAnswer.the-variants.{Salvaged, Refused}
 use Rattle.salvage.specs.Salvage.{keptBytes, droppedRanges, numbersOf, Left, left, salvageOf}
 use Rattle.salvage.specs.Claims.{Wrote}
@@ -108,20 +112,12 @@ module _ (sheet output ranges : List ℕ) where
   pub answer-true : (bytes count : ℕ) → salvageOf sheet output ranges .answer ≡ Salvaged bytes count → Wrote sheet output ranges bytes count (salvageOf sheet output ranges)
   answer-true bytes count = wrote bytes count one-case
 
--- "A valid sheet comes back unchanged with no range."
-module _ (sheet : List ℕ) (rs : List Record) (v : contentsOf sheet ≡ valid rs) where
-  not-long : length sheet ≤ longest
-  unfolding contentsOf
-  not-long =
-      if-ind-by (λ (c : Contents). c ≡ valid rs → length sheet ≤ longest) (ltb longest (length sheet))
-      (λ t e. absurd (let z : _≡_ {A = ℕ} 0 1 = cc in omega arith))
-      (λ f e. ltb-false _ _ f)
-      v
-
+-- "A valid sheet comes back unchanged with no range."; request 12: a sheet of the first edition
+module _ (sheet : List ℕ) (rs : List Record) (first : startsSecond sheet ≡ false) (v : contentsOf sheet ≡ valid rs) where
   pub valid-back : (output ranges : List ℕ) → Bytes sheet → length sheet ≤ length output
       → salvageOf sheet output ranges
       ≡ left (Salvaged (length sheet) 0) (stored sheet output) ranges
   unfolding numbersOf
   valid-back output ranges b room =
-      let u = valid-unchanged sheet rs b v in
-      sym (salvages sheet output ranges not-long (rw (u .0) room) (rw (u .1) (omega arith))) ∙ rw (u .0, u .1)
+      let u = valid-unchanged sheet rs b first v in
+      sym (salvages sheet output ranges (sheet-short sheet rs v) (rw (u .0) room) (rw (u .1) (omega arith))) ∙ rw (u .0, u .1)

@@ -35,7 +35,7 @@ numbered Start = (refl, refl)
 
 module _ (sheet : List ℕ) (at : ℕ) where
   -- what stands at a place and meets its row is found: the converse of `found-next`
-  there-found : {k : Kind} {n a next : ℕ} → FoundThere sheet at k n a next → readingAt sheet at ≡ Found k n a next
+  pub there-found : {k : Kind} {n a next : ℕ} → FoundThere sheet at k n a next → readingAt sheet at ≡ Found k n a next
   unfolding readingAt recordRefusal rowRefusal marked if
   there-found {k} {next = next} f =
       rw (
@@ -56,24 +56,24 @@ module _ (sheet : List ℕ) (at : ℕ) where
       )
 
   -- what is left of the sheet from the place on
-  left-there : {xs : List ℕ} → drop at sheet ≡ xs → length sheet - at ≡ length xs
+  pub left-there : {xs : List ℕ} → drop at sheet ≡ xs → length sheet - at ≡ length xs
   left-there e = sym (length-drop at sheet) ∙ rw e
 
   -- a record that stands at the place, and what follows it
   module _ (r : Record) (rest : List ℕ) (m : MeetsRow r) (e : drop at sheet ≡ recordBytes r ++ rest) where
-    abbrev after : ℕ
+    abbrev pub after : ℕ
     after = at + 6 + bodyLength (r .kind) (r .count)
 
     byte : (i : ℕ) → getD sheet (at + i) 0 ≡ getD (recordBytes r ++ rest) i 0
     byte i = sym (getD-drop at sheet i 0) ∙ rw e
 
-    body : bytesAt sheet (at + 6) (bodyLength (r .kind) (r .count)) ≡ r .body
+    pub body : bytesAt sheet (at + 6) (bodyLength (r .kind) (r .count)) ≡ r .body
     body = rw (← drop-drop 6 at sheet, e) (take-at (r .body) rest _ (m .size))
 
-    onward : drop after sheet ≡ rest
+    pub onward : drop after sheet ≡ rest
     onward = rw (← drop-drop (bodyLength (r .kind) (r .count)) (at + 6) sheet, ← drop-drop 6 at sheet, e) (drop-at (r .body) rest _ (m .size))
 
-    there : FoundThere sheet at (r .kind) (r .count) (r .address) after
+    pub there : FoundThere sheet at (r .kind) (r .count) (r .address) after
     there =
         record {
           first = rw add-zero at (byte 0);

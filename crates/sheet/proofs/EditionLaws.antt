@@ -87,7 +87,7 @@ few sheet (r ∷ rs) at (Found k n a next) e v h =
     rest-same p = cc
 few sheet (r ∷ rs) at (Refused n offset) e v h = absurd (rest-never sheet at refl v e)
 
-within-limit : (rs : List Record) → length (chainOf rs) ≤ longestChain → limited (valid rs) ≡ valid rs
+pub within-limit : (rs : List Record) → length (chainOf rs) ≤ longestChain → limited (valid rs) ≡ valid rs
 unfolding limited if
 within-limit rs h = rw (le-ltb longestChain (length (chainOf rs)) h)
 

@@ -15,6 +15,7 @@ pub mod EditionLaws
 pub mod SoundLaws
 pub mod TreeLaws
 pub mod AcceptLaws
+pub mod TakenLaws
 pub mod MeasureLaws
 pub mod TotalsLaws
 pub mod ActLaws
@@ -24,3 +25,4 @@ pub mod MeaningLaws
 pub mod FedLaws
 pub mod FeederLaws
 pub mod AnswerLaws
+pub mod Points

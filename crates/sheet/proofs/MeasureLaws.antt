@@ -79,11 +79,11 @@ steps-few Code n = omega arith
 steps-few Gs n = omega arith
 steps-few Start n = omega arith
 
-entries-few : (k : Kind) (n : ℕ) → entriesOf k n ≤ quadwordsOf k n
-entries-few Data n = omega arith
-entries-few Code n = omega arith
-entries-few Gs n = omega arith
-entries-few Start n = omega arith
+row-entries : (k : Kind) (n : ℕ) → entriesOf k n ≤ quadwordsOf k n
+row-entries Data n = omega arith
+row-entries Code n = omega arith
+row-entries Gs n = omega arith
+row-entries Start n = omega arith
 
 -- a sheet has at most four steps and one entry a quadword
 sums-few : (rs : List Record) → (sumOf steps rs ≤ 4 * sumOf quadwords rs) × (sumOf entries rs ≤ sumOf quadwords rs)
@@ -92,8 +92,14 @@ sums-few [] = (omega arith, omega arith)
 sums-few (r ∷ rs) =
     let h = sums-few rs in
     let s = steps-few (r .kind) (r .count) in
-    let e = entries-few (r .kind) (r .count) in
+    let e = row-entries (r .kind) (r .count) in
     (omega arith, omega arith)
+
+pub entries-few : (rs : List Record) → sheetEntries rs ≤ sheetQuadwords rs
+entries-few rs = let h = sums-few rs in let q = quadwords-sum rs in let e = entries-sum rs in omega arith
+
+pub quadwords-some : (rs : List Record) → 1 ≤ sheetQuadwords rs
+quadwords-some rs = let q = quadwords-sum rs in omega arith
 
 -- the sums with the end tag, as they are counted
 counted : ℕ → ℕ → ℕ
