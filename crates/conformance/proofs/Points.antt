@@ -34,8 +34,9 @@ use Rattle.chain.specs.Run.{done, stepsOf, runOf}
 use Rattle.console.specs.Register.{isWaiting, numberSet, setOf}
 use Rattle.sheet.specs.Records.{zerosAt, padsZero}
 use Rattle.sheet.specs.Reader.{marked, kindOf, rowRefusal, recordRefusal, readingAt, recordsFrom, contentsFrom}
-use Rattle.sheet.specs.Groups.{opensKind, startsSecond}
-use Rattle.sheet.specs.Editions.{contentsOf}
+use Rattle.sheet.specs.Items.{repeated, expandedItem}
+use Rattle.sheet.specs.Groups.{opensKind, startsSecond, opensGroup, groupRefusal, headerAt, membersFrom, groupFrom, itemAt}
+use Rattle.sheet.specs.Editions.{itemsFrom, expansionFrom, limited, editionRefusal, secondOf, contentsOf}
 use Rattle.sheet.specs.Sizes.{sheetSteps}
 use Rattle.sheet.specs.Layout.{laidOut, chainOf}
 use Rattle.sheet.specs.Build.{buildOf}
@@ -64,6 +65,10 @@ chainOpen = tt
 sheetOpen : Unit {0}
 unfolding zerosAt padsZero marked kindOf rowRefusal recordRefusal readingAt recordsFrom contentsFrom opensKind startsSecond contentsOf sheetSteps laidOut chainOf buildOf
 sheetOpen = tt
+
+groupsOpen : Unit {0}
+unfolding secondOf editionRefusal limited expansionFrom itemsFrom itemAt groupFrom membersFrom headerAt groupRefusal opensGroup repeated expandedItem
+groupsOpen = tt
 
 benchOpen : Unit {0}
 unfolding recordsOf runIn runOfWords builtFrom sizeOf chainBytes wordsAt chainWords runOfSheet stepsFor loggedIn quadwordIn instructionIn allZero partsWritten quadwordsFrom instructionsFrom dueIn rowIn answerIn runOfVif0 answersTo startedIn tagTransferred runOn7 runFrom second third playRefusal playOf playedFrom0 tagUpload uploadAcrossTags resumed drawn drawnBy packetsIn stoppedAt resumedAt mixed1 mixed2 mixed0 logOf overflowing preset masked answerToSet
@@ -131,10 +136,15 @@ requestsOpened : Unit {0}
 unfolding opened requestPoints
 requestsOpened = tt
 
+-- request 12
+groups : AllHold (drop 55 requestPoints)
+unfolding requestsOpened groupsOpen
+groups = (refl, (refl, (refl, tt)))
+
 -- request 7
 sets : AllHold (drop 53 requestPoints)
 unfolding requestsOpened isWaiting numberSet setOf
-sets = (refl, (refl, tt))
+sets = (refl, (refl, groups))
 
 -- request 9
 stops : AllHold (drop 51 requestPoints)

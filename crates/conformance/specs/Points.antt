@@ -159,6 +159,10 @@ dataSheet = 0x9e ∷ 0x51 ∷ 1 ∷ 2 ∷ 0xff ∷ 3 ∷ wordsBytes (1 ∷ 2 ∷
 abbrev pub gsSheet : List ℕ
 gsSheet = 0x9e ∷ 0x51 ∷ 3 ∷ 1 ∷ 0 ∷ 0 ∷ wordsBytes (1 ∷ 0 ∷ 0xa ∷ 0 ∷ [])
 
+-- request 12: a sheet of the second edition, and in it a group of so many repetitions of one start
+abbrev pub groupSheet : ℕ → List ℕ
+groupSheet n = 0x9e ∷ 0x51 ∷ 0 ∷ 2 ∷ 0 ∷ 0 ∷ 0x9e ∷ 0x51 ∷ 5 ∷ n ∷ 1 ∷ 0 ∷ startSheet
+
 -- ---- VIF1's words
 
 -- STCYCL 1, 1; NOP; UNPACK S-8, NUM 1, A 0; its word
@@ -571,4 +575,9 @@ requestPoints =
     ∷ point (quadwordIn (masked 1 blank) 0 ++ quadwordIn (masked 0 blank0) 0) (21 ∷ 17 ∷ 17 ∷ 24 ∷ 21 ∷ 17 ∷ 17 ∷ 24 ∷ [])
     -- "50 for a number above 7, then 51 if a code is waiting for payload"
     ∷ point (answerToSet Nothing 7 ∷ answerToSet Nothing 8 ∷ answerToSet (RowDue 4 false) 7 ∷ answerToSet (RowDue 4 false) 8 ∷ []) (0 ∷ 50 ∷ 51 ∷ 50 ∷ [])
+    -- request 12: "The built chain is the expanded one, and size and step formulas are sums over the expansion."
+    ∷ point (sizeOf (groupSheet 3) ∷ stepsFor (groupSheet 3)) (112 ∷ 0 ∷ 16 ∷ 16 ∷ [])
+    ∷ point (loggedIn (runOfSheet (groupSheet 2))) (0 ∷ 256 ∷ 5 ∷ 0 ∷ 256 ∷ 5 ∷ [])
+    -- "42 .. for 0 repetitions"; a chain of 144 bytes does not fit into 128
+    ∷ point (sizeOf (groupSheet 0) ∷ sizeOf (groupSheet 4) ∷ []) (42 ∷ 47 ∷ [])
     ∷ []

@@ -9,7 +9,7 @@ use Rattle.sheet.specs.Records.{Record, recordOf, bodyLength, bytesAt}
 use Rattle.sheet.specs.Reader.{Contents, valid, refused as noContents}
 use Rattle.sheet.specs.declared.heads.Header.{Header}
 use Rattle.sheet.specs.declared.heads.Header.the-variants.{End, Single, Group, Refused}
-use Rattle.sheet.specs.Items.{Item, single, group, Items, none, then, repeated, expandedItem, expanded}
+use Rattle.sheet.specs.Items.{Item, group, none, repeated, expandedItem, expanded}
 use Rattle.sheet.specs.Groups.{headerAt}
 use Rattle.sheet.specs.Groups.{ItemRead, ended, item, refused, MembersRead, members, broken, onMember, membersFrom, grouped, groupFrom, itemAt}
 use Rattle.sheet.specs.Acts.{Done, done, itemDone, membersDone, turnsDone, ItemFits, MembersFit, TurnsFit, SheetFits, sheetDone}

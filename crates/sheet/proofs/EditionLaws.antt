@@ -13,7 +13,6 @@ use Rattle.sheet.specs.declared.Kind.{Kind}
 use Rattle.sheet.specs.declared.Kind.the-variants.{Data, Code, Gs, Start}
 use Rattle.sheet.specs.declared.Reading.{Reading}
 use Rattle.sheet.specs.declared.Reading.the-variants.{End, Found, Refused}
-use Rattle.sheet.specs.declared.heads.Header.{Header}
 use Rattle.sheet.specs.Records.{Record, recordOf, longest, countFits, bodyLength, bytesAt}
 use Rattle.sheet.specs.Reader.{Contents, valid, refused, before, readingAt, recordsFrom, contentsFrom}
 use Rattle.sheet.specs.Whole.{AllMeet, Bytes, sheetBytes}

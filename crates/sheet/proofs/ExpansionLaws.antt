@@ -1,5 +1,5 @@
 -- What holds of every record read holds of the expansion; every record of it meets its row.
-use mathlib.Core.Path.{_≡_, refl, sym, ap, _∙_}
+use mathlib.Core.Path.{_≡_, refl, sym, _∙_}
 use mathlib.Core.List.{List, [], _∷_, _++_}
 use Prim.Native.Nat.{ℕ, zero, suc, _+_, _-_, _<_, _≤_}
 use native.Mathlib.Omega.{arith}
@@ -13,9 +13,9 @@ use Rattle.sheet.proofs.ReaderLaws.{found-next}
 use Rattle.sheet.proofs.WholeLaws.{found-meets}
 use Rattle.sheet.specs.declared.heads.Header.{Header}
 use Rattle.sheet.specs.declared.heads.Header.the-variants.{End, Single, Group, Refused}
-use Rattle.sheet.specs.Items.{Item, single, group, Items, none, then, repeated, expandedItem, expanded}
+use Rattle.sheet.specs.Items.{Item, single, Items, none, repeated, expandedItem, expanded}
 use Rattle.sheet.specs.Groups.{headerAt}
-use Rattle.sheet.specs.Groups.{ItemRead, ended, item, refused as itemRefused, MembersRead, members, membersFrom, groupFrom, itemAt}
+use Rattle.sheet.specs.Groups.{ItemRead, ended, item, refused as itemRefused, members, membersFrom, groupFrom, itemAt}
 use Rattle.sheet.specs.Editions.{beforeAll, onItem, deepest, itemsFrom, expansionFrom}
 use Rattle.sheet.proofs.HeaderLaws.{group-opens, single-found, header-past}
 use Rattle.sheet.proofs.ItemLaws.{item-end, item-single, item-group, item-refused}

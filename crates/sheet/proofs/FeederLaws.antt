@@ -1,17 +1,17 @@
 -- Records that are fed one after another: an action on the memories and a log.
-use mathlib.Core.Path.{_≡_, refl, sym, ap, _∙_}
+use mathlib.Core.Path.{_≡_, refl, _∙_}
 use mathlib.Core.List.{List, [], _∷_, _++_}
-use Prim.Native.Nat.{ℕ, _+_, _*_, _≤_}
+use Prim.Native.Nat.{ℕ, _+_, _*_}
 use native.Mathlib.Nat.{zero-add, add-zero, add-assoc}
 use native.Mathlib.Omega.{arith}
 use lib.ListN.{length}
-use lib.Seq.{sets, length-sets}
+use lib.Seq.{length-sets}
 use Rattle.gif.specs.Log.{entrySize, numbers}
 use Rattle.sheet.specs.declared.Kind.{Kind}
 use Rattle.sheet.specs.declared.heads.Header.{Header}
 use Rattle.sheet.specs.declared.heads.Header.the-variants.{Single}
 use Rattle.sheet.specs.Records.{Record}
-use Rattle.sheet.specs.Sizes.{entriesOf, sheetEntries}
+use Rattle.sheet.specs.Sizes.{sheetEntries}
 use Rattle.sheet.specs.Meaning.{entriesBy}
 use Rattle.sheet.specs.Groups.{headerAt}
 use Rattle.sheet.specs.Fed.{Fed, fed, fedBy, fedAll, FeedRoom, RecordsRoom}

@@ -1,20 +1,19 @@
 -- What a header says of the bytes.
-use mathlib.Core.Path.{_≡_, refl, sym, _∙_}
-use mathlib.Core.Bool.{Bool, true, false, _&&_}
+use mathlib.Core.Path.{_≡_, refl, sym}
+use mathlib.Core.Bool.{Bool, true, false}
 use mathlib.Core.List.{List}
-use Prim.Native.Nat.{ℕ, zero, suc, _+_, _*_, _<_, _≤_}
+use Prim.Native.Nat.{ℕ, _+_, _<_, _≤_}
 use native.Mathlib.Omega.{arith}
 use lib.ListN.{length, getD}
 use lib.Dec.{eqb, leb}
 use borrow.Author.Tests.{leb-true, eqb-true, eqb-false, le-leb, lt-leb, eq-eqb, ne-eqb}
 use Rattle.fields.specs.Fields.{if}
-use Rattle.fields.proofs.ChoiceLaws.{and-left, and-right, and-later, if-zero}
+use Rattle.fields.proofs.ChoiceLaws.{and-left, and-later, if-zero}
 use Rattle.sheet.specs.declared.Kind.{Kind}
 use Rattle.sheet.proofs.ReaderLaws.{past, reading-end}
 use Rattle.sheet.specs.declared.Reading.{Reading}
 use Rattle.sheet.specs.declared.Reading.the-variants.{End as NoRecord, Found, Refused as RecordRefused}
 use Rattle.sheet.specs.Reader.{marked, countAt, addressAt, readingAt}
-use Rattle.sheet.specs.declared.heads.Header.{Header}
 use Rattle.sheet.specs.declared.heads.Header.the-variants.{End, Single, Group, Refused}
 use Rattle.sheet.specs.Groups.{opensKind, startsSecond, opensGroup, groupRefusal, plainHeader, headerAt}
 

@@ -1,25 +1,23 @@
 -- Reading items, one turn at a time.
-use mathlib.Core.Path.{_≡_, refl, sym, ap, _∙_}
-use mathlib.Core.List.{List, [], _∷_, _++_}
-use Prim.Native.Nat.{ℕ, zero, suc, _+_, _*_, _-_, _<_, _≤_}
+use mathlib.Core.Path.{_≡_, refl, sym, _∙_}
+use mathlib.Core.List.{List}
+use Prim.Native.Nat.{ℕ, zero, suc, _+_, _-_, _<_, _≤_}
 use native.Mathlib.Omega.{arith}
 use lib.ListN.{length}
 use Rattle.sheet.specs.declared.Kind.{Kind}
-use Rattle.sheet.specs.Records.{Record, recordOf, bodyLength, bytesAt}
-use Rattle.sheet.specs.Reader.{readingAt}
+use Rattle.sheet.specs.Records.{recordOf, bodyLength, bytesAt}
 use Rattle.sheet.specs.Sizes.{quadwordsOf, stepsOf, entriesOf}
-use Rattle.sheet.proofs.ReaderLaws.{found-next}
 use Rattle.sheet.specs.declared.sums.Totals.{Totals}
 use Rattle.sheet.specs.declared.heads.Header.{Header}
 use Rattle.sheet.specs.declared.heads.Header.the-variants.{End, Single, Group, Refused}
 use Rattle.sheet.specs.declared.items.ItemAnswer.{ItemAnswer}
 use Rattle.sheet.specs.declared.items.ItemAnswer.the-variants.{End as NoItem, Found, Refused as ItemRefused}
-use Rattle.sheet.specs.Items.{Item, single, group, Items, none, then, expandedItem, expanded}
+use Rattle.sheet.specs.Items.{Item, single, group, expandedItem, expanded}
 use Rattle.sheet.specs.Groups.{headerAt}
-use Rattle.sheet.specs.Groups.{ItemRead, ended, item, refused, MembersRead, members, broken, before, onMember, membersFrom, grouped, onHeader, groupFrom, itemAt}
+use Rattle.sheet.specs.Groups.{ItemRead, ended, item, refused, MembersRead, members, broken, before, onMember, membersFrom, grouped, groupFrom, itemAt}
 use Rattle.sheet.specs.Sums.{totals, cappedTotals, totalsOf, joined, scaled, answered, answeredFrom}
 use Rattle.sheet.proofs.SumLaws.{totals-append, totals-repeated, joined-more, joined-first, joined-last, totals-one}
-use Rattle.sheet.proofs.HeaderLaws.{group-opens, single-found}
+use Rattle.sheet.proofs.HeaderLaws.{group-opens}
 
 -- ---- an item by its header
 

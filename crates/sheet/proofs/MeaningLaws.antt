@@ -5,7 +5,7 @@ use Prim.Native.Nat.{ℕ, zero, suc, _+_, _*_, _-_, _%_, _≤_, _<_}
 use native.Mathlib.Nat.{add-zero, sub-zero}
 use native.Mathlib.Numerals.{add-one}
 use native.Mathlib.Omega.{arith}
-use lib.ListN.{length, getD, set, take, drop, length-append, length-drop, take-append-drop}
+use lib.ListN.{length, getD, set, drop, length-append, length-drop, take-append-drop}
 use lib.Seq.{sets, length-sets, sets-eq, take-at, drop-append-add, drop-drop}
 use Rattle.gif.specs.declared.Entry.{Entry}
 use Rattle.gif.specs.Log.{entrySize, entry, numbers, entriesIn}

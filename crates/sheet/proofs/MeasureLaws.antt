@@ -1,8 +1,8 @@
 -- The sums of a sheet: one item more, the end and a refusal; where they stop, and that they are exact where the chain is not too long.
 use mathlib.Core.Path.{_≡_, refl, sym, ap, _∙_}
 use mathlib.Core.Bool.{Bool, true, false}
-use mathlib.Core.List.{List, [], _∷_, _++_}
-use Prim.Native.Nat.{ℕ, zero, suc, _+_, _*_, _<_, _≤_, min}
+use mathlib.Core.List.{List, [], _∷_}
+use Prim.Native.Nat.{ℕ, _+_, _*_, _<_, _≤_}
 use native.Mathlib.Omega.{arith}
 use lib.ListN.{length}
 use lib.Dec.{ltb}
@@ -13,15 +13,15 @@ use Rattle.sheet.specs.declared.Kind.the-variants.{Data, Code, Gs, Start
 use Rattle.sheet.specs.Records.{Record}
 use Rattle.sheet.specs.Reader.{Contents, valid, refused}
 use Rattle.sheet.specs.Whole.{AllMeet}
-use Rattle.sheet.specs.Sizes.{quadwordsOf, stepsOf, entriesOf, sheetQuadwords, sheetSteps, sheetEntries}
+use Rattle.sheet.specs.Sizes.{quadwordsOf, stepsOf, entriesOf, sheetQuadwords, sheetEntries}
 use Rattle.sheet.specs.Layout.{chainOf}
 use Rattle.sheet.proofs.LayoutLaws.{chain-length}
 use Rattle.sheet.specs.declared.sums.Totals.{Totals}
 use Rattle.sheet.specs.declared.items.ItemAnswer.{ItemAnswer}
 use Rattle.sheet.specs.declared.items.ItemAnswer.the-variants.{End, Found, Refused}
 use Rattle.sheet.specs.declared.totals.Measured.{Measured}
-use Rattle.sheet.specs.declared.totals.Measured.the-variants.{Whole, Refused as MeasureRefused}
-use Rattle.sheet.specs.Items.{Item, expandedItem}
+use Rattle.sheet.specs.declared.totals.Measured.the-variants.{Refused as MeasureRefused}
+use Rattle.sheet.specs.Items.{expandedItem}
 use Rattle.sheet.specs.Groups.{ItemRead, ended, item, refused as itemRefused, itemAt}
 use Rattle.sheet.specs.Sums.{sumOf, quadwords, steps, entries, most, capped, totals, totalsOf, endTotals, joined, answered, measuredOf, within, summed}
 use Rattle.sheet.specs.Editions.{beforeAll, onItem, deepest, expansionFrom, limited}

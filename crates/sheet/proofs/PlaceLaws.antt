@@ -1,20 +1,18 @@
 -- Items that are read: what they are made of, and where they end.
-use mathlib.Core.Path.{_≡_, refl, sym, ap, _∙_}
+use mathlib.Core.Path.{_≡_, refl, sym, _∙_}
 use mathlib.Core.List.{List}
 use Prim.Native.Nat.{ℕ, zero, suc, _+_, _-_, _<_, _≤_}
 use native.Mathlib.Omega.{arith}
 use lib.ListN.{length}
-use Rattle.sheet.specs.declared.Kind.{Kind}
-use Rattle.sheet.specs.Records.{recordOf, bodyLength, bytesAt}
 use Rattle.sheet.proofs.ReaderLaws.{found-next}
 use Rattle.sheet.specs.declared.sums.Totals.{Totals}
 use Rattle.sheet.specs.declared.heads.Header.{Header}
 use Rattle.sheet.specs.declared.heads.Header.the-variants.{End, Single, Group, Refused}
 use Rattle.sheet.specs.declared.items.ItemAnswer.{ItemAnswer}
 use Rattle.sheet.specs.declared.items.ItemAnswer.the-variants.{Found}
-use Rattle.sheet.specs.Items.{Item, single, group, Items, none, then}
+use Rattle.sheet.specs.Items.{Item, group, Items, then}
 use Rattle.sheet.specs.Groups.{headerAt}
-use Rattle.sheet.specs.Groups.{ItemRead, ended, item, refused, MembersRead, members, broken, before, onMember, membersFrom, grouped, onHeader, groupFrom, itemAt}
+use Rattle.sheet.specs.Groups.{ItemRead, ended, item, refused, MembersRead, members, broken, before, onMember, membersFrom, grouped, groupFrom, itemAt}
 use Rattle.sheet.specs.Sums.{answered}
 use Rattle.sheet.proofs.HeaderLaws.{group-opens, single-found, header-end}
 use Rattle.sheet.proofs.ItemLaws.{item-end, item-single, item-group, item-refused}

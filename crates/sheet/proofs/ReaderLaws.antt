@@ -13,7 +13,7 @@ use Rattle.sheet.specs.declared.Kind.{Kind}
 use Rattle.sheet.specs.declared.Reading.{Reading}
 use Rattle.sheet.specs.declared.Reading.the-variants.{End, Found, Refused}
 use Rattle.sheet.specs.Records.{recordOf, kindNumber, countFits, addressFits, bodyLength, bytesAt, padsFit}
-use Rattle.sheet.specs.Reader.{Contents, valid, refused, before, marked, kindListed, kindOf, kindAt, countAt, addressAt, nextAt, rowRefusal, recordRefusal, foundAt, readingAt, onReading, recordsFrom, contentsFrom}
+use Rattle.sheet.specs.Reader.{Contents, valid, refused, before, marked, kindListed, kindOf, kindAt, countAt, addressAt, nextAt, rowRefusal, recordRefusal, readingAt, onReading, recordsFrom, contentsFrom}
 
 -- a test that was passed, and one that was not
 pub passed : {r b : Bool} → r ≡ b → not r ≡ false → b ≡ true

@@ -1,15 +1,14 @@
 -- Accepted records: what a reading says of those that are left.
 use mathlib.Core.Path.{_≡_, refl, sym, _∙_}
 use mathlib.Core.List.{List, [], _∷_}
-use Prim.Native.Nat.{ℕ, _+_, _≤_}
+use Prim.Native.Nat.{ℕ, _+_}
 use native.Mathlib.Omega.{arith}
-use lib.ListN.{length}
 use Rattle.sheet.specs.declared.Kind.{Kind}
 use Rattle.sheet.specs.declared.Reading.{Reading}
 use Rattle.sheet.specs.declared.Reading.the-variants.{End, Found, Refused}
 use Rattle.sheet.specs.Records.{Record, recordOf, bodyLength, bytesAt}
 use Rattle.sheet.specs.Reader.{Contents, valid, refused, before, readingAt, contentsFrom}
-use Rattle.sheet.proofs.ReaderLaws.{found-next, from-end, from-found, from-refused}
+use Rattle.sheet.proofs.ReaderLaws.{from-end, from-found, from-refused}
 
 -- accepted records start with a record that stands before accepted ones
 pub record Rest (r : Record) (c : Contents) (rs : List Record) : Type 0 where
@@ -26,9 +25,6 @@ abbrev pub recordAt : List ℕ → ℕ → Kind → ℕ → ℕ → Record
 recordAt sheet at k n a = recordOf k n a (bytesAt sheet (at + 6) (bodyLength k n))
 
 module _ (sheet : List ℕ) (at : ℕ) {g : Reading} (e : g ≡ readingAt sheet at) where
-  pub found-after : {k : Kind} {n a next : ℕ} → g ≡ Found k n a next → (at + 6 + bodyLength k n ≡ next) × (next ≤ length sheet)
-  found-after {k} {n} {a} {next} q = let t = found-next sheet at k n a next (sym e ∙ q) in (omega arith, t .inside)
-
   module _ {rs : List Record} (h : contentsFrom sheet at ≡ valid rs) where
     pub rest-end : g ≡ End → rs ≡ []
     rest-end q = let p = from-end sheet at (sym e ∙ q) in cc

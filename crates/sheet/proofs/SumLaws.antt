@@ -1,8 +1,8 @@
 -- Sums over the expansion, and sums that stop.
-use mathlib.Core.Path.{_≡_, refl, sym, ap, _∙_}
+use mathlib.Core.Path.{_≡_, refl, _∙_}
 use mathlib.Core.List.{List, [], _∷_, _++_}
-use Prim.Native.Nat.{ℕ, zero, suc, _+_, _*_, _^_, _<_, _≤_, min}
-use native.Mathlib.Nat.{add-zero, zero-add, add-assoc, zero-mul, suc-mul, mul-le-mul, min-eq-left, min-eq-right, le-refl}
+use Prim.Native.Nat.{ℕ, zero, suc, _+_, _*_, _^_, _<_, _≤_}
+use native.Mathlib.Nat.{add-zero, zero-add, add-assoc, zero-mul, mul-le-mul, min-eq-left, min-eq-right}
 use native.Mathlib.Omega.{arith}
 use mathlib.Core.Bool.{Bool, true, false}
 use lib.Dec.{leb}

@@ -1,7 +1,7 @@
 -- The reader takes every sheet of the second edition whose items meet their rows and whose chain is not too long: the converse of `tree-loses-nothing`.
 use mathlib.Core.Path.{_≡_, refl, sym, _∙_}
 use mathlib.Core.Bool.{true, false}
-use mathlib.Core.List.{List, [], _∷_, _++_, append-assoc}
+use mathlib.Core.List.{List, _∷_, _++_, append-assoc}
 use Prim.Native.Nat.{ℕ, suc, _+_, _*_, _-_, _%_, _/_, _<_, _≤_}
 use native.Mathlib.Nat.{add-zero}
 use native.Mathlib.Omega.{arith}
@@ -16,10 +16,10 @@ use Rattle.sheet.specs.declared.Kind.{Kind}
 use Rattle.sheet.specs.declared.Kind.the-variants.{Data, Code, Gs, Start}
 use Rattle.sheet.specs.declared.heads.Header.the-variants.{Single, Group}
 use Rattle.sheet.specs.Records.{Record, longest, kindNumber}
-use Rattle.sheet.specs.Reader.{valid, refused, marked, countAt, addressAt}
+use Rattle.sheet.specs.Reader.{valid, refused, marked, addressAt}
 use Rattle.sheet.specs.Sizes.{sheetSteps}
 use Rattle.sheet.specs.Layout.{chainOf}
-use Rattle.sheet.specs.Items.{Item, single, group, Items, none, then, expandedItem, expanded}
+use Rattle.sheet.specs.Items.{Item, single, group, Items, none, then, expanded}
 use Rattle.sheet.specs.Whole.{recordBytes, MeetsRow, countOf, itemBytes, itemsBytes, editionBytes, ItemMeets, record-meets, group-meets, ItemsMeet, no-more, one-more}
 use Rattle.sheet.specs.Groups.{opensKind, startsSecond, opensGroup, groupRefusal, headerAt, item, members, membersFrom, groupFrom, itemAt}
 use Rattle.sheet.specs.Editions.{deepest, expansionFrom, longestChain, limited, editionRefusal, secondOf, contentsOf}

@@ -1,9 +1,9 @@
 -- The reader loses nothing, in either edition: an accepted sheet is the bytes of its items after the record that says its edition, each item meets its row, and the sheet's
 -- records are their expansion.
-use mathlib.Core.Path.{_≡_, refl, sym, ap, _∙_}
-use mathlib.Core.Bool.{Bool, true, false, not}
+use mathlib.Core.Path.{_≡_, refl, sym, _∙_}
+use mathlib.Core.Bool.{true}
 use mathlib.Core.List.{List, [], _∷_, _++_, append-assoc}
-use Prim.Native.Nat.{ℕ, zero, suc, _+_, _*_, _-_, _%_, _/_, _<_, _≤_}
+use Prim.Native.Nat.{ℕ, zero, suc, _+_, _-_, _%_, _/_, _<_, _≤_}
 use native.Mathlib.Nat.{add-zero}
 use native.Mathlib.Omega.{arith}
 use borrow.Author.Tests.{eqb-true, not-false}
@@ -18,7 +18,7 @@ use Rattle.sheet.specs.Records.{Record, recordOf, bodyLength, bytesAt}
 use Rattle.sheet.specs.Reader.{Contents, valid, refused, marked, countAt, addressAt}
 use Rattle.sheet.specs.Items.{Item, single, group, Items, none, then, expandedItem, expanded}
 use Rattle.sheet.specs.Whole.{Bytes, countOf, itemBytes, itemsBytes, editionBytes, ItemMeets, record-meets, group-meets, ItemsMeet, no-more, one-more}
-use Rattle.sheet.specs.Groups.{opensKind, startsSecond, opensGroup, headerAt, ItemRead, ended, item, refused as itemRefused, MembersRead, members, membersFrom, groupFrom, itemAt}
+use Rattle.sheet.specs.Groups.{opensKind, startsSecond, opensGroup, headerAt, ItemRead, ended, item, refused as itemRefused, members, membersFrom, groupFrom, itemAt}
 use Rattle.sheet.specs.Editions.{beforeAll, onItem, deepest, itemsFrom, expansionFrom, editionRefusal, contentsOf}
 use Rattle.sheet.specs.Acts.{firstItem}
 use Rattle.sheet.proofs.ReaderLaws.{found-next}

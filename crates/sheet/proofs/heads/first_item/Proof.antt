@@ -1,4 +1,3 @@
-use mathlib.Core.Path.{sym, _∙_}
 use Rattle.fields.specs.Fields.{if}
 use Rattle.sheet.specs.Acts.{firstItem}
 use borrow.Author.Needs.{needs}

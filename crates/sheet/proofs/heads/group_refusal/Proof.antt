@@ -1,5 +1,4 @@
-use mathlib.Core.Path.{_≡_, refl, sym, ap, _∙_}
-use borrow.Author.Tests.{lt-ltb, le-ltb, le-leb, lt-leb, eq-eqb, ne-eqb}
+use borrow.Author.Tests.{eq-eqb, ne-eqb}
 use Rattle.fields.specs.Fields.{if}
 use Rattle.sheet.specs.Groups.{groupRefusal}
 use borrow.Author.Needs.{needs}
@@ -10,30 +9,24 @@ use Rattle.sheet.proofs.heads.group_refusal.Lts as lts
 use Rattle.sheet.proofs.reader.address_at.Reads as address-at-reads
 use Rattle.sheet.proofs.reader.count_at.Reads as count-at-reads
 
--- src/heads.rt:68:8
 count-at-requires : tie.Need-count-at-requires
 count-at-requires c κs = search needs
 
--- src/heads.rt:69:9
 returns : tie.Need-returns
 unfolding groupRefusal if
 returns c = rw (← c .before .count-at .ensures, eq-eqb _ _ (c .if1 .taken))
 
--- src/heads.rt:71:8
 address-at-requires : tie.Need-address-at-requires
 address-at-requires c κs = search needs
 
--- src/heads.rt:72:9
 returns-2 : tie.Need-returns-2
 unfolding groupRefusal if
 returns-2 c = rw (← c .before .before .before .count-at .ensures, ne-eqb _ _ (c .before .before .if1 .left), ← c .before .address-at .ensures, eq-eqb _ _ (c .if2 .taken))
 
--- src/heads.rt:75:9
 returns-3 : tie.Need-returns-3
 unfolding groupRefusal if
 returns-3 c = rw (← c .before .before .before .before .count-at .ensures, ne-eqb _ _ (c .before .before .before .if1 .left), ← c .before .before .address-at .ensures, ne-eqb _ _ (c .before .if2 .left), eq-eqb _ _ (c .if3 .taken))
 
--- src/heads.rt:64:1
 returns-4 : tie.Need-returns-4
 unfolding groupRefusal if
 returns-4 c = rw (← c .before .before .before .before .count-at .ensures, ne-eqb _ _ (c .before .before .before .if1 .left), ← c .before .before .address-at .ensures, ne-eqb _ _ (c .before .if2 .left), ne-eqb _ _ (c .if3 .left))

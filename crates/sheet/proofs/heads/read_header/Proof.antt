@@ -1,7 +1,4 @@
-use mathlib.Core.Path.{_≡_, refl, sym, ap, _∙_}
-use borrow.Author.Tests.{lt-ltb, le-ltb, le-leb, lt-leb, eq-eqb, ne-eqb}
-use Rattle.fields.specs.Fields.{if}
-use Rattle.sheet.specs.Groups.{headerAt}
+use mathlib.Core.Path.{sym, _∙_}
 use Rattle.sheet.proofs.HeaderLaws.{opens-inside, header-refused, header-group, header-plain}
 use borrow.Author.Needs.{needs}
 use Rattle.sheet.proofs.heads.read_header.Statement.{statement}
@@ -14,55 +11,42 @@ use Rattle.sheet.proofs.heads.group_refusal.Reads as group-refusal-read
 use Rattle.sheet.proofs.heads.opens_group.Reads as opens-group-reads
 use Rattle.sheet.proofs.reader.read_record.Reads as read-record-reads
 
--- src/heads.rt:84:8
 opens-group-requires : tie.Need-opens-group-requires
 opens-group-requires c κs = search needs
 
--- src/heads.rt:85:13
 group-refusal-requires : tie.Need-group-refusal-requires
 group-refusal-requires c κs = opens-inside _ _ (sym (c .before .opens-group .ensures) ∙ c .if1 .taken)
 
--- src/heads.rt:87:13
 returns : tie.Need-returns
 returns c = header-refused _ _ _ (sym (c .before .before .before .opens-group .ensures) ∙ c .before .before .if1 .taken) (c .before .group-refusal .ensures) (c .if2 .taken)
 
--- src/heads.rt:90:26
 count-at-requires : tie.Need-count-at-requires
 count-at-requires c κs = opens-inside _ _ (sym (c .before .before .before .opens-group .ensures) ∙ c .before .before .if1 .taken)
 
--- src/heads.rt:91:22
 address-at-requires : tie.Need-address-at-requires
 address-at-requires c κs = opens-inside _ _ (sym (c .before .before .before .before .opens-group .ensures) ∙ c .before .before .before .if1 .taken)
 
--- src/heads.rt:89:9
 returns-2 : tie.Need-returns-2
 returns-2 c = header-group _ _ _ (sym (c .before .before .before .before .before .opens-group .ensures) ∙ c .before .before .before .before .if1 .taken) (c .before .before .before .group-refusal .ensures) (c .before .before .if2 .left) (c .before .count-at .ensures) (c .address-at .ensures)
 
--- src/heads.rt:94:11
 read-record-requires : tie.Need-read-record-requires
 read-record-requires c κs = search needs
 
--- src/heads.rt:95:25
 enum-told : tie.Need-enum-told
 enum-told c = search needs
 
--- src/heads.rt:97:13
 enum-known-kind : tie.Need-enum-known-kind
 enum-known-kind c = search needs
 
--- src/heads.rt:107:28
 enum-known-number : tie.Need-enum-known-number
 enum-known-number c = search needs
 
--- src/heads.rt:81:1
 returns-3 : tie.Need-returns-3
 returns-3 c = header-plain _ _ _ (sym (c .before .before .before .before .opens-group .ensures) ∙ c .before .before .before .if1 .left) (c .before .before .read-record .ensures) (c .enum-told .given .1)
 
--- src/heads.rt:81:1
 returns-4 : tie.Need-returns-4
 returns-4 c = header-plain _ _ _ (sym (c .before .before .before .before .before .opens-group .ensures) ∙ c .before .before .before .before .if1 .left) (c .before .before .before .read-record .ensures) (c .before .kind .given .1)
 
--- src/heads.rt:81:1
 returns-5 : tie.Need-returns-5
 returns-5 c = header-plain _ _ _ (sym (c .before .before .before .before .before .opens-group .ensures) ∙ c .before .before .before .before .if1 .left) (c .before .before .before .read-record .ensures) (c .before .number .given .1)
 

@@ -1,5 +1,5 @@
 -- The record reader and the group reader: bytes left and depth fall from the one to the other, and the members left in the group reader's loop.
-use mathlib.Core.Path.{_≡_, refl, sym, _∙_}
+use mathlib.Core.Path.{_≡_}
 use Prim.Native.Nat.{ℕ, _+_, _*_, _-_, _<_, _≤_}
 use native.Mathlib.Omega.{arith}
 use lib.ListN.{length}

@@ -1,5 +1,5 @@
 -- The record feeder, the group feeder and its members: bytes left and depth fall from the record feeder to the group feeder, turns and members left in their loops.
-use mathlib.Core.Path.{_≡_, refl, sym, _∙_}
+use mathlib.Core.Path.{_≡_, refl, _∙_}
 use Prim.Native.Nat.{ℕ, _+_, _*_, _-_, _<_, _≤_}
 use native.Mathlib.Omega.{arith}
 use lib.ListN.{length}

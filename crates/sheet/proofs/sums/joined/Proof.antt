@@ -6,19 +6,15 @@ use Rattle.sheet.proofs.sums.joined.Reads as reads
 use Rattle.sheet.proofs.sums.joined.Lts as lts
 use Rattle.sheet.proofs.sums.plus.Reads as plus-reads
 
--- src/sums.rt:44:20
 plus-requires : tie.Need-plus-requires
 plus-requires c κs = search needs
 
--- src/sums.rt:45:16
 plus-requires-2 : tie.Need-plus-requires-2
 plus-requires-2 c κs = search needs
 
--- src/sums.rt:46:18
 plus-requires-3 : tie.Need-plus-requires-3
 plus-requires-3 c κs = search needs
 
--- src/sums.rt:40:1
 returns : tie.Need-returns
 unfolding joined
 returns c = rw (c .plus3 .ensures, c .before .plus2 .ensures, c .before .before .plus .ensures)

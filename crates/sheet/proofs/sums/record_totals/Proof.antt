@@ -8,31 +8,24 @@ use Rattle.sheet.proofs.sums.least.Reads as least-reads
 use Rattle.sheet.proofs.sums.quadwords_of.Reads as quadwords-of-reads
 use Rattle.sheet.proofs.sums.steps_of.Reads as steps-of-reads
 
--- src/sums.rt:100:26
 quadwords-of-requires : tie.Need-quadwords-of-requires
 quadwords-of-requires c κs = search needs
 
--- src/sums.rt:100:20
 least-requires : tie.Need-least-requires
 least-requires c κs = search needs
 
--- src/sums.rt:101:22
 steps-of-requires : tie.Need-steps-of-requires
 steps-of-requires c κs = search needs
 
--- src/sums.rt:101:16
 least-requires-2 : tie.Need-least-requires-2
 least-requires-2 c κs = search needs
 
--- src/sums.rt:102:24
 entries-of-requires : tie.Need-entries-of-requires
 entries-of-requires c κs = search needs
 
--- src/sums.rt:102:18
 least-requires-3 : tie.Need-least-requires-3
 least-requires-3 c κs = search needs
 
--- src/sums.rt:96:1
 returns : tie.Need-returns
 returns c =
     rw (c .least3 .ensures, c .before .entries-of .ensures, c .before .before .least2 .ensures, c .before .before .before .steps-of .ensures, c .before .before .before .before .least .ensures, c .before .before .before .before .before .quadwords-of .ensures)

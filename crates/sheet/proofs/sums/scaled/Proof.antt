@@ -6,19 +6,15 @@ use Rattle.sheet.proofs.sums.scaled.Reads as reads
 use Rattle.sheet.proofs.sums.scaled.Lts as lts
 use Rattle.sheet.proofs.sums.times.Reads as times-reads
 
--- src/sums.rt:54:20
 times-requires : tie.Need-times-requires
 times-requires c κs = search needs
 
--- src/sums.rt:55:16
 times-requires-2 : tie.Need-times-requires-2
 times-requires-2 c κs = search needs
 
--- src/sums.rt:56:18
 times-requires-3 : tie.Need-times-requires-3
 times-requires-3 c κs = search needs
 
--- src/sums.rt:50:1
 returns : tie.Need-returns
 unfolding scaled
 returns c = rw (c .times3 .ensures, c .before .times2 .ensures, c .before .before .times .ensures)

@@ -1,6 +1,5 @@
 use native.Mathlib.Omega.{arith}
 use mathlib.Core.Path.{_∙_}
-use native.Mathlib.Nat.{mul-le-mul}
 use Rattle.sheet.proofs.SumLaws.{capped-times, product-fits}
 use borrow.Author.Needs.{needs}
 use Rattle.sheet.proofs.sums.times.Statement.{statement}
@@ -9,19 +8,15 @@ use Rattle.sheet.proofs.sums.times.Reads as reads
 use Rattle.sheet.proofs.sums.times.Lts as lts
 use Rattle.sheet.proofs.sums.least.Reads as least-reads
 
--- src/sums.rt:27:22
 least-requires : tie.Need-least-requires
 least-requires c κs = search needs
 
--- src/sums.rt:27:11
 mul-least : tie.Need-mul-least
 mul-least c = product-fits _ _ (c .least .ensures) (omega arith)
 
--- src/sums.rt:27:5
 least-requires-2 : tie.Need-least-requires-2
 least-requires-2 c κs = search needs
 
--- src/sums.rt:24:1
 returns : tie.Need-returns
 returns c = c .least2 .ensures ∙ rw (c .before .least .ensures) (capped-times _ _)
 

@@ -6,12 +6,10 @@ use Rattle.sheet.proofs.totals.within.Tie as tie
 use Rattle.sheet.proofs.totals.within.Reads as reads
 use Rattle.sheet.proofs.totals.within.Lts as lts
 
--- src/whole.rt:28:9
 returns : tie.Need-returns
 unfolding within if
 returns c = rw (lt-ltb _ _ (c .if1 .taken))
 
--- src/whole.rt:24:1
 returns-2 : tie.Need-returns-2
 unfolding within if
 returns-2 c = rw (le-ltb _ _ (c .if1 .left))

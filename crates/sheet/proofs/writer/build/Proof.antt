@@ -7,31 +7,24 @@ use Rattle.sheet.proofs.writer.build.Lts as lts
 use Rattle.sheet.proofs.totals.measure.Reads as measure-reads
 use Rattle.sheet.proofs.writer.build_measured.Reads as build-measured-reads
 
--- src/writer.rt:200:11
 measure-requires : tie.Need-measure-requires
 measure-requires c κs = search needs
 
--- src/writer.rt:201:29
 enum-known-number : tie.Need-enum-known-number
 enum-known-number c = search needs
 
--- src/writer.rt:202:25
 enum-known-t : tie.Need-enum-known-t
 enum-known-t c = search needs
 
--- src/writer.rt:202:31
 build-measured-requires : tie.Need-build-measured-requires
 build-measured-requires c κs = build-counted _ (c .before .before .before .before .measure .ensures) (c .before .before .t .given .1)
 
--- src/writer.rt:197:1
 returns : tie.Need-returns
 returns c = build-refused _ (c .before .before .before .measure .ensures) _ (c .before .number .given .1)
 
--- src/writer.rt:197:1
 same-length : tie.Need-same-length
 same-length c = search needs
 
--- src/writer.rt:197:1
 returns-2 : tie.Need-returns-2
 returns-2 c = search needs
 

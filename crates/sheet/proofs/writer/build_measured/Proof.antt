@@ -6,23 +6,18 @@ use Rattle.sheet.proofs.writer.build_measured.Reads as reads
 use Rattle.sheet.proofs.writer.build_measured.Lts as lts
 use Rattle.sheet.proofs.writer.put_chain.Reads as put-chain-reads
 
--- src/writer.rt:185:9
 returns : tie.Need-returns
 returns c = build-short _ (c .before .before .before .pre) (c .if1 .taken)
 
--- src/writer.rt:190:5
 put-chain-requires : tie.Need-put-chain-requires
 put-chain-requires c κs = build-fits _ (c .before .before .before .before .pre) (c .before .if1 .left)
 
--- src/writer.rt:191:24
 mul-t6 : tie.Need-mul-t6
 mul-t6 c = search needs
 
--- src/writer.rt:179:1
 same-length : tie.Need-same-length
 same-length c = search needs
 
--- src/writer.rt:179:1
 returns-2 : tie.Need-returns-2
 returns-2 c = build-whole _ (c .before .before .before .before .before .before .before .pre) (c .before .before .before .before .if1 .left) (c .before .before .put-chain .ensures)
 

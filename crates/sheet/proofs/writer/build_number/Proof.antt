@@ -6,35 +6,27 @@ use Rattle.sheet.proofs.writer.build_number.Reads as reads
 use Rattle.sheet.proofs.writer.build_number.Lts as lts
 use Rattle.sheet.proofs.writer.build.Reads as build-reads
 
--- src/writer.rt:211:11
 build-requires : tie.Need-build-requires
 build-requires c κs = search needs
 
--- src/writer.rt:212:28
 enum-known-n : tie.Need-enum-known-n
 enum-known-n c = search needs
 
--- src/writer.rt:213:32
 enum-known-number : tie.Need-enum-known-number
 enum-known-number c = search needs
 
--- src/writer.rt:213:52
 cast-result : tie.Need-cast-result
 cast-result c = search needs
 
--- src/writer.rt:207:1
 same-length : tie.Need-same-length
 same-length c = search needs
 
--- src/writer.rt:207:1
 returns : tie.Need-returns
 returns c = exported (c .before .before .before .before .before .build .ensures) (c .before .n .given .1)
 
--- src/writer.rt:207:1
 same-length-2 : tie.Need-same-length-2
 same-length-2 c = search needs
 
--- src/writer.rt:207:1
 returns-2 : tie.Need-returns-2
 returns-2 c = exported (c .before .before .before .before .before .build .ensures) (c .before .number .given .1)
 

@@ -4,71 +4,54 @@ use Rattle.sheet.proofs.writer.code_words.Tie as tie
 use Rattle.sheet.proofs.writer.code_words.Reads as reads
 use Rattle.sheet.proofs.writer.code_words.Lts as lts
 
--- src/writer.rt:75:60
 enum-told : tie.Need-enum-told
 enum-told c = search needs
 
--- src/writer.rt:75:60
 mul-t5 : tie.Need-mul-t5
 mul-t5 c = search needs
 
--- src/writer.rt:75:47
 add-t6 : tie.Need-add-t6
 add-t6 c = search needs
 
--- src/writer.rt:75:47
 add-t7 : tie.Need-add-t7
 add-t7 c = search needs
 
--- src/writer.rt:76:46
 enum-told-2 : tie.Need-enum-told-2
 enum-told-2 c = search needs
 
--- src/writer.rt:76:46
 mul-t8 : tie.Need-mul-t8
 mul-t8 c = search needs
 
--- src/writer.rt:76:33
 add-t9 : tie.Need-add-t9
 add-t9 c = search needs
 
--- src/writer.rt:76:33
 add-t10 : tie.Need-add-t10
 add-t10 c = search needs
 
--- src/writer.rt:77:45
 enum-told-3 : tie.Need-enum-told-3
 enum-told-3 c = search needs
 
--- src/writer.rt:77:45
 add-t11 : tie.Need-add-t11
 add-t11 c = search needs
 
--- src/writer.rt:77:31
 add-t12 : tie.Need-add-t12
 add-t12 c = search needs
 
--- src/writer.rt:78:34
 enum-told-4 : tie.Need-enum-told-4
 enum-told-4 c = search needs
 
--- src/writer.rt:78:34
 add-t13 : tie.Need-add-t13
 add-t13 c = search needs
 
--- src/writer.rt:70:1
 returns : tie.Need-returns
 returns c = rw (c .enum-told .given .1)
 
--- src/writer.rt:70:1
 returns-2 : tie.Need-returns-2
 returns-2 c = rw (c .enum-told2 .given .1)
 
--- src/writer.rt:70:1
 returns-3 : tie.Need-returns-3
 returns-3 c = rw (c .enum-told3 .given .1)
 
--- src/writer.rt:70:1
 returns-4 : tie.Need-returns-4
 returns-4 c = rw (c .enum-told4 .given .1)
 

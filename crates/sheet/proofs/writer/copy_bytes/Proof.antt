@@ -23,35 +23,27 @@ Inv-loop sheet from n output₀ to i₀ output i =
 abbrev μ-loop : tie.MeasureT-loop
 μ-loop sheet from n output₀ to i₀ output i = n - i
 
--- src/writer.rt:39:5
 loop-holds : tie.Need-loop-holds Inv-loop μ-loop
 loop-holds c = record { within = omega arith; size = refl; same = simp (add-zero, sub-zero) }
 
--- src/writer.rt:40:32
 add-output : tie.Need-add-output Inv-loop μ-loop
 add-output c = search needs
 
--- src/writer.rt:40:26
 shared-slice-read-output : tie.Need-shared-slice-read-output Inv-loop μ-loop
 shared-slice-read-output c = search needs
 
--- src/writer.rt:40:16
 add-output-2 : tie.Need-add-output-2 Inv-loop μ-loop
 add-output-2 c = search needs
 
--- src/writer.rt:40:9
 slice-write-output : tie.Need-slice-write-output Inv-loop μ-loop
 slice-write-output c = search needs
 
--- src/writer.rt:41:9
 add-i : tie.Need-add-i Inv-loop μ-loop
 add-i c = search needs
 
--- src/writer.rt:39:5
 loop-less : tie.Need-loop-less Inv-loop μ-loop
 loop-less c = search needs
 
--- src/writer.rt:39:5
 loop-again : tie.Need-loop-again Inv-loop μ-loop
 loop-again c =
     record {
@@ -60,11 +52,9 @@ loop-again c =
       same = copied-more _ _ _ _ _ _ (c .before .loop-test .taken) (c .before .before .before .pre .0) ∙ c .before .before .loop .inv .same;
     }
 
--- src/writer.rt:34:1
 same-length : tie.Need-same-length Inv-loop μ-loop
 same-length c = search needs
 
--- src/writer.rt:34:1
 returns : tie.Need-returns Inv-loop μ-loop
 returns c =
     let e : c .before .before .args .n - c .before .loop .i ≡ 0 = omega arith in

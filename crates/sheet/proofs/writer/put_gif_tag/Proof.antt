@@ -7,51 +7,39 @@ use Rattle.sheet.proofs.writer.put_gif_tag.Reads as reads
 use Rattle.sheet.proofs.writer.put_gif_tag.Lts as lts
 use Rattle.sheet.proofs.writer.put_quadword.Reads as put-quadword-reads
 
--- src/writer.rt:88:23
 enum-told : tie.Need-enum-told
 enum-told c = search needs
 
--- src/writer.rt:89:23
 enum-told-2 : tie.Need-enum-told-2
 enum-told-2 c = search needs
 
--- src/writer.rt:91:26
 enum-told-3 : tie.Need-enum-told-3
 enum-told-3 c = search needs
 
--- src/writer.rt:91:39
 add-t9 : tie.Need-add-t9
 add-t9 c = search needs
 
--- src/writer.rt:91:13
 put-quadword-requires : tie.Need-put-quadword-requires
 put-quadword-requires c κs = rw (c .before .enum-told3 .given .1) at (c .before .before .before .before .pre .1)
 
--- src/writer.rt:92:13
 add-result : tie.Need-add-result
 add-result c = search needs
 
--- src/writer.rt:94:24
 enum-told-4 : tie.Need-enum-told-4
 enum-told-4 c = search needs
 
--- src/writer.rt:83:1
 returns : tie.Need-returns
 returns c = rw (c .enum-told .given .1) (omega arith, refl)
 
--- src/writer.rt:83:1
 returns-2 : tie.Need-returns-2
 returns-2 c = rw (c .enum-told2 .given .1) (omega arith, refl)
 
--- src/writer.rt:83:1
 same-length : tie.Need-same-length
 same-length c = search needs
 
--- src/writer.rt:83:1
 returns-3 : tie.Need-returns-3
 returns-3 c = rw (c .before .before .before .before .enum-told3 .given .1) (refl, c .before .before .put-quadword .ensures)
 
--- src/writer.rt:83:1
 returns-4 : tie.Need-returns-4
 returns-4 c = rw (c .enum-told4 .given .1) (omega arith, refl)
 

@@ -10,43 +10,33 @@ use Rattle.sheet.proofs.writer.put_gif_tag.Reads as put-gif-tag-reads
 use Rattle.sheet.proofs.writer.put_quadword.Reads as put-quadword-reads
 use Rattle.sheet.proofs.writer.quadwords_after_tag.Reads as quadwords-after-tag-reads
 
--- src/writer.rt:106:22
 quadwords-after-tag-requires : tie.Need-quadwords-after-tag-requires
 quadwords-after-tag-requires c κs = search needs
 
--- src/writer.rt:106:10
 add-t10 : tie.Need-add-t10
 add-t10 c = let h = quadwords-few (c .before .before .before .args .kind) (c .before .before .before .args .n) (c .before .before .before .pre .0) in omega (arith, c .quadwords-after-tag .ensures)
 
--- src/writer.rt:103:5
 put-quadword-requires : tie.Need-put-quadword-requires
 put-quadword-requires c κs = let h = lead-length (c .before .before .before .args .kind) (c .before .before .before .args .n) (c .before .before .before .args .a) in search needs
 
--- src/writer.rt:108:26
 add-put-quadword : tie.Need-add-put-quadword
 add-put-quadword c = search needs
 
--- src/writer.rt:108:35
 code-words-requires : tie.Need-code-words-requires
 code-words-requires c κs = search needs
 
--- src/writer.rt:108:5
 put-quadword-requires-2 : tie.Need-put-quadword-requires-2
 put-quadword-requires-2 c κs = let h = lead-length (c .before .before .before .before .before .before .before .before .args .kind) (c .before .before .before .before .before .before .before .before .args .n) (c .before .before .before .before .before .before .before .before .args .a) in search needs
 
--- src/writer.rt:109:34
 add-put-gif-tag : tie.Need-add-put-gif-tag
 add-put-gif-tag c = search needs
 
--- src/writer.rt:109:5
 put-gif-tag-requires : tie.Need-put-gif-tag-requires
 put-gif-tag-requires c κs = let h = lead-length (c .before .before .before .before .before .before .before .before .before .before .before .before .args .kind) (c .before .before .before .before .before .before .before .before .before .before .before .before .args .n) (c .before .before .before .before .before .before .before .before .before .before .before .before .args .a) in search needs
 
--- src/writer.rt:99:1
 same-length : tie.Need-same-length
 same-length c = search needs
 
--- src/writer.rt:99:1
 returns : tie.Need-returns
 returns c =
     let s = c .before .before .before .before .before .before .before .before .before .before .before .before .before .before .before .args in (

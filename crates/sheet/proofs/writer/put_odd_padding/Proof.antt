@@ -10,31 +10,24 @@ use Rattle.sheet.proofs.writer.put_odd_padding.Reads as reads
 use Rattle.sheet.proofs.writer.put_odd_padding.Lts as lts
 use Rattle.sheet.proofs.writer.put_word.Reads as put-word-reads
 
--- src/writer.rt:130:9
 returns : tie.Need-returns
 returns c = rw (c .if1 .taken) (omega arith, refl)
 
--- src/writer.rt:132:5
 put-word-requires : tie.Need-put-word-requires
 put-word-requires c κs = let p = rw (odd-padding _ (c .before .if1 .left)) at (c .before .before .before .pre) in omega arith
 
--- src/writer.rt:133:22
 add-put-word : tie.Need-add-put-word
 add-put-word c = search needs
 
--- src/writer.rt:133:5
 put-word-requires-2 : tie.Need-put-word-requires-2
 put-word-requires-2 c κs = let p = rw (odd-padding _ (c .before .before .before .before .before .if1 .left)) at (c .before .before .before .before .before .before .before .pre) in search needs
 
--- src/writer.rt:134:5
 add-result : tie.Need-add-result
 add-result c = search needs
 
--- src/writer.rt:125:1
 same-length : tie.Need-same-length
 same-length c = search needs
 
--- src/writer.rt:125:1
 returns-2 : tie.Need-returns-2
 returns-2 c =
     let s = c .before .before .before .before .before .before .before .before .before .before .args in

@@ -7,43 +7,33 @@ use Rattle.sheet.proofs.writer.put_padding.Reads as reads
 use Rattle.sheet.proofs.writer.put_padding.Lts as lts
 use Rattle.sheet.proofs.writer.put_odd_padding.Reads as put-odd-padding-reads
 
--- src/writer.rt:118:23
 enum-told : tie.Need-enum-told
 enum-told c = search needs
 
--- src/writer.rt:119:39
 enum-told-2 : tie.Need-enum-told-2
 enum-told-2 c = search needs
 
--- src/writer.rt:119:23
 put-odd-padding-requires : tie.Need-put-odd-padding-requires
 put-odd-padding-requires c κs = rw (c .before .enum-told2 .given .1) at (c .before .before .before .before .pre)
 
--- src/writer.rt:120:21
 enum-told-3 : tie.Need-enum-told-3
 enum-told-3 c = search needs
 
--- src/writer.rt:121:24
 enum-told-4 : tie.Need-enum-told-4
 enum-told-4 c = search needs
 
--- src/writer.rt:113:1
 returns : tie.Need-returns
 returns c = rw (c .enum-told .given .1) (omega arith, refl)
 
--- src/writer.rt:113:1
 same-length : tie.Need-same-length
 same-length c = search needs
 
--- src/writer.rt:113:1
 returns-2 : tie.Need-returns-2
 returns-2 c = rw (c .before .before .before .before .enum-told2 .given .1) (c .before .before .put-odd-padding .ensures)
 
--- src/writer.rt:113:1
 returns-3 : tie.Need-returns-3
 returns-3 c = rw (c .enum-told3 .given .1) (omega arith, refl)
 
--- src/writer.rt:113:1
 returns-4 : tie.Need-returns-4
 returns-4 c = rw (c .enum-told4 .given .1) (omega arith, refl)
 

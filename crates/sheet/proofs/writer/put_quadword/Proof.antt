@@ -7,55 +7,42 @@ use Rattle.sheet.proofs.writer.put_quadword.Reads as reads
 use Rattle.sheet.proofs.writer.put_quadword.Lts as lts
 use Rattle.sheet.proofs.writer.put_word.Reads as put-word-reads
 
--- src/writer.rt:27:26
 array-read-put-word : tie.Need-array-read-put-word
 array-read-put-word c = search needs
 
--- src/writer.rt:27:5
 put-word-requires : tie.Need-put-word-requires
 put-word-requires c κs = search needs
 
--- src/writer.rt:28:22
 add-put-word : tie.Need-add-put-word
 add-put-word c = search needs
 
--- src/writer.rt:28:30
 array-read-put-word-2 : tie.Need-array-read-put-word-2
 array-read-put-word-2 c = search needs
 
--- src/writer.rt:28:5
 put-word-requires-2 : tie.Need-put-word-requires-2
 put-word-requires-2 c κs = search needs
 
--- src/writer.rt:29:22
 add-put-word-2 : tie.Need-add-put-word-2
 add-put-word-2 c = search needs
 
--- src/writer.rt:29:30
 array-read-put-word-3 : tie.Need-array-read-put-word-3
 array-read-put-word-3 c = search needs
 
--- src/writer.rt:29:5
 put-word-requires-3 : tie.Need-put-word-requires-3
 put-word-requires-3 c κs = search needs
 
--- src/writer.rt:30:22
 add-put-word-3 : tie.Need-add-put-word-3
 add-put-word-3 c = search needs
 
--- src/writer.rt:30:31
 array-read-put-word-4 : tie.Need-array-read-put-word-4
 array-read-put-word-4 c = search needs
 
--- src/writer.rt:30:5
 put-word-requires-4 : tie.Need-put-word-requires-4
 put-word-requires-4 c κs = search needs
 
--- src/writer.rt:23:1
 same-length : tie.Need-same-length
 same-length c = search needs
 
--- src/writer.rt:23:1
 returns : tie.Need-returns
 returns c =
     quadword-stores _ _ (c .before .before .before .before .before .before .before .before .before .before .before .before .before .before .before .before .before .args .t3) (omega (arith, c .before .before .before .before .before .before .before .before .before .before .before .before .before .before .before .before .before .good))

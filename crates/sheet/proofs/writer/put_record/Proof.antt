@@ -11,31 +11,24 @@ use Rattle.sheet.proofs.writer.copy_bytes.Reads as copy-bytes-reads
 use Rattle.sheet.proofs.writer.put_lead.Reads as put-lead-reads
 use Rattle.sheet.proofs.writer.put_padding.Reads as put-padding-reads
 
--- src/writer.rt:150:9
 body-length-requires : tie.Need-body-length-requires
 body-length-requires c κs = search needs
 
--- src/writer.rt:151:9
 put-lead-requires : tie.Need-put-lead-requires
 put-lead-requires c κs = let s = c .before .before .before .before .args in let h = lead-length (s .kind) (s .n) (s .a) in let q = record-quadwords (s .kind) (s .n) in search needs
 
--- src/writer.rt:152:5
 copy-bytes-requires : tie.Need-copy-bytes-requires
 copy-bytes-requires c κs = let s = c .before .before .before .before .before .before .before .before .args in let h = lead-length (s .kind) (s .n) (s .a) in let q = record-quadwords (s .kind) (s .n) in search needs
 
--- src/writer.rt:153:34
 add-put-padding : tie.Need-add-put-padding
 add-put-padding c = let s = c .before .before .before .before .before .before .before .before .before .before .before .before .args in let h = lead-length (s .kind) (s .n) (s .a) in let q = record-quadwords (s .kind) (s .n) in search needs
 
--- src/writer.rt:153:5
 put-padding-requires : tie.Need-put-padding-requires
 put-padding-requires c κs = let s = c .before .before .before .before .before .before .before .before .before .before .before .before .args in let h = lead-length (s .kind) (s .n) (s .a) in let q = record-quadwords (s .kind) (s .n) in search needs
 
--- src/writer.rt:138:1
 same-length : tie.Need-same-length
 same-length c = search needs
 
--- src/writer.rt:138:1
 returns : tie.Need-returns
 returns c =
     let s = c .before .before .before .before .before .before .before .before .before .before .before .before .before .before .before .args in

@@ -7,55 +7,42 @@ use Rattle.sheet.proofs.writer.put_word.Tie as tie
 use Rattle.sheet.proofs.writer.put_word.Reads as reads
 use Rattle.sheet.proofs.writer.put_word.Lts as lts
 
--- src/writer.rt:17:18
 cast-output : tie.Need-cast-output
 cast-output c = search needs
 
--- src/writer.rt:17:5
 slice-write-output : tie.Need-slice-write-output
 slice-write-output c = search needs
 
--- src/writer.rt:18:22
 cast-output-2 : tie.Need-cast-output-2
 cast-output-2 c = search needs
 
--- src/writer.rt:18:12
 add-output : tie.Need-add-output
 add-output c = search needs
 
--- src/writer.rt:18:5
 slice-write-output-2 : tie.Need-slice-write-output-2
 slice-write-output-2 c = simp length-set (omega arith)
 
--- src/writer.rt:19:22
 cast-output-3 : tie.Need-cast-output-3
 cast-output-3 c = search needs
 
--- src/writer.rt:19:12
 add-output-2 : tie.Need-add-output-2
 add-output-2 c = search needs
 
--- src/writer.rt:19:5
 slice-write-output-3 : tie.Need-slice-write-output-3
 slice-write-output-3 c = simp length-set (omega arith)
 
--- src/writer.rt:20:22
 cast-output-4 : tie.Need-cast-output-4
 cast-output-4 c = search needs
 
--- src/writer.rt:20:12
 add-output-3 : tie.Need-add-output-3
 add-output-3 c = search needs
 
--- src/writer.rt:20:5
 slice-write-output-4 : tie.Need-slice-write-output-4
 slice-write-output-4 c = simp length-set (omega arith)
 
--- src/writer.rt:13:1
 same-length : tie.Need-same-length
 same-length c = search needs
 
--- src/writer.rt:13:1
 returns : tie.Need-returns
 returns c = word-stores (c .args .output .now) (c .args .at) (c .args .w)
 

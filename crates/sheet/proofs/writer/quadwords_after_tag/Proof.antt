@@ -5,51 +5,39 @@ use Rattle.sheet.proofs.writer.quadwords_after_tag.Tie as tie
 use Rattle.sheet.proofs.writer.quadwords_after_tag.Reads as reads
 use Rattle.sheet.proofs.writer.quadwords_after_tag.Lts as lts
 
--- src/writer.rt:63:23
 enum-told : tie.Need-enum-told
 enum-told c = search needs
 
--- src/writer.rt:63:23
 add-result : tie.Need-add-result
 add-result c = search needs
 
--- src/writer.rt:64:28
 enum-told-2 : tie.Need-enum-told-2
 enum-told-2 c = search needs
 
--- src/writer.rt:64:28
 add-result-2 : tie.Need-add-result-2
 add-result-2 c = search needs
 
--- src/writer.rt:64:23
 add-result-3 : tie.Need-add-result-3
 add-result-3 c = search needs
 
--- src/writer.rt:65:21
 enum-told-3 : tie.Need-enum-told-3
 enum-told-3 c = search needs
 
--- src/writer.rt:65:21
 add-result-4 : tie.Need-add-result-4
 add-result-4 c = search needs
 
--- src/writer.rt:66:24
 enum-told-4 : tie.Need-enum-told-4
 enum-told-4 c = search needs
 
--- src/writer.rt:58:1
 returns : tie.Need-returns
 returns c = rw (c .enum-told .given .1) (omega arith)
 
--- src/writer.rt:58:1
 returns-2 : tie.Need-returns-2
 returns-2 c = rw (c .enum-told2 .given .1) (omega arith)
 
--- src/writer.rt:58:1
 returns-3 : tie.Need-returns-3
 returns-3 c = rw (c .enum-told3 .given .1) (omega arith)
 
--- src/writer.rt:58:1
 returns-4 : tie.Need-returns-4
 returns-4 c = search needs
 
