@@ -101,3 +101,7 @@ unfoldable pub itemAt : List ℕ → ℕ → ℕ → ItemRead
 itemAt sheet zero at = onHeader (λ n k. ended) sheet at (headerAt sheet 0 at)
 itemAt sheet (suc depth) at =
     onHeader (groupFrom (itemAt sheet depth) (length sheet) (at + headerLength)) sheet at (headerAt sheet (suc depth) at)
+
+-- so many items from a place on, where groups may stand so deep
+abbrev pub membersAt : List ℕ → ℕ → ℕ → ℕ → MembersRead
+membersAt sheet depth k at = membersFrom (itemAt sheet depth) (length sheet) k at

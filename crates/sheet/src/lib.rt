@@ -1,4 +1,5 @@
-// Test sheets of both editions: their records and groups, the chain built from them, their steps and their plain meaning. What each function means is said by the definitions of specs/.
+// Test sheets of both editions: their records and groups, the chain built from them, their steps and their plain meaning.
+// What each function means is said by the definitions of specs/.
 mod heads;
 mod items;
 mod plain;

@@ -19,7 +19,7 @@ ghost use Rattle.gif.specs.Log.{entrySize, entry, numbers};
 ghost use Rattle.memories.specs.declared.VifUnit.the-variants.{Vif1};
 ghost use Rattle.memories.specs.Units.{dataWords, codeBytes};
 ghost use Rattle.sheet.specs.Records.{recordOf, bodyLength, bytesAt, number};
-ghost use Rattle.sheet.specs.Groups.{membersFrom, itemAt};
+ghost use Rattle.sheet.specs.Groups.{itemAt, membersAt};
 ghost use Rattle.sheet.specs.Editions.{expansionFrom};
 ghost use Rattle.sheet.specs.Acts.{done, itemDone, membersDone, turnsDone, sheetDone, ItemFits, MembersFit, TurnsFit, SheetFits, firstItem};
 ghost use Rattle.sheet.specs.Meaning.{putVectors, putInstructions, entriesAt};
@@ -75,7 +75,8 @@ fn put_vector(sheet: &[u8], at: usize, data: &mut [u32], q: usize)
 
 fn put_vectors(sheet: &[u8], body: usize, n: usize, a: usize, data: &mut [u32])
     requires { ⌜ (body + 16 * n ≤ length (now sheet)) × (a < 4294967296) × (length (now «data») ≡ dataWords Vif1) ⌝ }
-    ensures { λ _. ⌜ now («data» .exit) ≡ putVectors a (bytesAt (now (sheet .entry)) body (16 * n)) n 0 (now («data» .entry)) ⌝ }
+    ensures { λ _. ⌜ now («data» .exit)
+        ≡ putVectors a (bytesAt (now (sheet .entry)) body (16 * n)) n 0 (now («data» .entry)) ⌝ }
 {
     let mut j = 0;
     while j < n {
@@ -86,7 +87,8 @@ fn put_vectors(sheet: &[u8], body: usize, n: usize, a: usize, data: &mut [u32])
 
 fn put_instructions(sheet: &[u8], body: usize, n: usize, a: usize, code: &mut [u8])
     requires { ⌜ (body + 8 * n ≤ length (now sheet)) × (a < 4294967296) × (length (now code) ≡ codeBytes Vif1) ⌝ }
-    ensures { λ _. ⌜ now (code .exit) ≡ putInstructions a (bytesAt (now (sheet .entry)) body (8 * n)) n 0 (now (code .entry)) ⌝ }
+    ensures { λ _. ⌜ now (code .exit)
+        ≡ putInstructions a (bytesAt (now (sheet .entry)) body (8 * n)) n 0 (now (code .entry)) ⌝ }
 {
     let mut j = 0;
     while j < n {
@@ -97,14 +99,16 @@ fn put_instructions(sheet: &[u8], body: usize, n: usize, a: usize, code: &mut [u
 
 fn put_entry(log: &mut [u64], used: u64, path: u64, register: u64, value: u64)
     requires { ⌜ entrySize * (used + 1) ≤ length (now log) ⌝ }
-    ensures { λ _. ⌜ now (log .exit) ≡ sets (now (log .entry)) (entrySize * used) (numbers (entry path register value ∷ [])) ⌝ }
+    ensures { λ _. ⌜ now (log .exit)
+        ≡ sets (now (log .entry)) (entrySize * used) (numbers (entry path register value ∷ [])) ⌝ }
 {
     gif::write_entry(log, used, path, register, value);
 }
 
 fn put_entries(sheet: &[u8], body: usize, n: usize, log: &mut [u64], used: u64)
     requires { ⌜ (body + 16 * n ≤ length (now sheet)) × (entrySize * (used + n) ≤ length (now log)) ⌝ }
-    ensures { λ _. ⌜ now (log .exit) ≡ sets (now (log .entry)) (entrySize * used) (numbers (entriesAt (bytesAt (now (sheet .entry)) body (16 * n)) n 0)) ⌝ }
+    ensures { λ _. ⌜ now (log .exit)
+        ≡ sets (now (log .entry)) (entrySize * used) (numbers (entriesAt (bytesAt (now (sheet .entry)) body (16 * n)) n 0)) ⌝ }
 {
     let mut j = 0;
     while j < n {
@@ -132,7 +136,8 @@ fn feed_record(
     used: u64,
 ) -> u64
     requires { ⌜ FeedRoom (now sheet) body kind n (now «data») (now code) (now log) used ⌝ }
-    ensures { λ r. ⌜ fed (now («data» .exit)) (now (code .exit)) (now (log .exit)) r ≡ fedBy (recordOf kind n a (bytesAt (now (sheet .entry)) body (bodyLength kind n))) (fed (now («data» .entry)) (now (code .entry)) (now (log .entry)) used) ⌝ }
+    ensures { λ r. ⌜ fed (now («data» .exit)) (now (code .exit)) (now (log .exit)) r
+        ≡ fedBy (recordOf kind n a (bytesAt (now (sheet .entry)) body (bodyLength kind n))) (fed (now («data» .entry)) (now (code .entry)) (now (log .entry)) used) ⌝ }
 {
     match kind {
         Kind::Data => {
@@ -165,7 +170,8 @@ fn feed_item(
     used: u64,
 ) -> Taken
     requires { ⌜ ItemFits RecordsRoom (itemAt (now sheet) depth at) (fed (now «data») (now code) (now log) used) ⌝ }
-    ensures { λ r. ⌜ done (r .next) (fed (now («data» .exit)) (now (code .exit)) (now (log .exit)) (r .used)) ≡ itemDone fedAll (itemAt (now (sheet .entry)) depth at) (fed (now («data» .entry)) (now (code .entry)) (now (log .entry)) used) ⌝ }
+    ensures { λ r. ⌜ done (r .next) (fed (now («data» .exit)) (now (code .exit)) (now (log .exit)) (r .used))
+        ≡ itemDone fedAll (itemAt (now (sheet .entry)) depth at) (fed (now («data» .entry)) (now (code .entry)) (now (log .entry)) used) ⌝ }
 {
     match read_header(sheet, depth, at) {
         Header::End => Taken { next: at, used },
@@ -211,8 +217,9 @@ fn feed_group(
     log: &mut [u64],
     used: u64,
 ) -> Taken
-    requires { ⌜ (0 < repetitions) × TurnsFit RecordsRoom repetitions (membersFrom (itemAt (now sheet) depth) (length (now sheet)) members at) (fed (now «data») (now code) (now log) used) ⌝ }
-    ensures { λ r. ⌜ done (r .next) (fed (now («data» .exit)) (now (code .exit)) (now (log .exit)) (r .used)) ≡ turnsDone fedAll repetitions (membersFrom (itemAt (now (sheet .entry)) depth) (length (now (sheet .entry))) members at) (fed (now («data» .entry)) (now (code .entry)) (now (log .entry)) used) ⌝ }
+    requires { ⌜ (0 < repetitions) × TurnsFit RecordsRoom repetitions (membersAt (now sheet) depth members at) (fed (now «data») (now code) (now log) used) ⌝ }
+    ensures { λ r. ⌜ done (r .next) (fed (now («data» .exit)) (now (code .exit)) (now (log .exit)) (r .used))
+        ≡ turnsDone fedAll repetitions (membersAt (now (sheet .entry)) depth members at) (fed (now («data» .entry)) (now (code .entry)) (now (log .entry)) used) ⌝ }
 {
     let mut next = at;
     let mut u = used;
@@ -237,8 +244,9 @@ fn feed_members(
     log: &mut [u64],
     used: u64,
 ) -> Taken
-    requires { ⌜ MembersFit RecordsRoom (membersFrom (itemAt (now sheet) depth) (length (now sheet)) members at) (fed (now «data») (now code) (now log) used) ⌝ }
-    ensures { λ r. ⌜ done (r .next) (fed (now («data» .exit)) (now (code .exit)) (now (log .exit)) (r .used)) ≡ membersDone fedAll (membersFrom (itemAt (now (sheet .entry)) depth) (length (now (sheet .entry))) members at) (fed (now («data» .entry)) (now (code .entry)) (now (log .entry)) used) ⌝ }
+    requires { ⌜ MembersFit RecordsRoom (membersAt (now sheet) depth members at) (fed (now «data») (now code) (now log) used) ⌝ }
+    ensures { λ r. ⌜ done (r .next) (fed (now («data» .exit)) (now (code .exit)) (now (log .exit)) (r .used))
+        ≡ membersDone fedAll (membersAt (now (sheet .entry)) depth members at) (fed (now («data» .entry)) (now (code .entry)) (now (log .entry)) used) ⌝ }
 {
     let mut next = at;
     let mut u = used;
@@ -255,7 +263,8 @@ fn feed_members(
 // Feeds the items of an accepted sheet; answers the entries used afterwards.
 fn feed_items(sheet: &[u8], data: &mut [u32], code: &mut [u8], log: &mut [u64], used: u64) -> u64
     requires { ⌜ SheetFits RecordsRoom (now sheet) (firstItem (now sheet)) (fed (now «data») (now code) (now log) used) ⌝ }
-    ensures { λ r. ⌜ fed (now («data» .exit)) (now (code .exit)) (now (log .exit)) r ≡ sheetDone fedAll (expansionFrom (now (sheet .entry)) (firstItem (now (sheet .entry)))) (fed (now («data» .entry)) (now (code .entry)) (now (log .entry)) used) ⌝ }
+    ensures { λ r. ⌜ fed (now («data» .exit)) (now (code .exit)) (now (log .exit)) r
+        ≡ sheetDone fedAll (expansionFrom (now (sheet .entry)) (firstItem (now (sheet .entry)))) (fed (now («data» .entry)) (now (code .entry)) (now (log .entry)) used) ⌝ }
 {
     let mut at = first_item(sheet);
     let mut u = used;
@@ -277,7 +286,8 @@ fn mean_measured(
     entries: u64,
 ) -> MeaningAnswer
     requires { ⌜ Means (now sheet) (now «data») (now code) (now log) used entries ⌝ }
-    ensures { λ r. ⌜ left r (now («data» .exit)) (now (code .exit)) (now (log .exit)) ≡ meaningOfSheet (now (sheet .entry)) (now («data» .entry)) (now (code .entry)) (now (log .entry)) used ⌝ }
+    ensures { λ r. ⌜ left r (now («data» .exit)) (now (code .exit)) (now (log .exit))
+        ≡ meaningOfSheet (now (sheet .entry)) (now («data» .entry)) (now (code .entry)) (now (log .entry)) used ⌝ }
 {
     let room = log.len() as u64 / gif::ENTRY_SIZE - used;
     if room < entries {
@@ -297,7 +307,8 @@ pub fn meaning(
     log: &mut [u64],
     used: u64,
 ) -> MeaningAnswer
-    ensures { λ r. ⌜ left r (now («data» .exit)) (now (code .exit)) (now (log .exit)) ≡ meaningOfSheet (now (sheet .entry)) (now («data» .entry)) (now (code .entry)) (now (log .entry)) used ⌝ }
+    ensures { λ r. ⌜ left r (now («data» .exit)) (now (code .exit)) (now (log .exit))
+        ≡ meaningOfSheet (now (sheet .entry)) (now («data» .entry)) (now (code .entry)) (now (log .entry)) used ⌝ }
 {
     let number = memories::lengths_refusal(VifUnit::Vif1, data, code, log, used);
     if number != 0 {

@@ -16,7 +16,7 @@ ghost use Rattle.sheet.specs.Records.{recordOf, bodyLength, bytesAt};
 ghost use Rattle.sheet.specs.Sizes.{quadwordsOf};
 ghost use Rattle.sheet.specs.Layout.{wordBytes, wordsBytes, codeWords, gifTagWords, oddPadding, paddingWords, leadWords, laidOut};
 ghost use Rattle.sheet.specs.Build.{left, buildOf, exportedNumber};
-ghost use Rattle.sheet.specs.Groups.{membersFrom, itemAt};
+ghost use Rattle.sheet.specs.Groups.{itemAt, membersAt};
 ghost use Rattle.sheet.specs.Editions.{expansionFrom};
 ghost use Rattle.sheet.specs.Acts.{done, itemDone, membersDone, turnsDone, ItemFits, MembersFit, TurnsFit, SheetFits, firstItem};
 ghost use Rattle.sheet.specs.Inner.{RecordRoom, out, write, WriteRoom, Counted, chainIn};
@@ -160,7 +160,8 @@ fn put_record(
 // Writes the item at a place, which is accepted.
 fn put_item(sheet: &[u8], depth: u32, at: usize, output: &mut [u8], to: usize) -> Written
     requires { ⌜ ItemFits WriteRoom (itemAt (now sheet) depth at) (out (now output) to) ⌝ }
-    ensures { λ r. ⌜ done (r .next) (out (now (output .exit)) (r .to)) ≡ itemDone write (itemAt (now (sheet .entry)) depth at) (out (now (output .entry)) to) ⌝ }
+    ensures { λ r. ⌜ done (r .next) (out (now (output .exit)) (r .to))
+        ≡ itemDone write (itemAt (now (sheet .entry)) depth at) (out (now (output .entry)) to) ⌝ }
 {
     match read_header(sheet, depth, at) {
         Header::End => Written { next: at, to },
@@ -194,8 +195,9 @@ fn put_group(
     output: &mut [u8],
     to: usize,
 ) -> Written
-    requires { ⌜ (0 < repetitions) × TurnsFit WriteRoom repetitions (membersFrom (itemAt (now sheet) depth) (length (now sheet)) members at) (out (now output) to) ⌝ }
-    ensures { λ r. ⌜ done (r .next) (out (now (output .exit)) (r .to)) ≡ turnsDone write repetitions (membersFrom (itemAt (now (sheet .entry)) depth) (length (now (sheet .entry))) members at) (out (now (output .entry)) to) ⌝ }
+    requires { ⌜ (0 < repetitions) × TurnsFit WriteRoom repetitions (membersAt (now sheet) depth members at) (out (now output) to) ⌝ }
+    ensures { λ r. ⌜ done (r .next) (out (now (output .exit)) (r .to))
+        ≡ turnsDone write repetitions (membersAt (now (sheet .entry)) depth members at) (out (now (output .entry)) to) ⌝ }
 {
     let mut next = at;
     let mut place = to;
@@ -218,8 +220,9 @@ fn put_members(
     output: &mut [u8],
     to: usize,
 ) -> Written
-    requires { ⌜ MembersFit WriteRoom (membersFrom (itemAt (now sheet) depth) (length (now sheet)) members at) (out (now output) to) ⌝ }
-    ensures { λ r. ⌜ done (r .next) (out (now (output .exit)) (r .to)) ≡ membersDone write (membersFrom (itemAt (now (sheet .entry)) depth) (length (now (sheet .entry))) members at) (out (now (output .entry)) to) ⌝ }
+    requires { ⌜ MembersFit WriteRoom (membersAt (now sheet) depth members at) (out (now output) to) ⌝ }
+    ensures { λ r. ⌜ done (r .next) (out (now (output .exit)) (r .to))
+        ≡ membersDone write (membersAt (now (sheet .entry)) depth members at) (out (now (output .entry)) to) ⌝ }
 {
     let mut next = at;
     let mut place = to;
@@ -236,7 +239,8 @@ fn put_members(
 // The chain of an accepted sheet, in an output that has room for it.
 fn put_chain(sheet: &[u8], output: &mut [u8])
     requires { ⌜ SheetFits WriteRoom (now sheet) (firstItem (now sheet)) (out (now output) 0) ⌝ }
-    ensures { λ _. ⌜ now (output .exit) ≡ sets (now (output .entry)) 0 (chainIn (expansionFrom (now (sheet .entry)) (firstItem (now (sheet .entry))))) ⌝ }
+    ensures { λ _. ⌜ now (output .exit)
+        ≡ sets (now (output .entry)) 0 (chainIn (expansionFrom (now (sheet .entry)) (firstItem (now (sheet .entry))))) ⌝ }
 {
     let mut at = first_item(sheet);
     let mut to = 0;
