@@ -112,7 +112,7 @@ mod tests {
         let kept = |i: usize| salvage::read(&sheets[i].1).kept.len();
         assert_eq!(kept(0), 0);
         assert_eq!(kept(1), MOST_SHEET);
-        assert!(sheet::records(&sheets[1].1).is_ok());
+        assert!(sheet::is_first_edition(&sheets[1].1));
         assert!(
             (MOST_SHEET / 4..MOST_SHEET).contains(&kept(2)),
             "{}",

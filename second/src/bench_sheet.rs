@@ -2,8 +2,8 @@
 
 use crate::bench::{measure, Timed, SMALL, TRIES};
 use crate::compare::Program;
+use crate::group_sheets::{edition, group, nested};
 use crate::random::Random;
-use crate::refusals;
 use crate::sheet::{self, MOST_SHEET};
 use crate::sheet_random::{good_record, sheet_of, CODE, DATA, GS, START};
 use crate::sheet_time::{input, result};
@@ -15,7 +15,9 @@ pub fn bench_sheet(program: &Program) -> Result<(), String> {
     check_other_inputs(program)?;
     println!("Builder, us per round and sheet; best of {TRIES} runs each.");
     println!("Start-up is taken off: the time of {SMALL} round is subtracted from that of many.");
-    println!("The output is not cleared between rounds. Every sheet is accepted.");
+    println!(
+        "The output is not cleared between rounds. Every sheet is accepted; records as expanded."
+    );
     println!();
     println!(
         "{:<18} {:>7} {:>7} {:>7} {:>8} {:>8} {:>7}",
@@ -47,18 +49,14 @@ fn line(program: &Program, own: &Program, sheet: &[u8]) -> Result<String, String
 /// The number that a result gives for a refused sheet.
 fn refusal(result: &[u8]) -> Option<u32> {
     let number = word(result, 0);
-    (refusals::MARK..=refusals::OUTPUT)
-        .contains(&number)
-        .then_some(number)
+    (number % 16 != 0).then_some(number)
 }
 
 /// The sheets by name.
 fn sheets() -> Vec<(&'static str, Vec<u8>)> {
     let random = &mut Random::new(1);
-    let starts = MOST_SHEET / sheet::HEADER;
-    let starts = (0..starts).flat_map(|_| good_record(random, START, 0));
     vec![
-        ("21,845 starts", starts.collect()),
+        ("21,845 starts", starts(random, MOST_SHEET / sheet::HEADER)),
         ("data, n 255", sheet_of(random, MOST_SHEET, &[DATA], 255)),
         ("code, n 255", sheet_of(random, MOST_SHEET, &[CODE], 255)),
         ("GS, n 255", sheet_of(random, MOST_SHEET, &[GS], 255)),
@@ -70,7 +68,28 @@ fn sheets() -> Vec<(&'static str, Vec<u8>)> {
             "mixed, n 1",
             sheet_of(random, MOST_SHEET, &[DATA, CODE, GS, START], 1),
         ),
+        ("groups, 8 deep", deep(random)),
+        ("a group of 10,900", wide(random)),
     ]
+}
+
+fn starts(random: &mut Random, count: usize) -> Vec<u8> {
+    (0..count)
+        .flat_map(|_| good_record(random, START, 0))
+        .collect()
+}
+
+/// A short sheet of the longest chain.
+fn deep(random: &mut Random) -> Vec<u8> {
+    let inside = nested(&[2, 2, 2, 2, 2, 2, 2, 255], &starts(random, 1));
+    let code = good_record(random, CODE, 1);
+    [inside, starts(random, 126), code].concat()
+}
+
+/// Many records in one group.
+fn wide(random: &mut Random) -> Vec<u8> {
+    let members = starts(random, 10_900);
+    [edition(), group(3, 10_900), members].concat()
 }
 
 /// Inputs that are no timing input give no result; refused sheets give one.
@@ -113,15 +132,19 @@ mod tests {
     #[test]
     fn largest_sheets_are_accepted() {
         for (name, sheet) in sheets() {
-            let length = if name == "21,845 starts" {
-                131_070
-            } else {
-                131_072
+            let length = match name {
+                "21,845 starts" => 131_070,
+                "groups, 8 deep" => 830,
+                "a group of 10,900" => 65_412,
+                _ => 131_072,
             };
             assert_eq!(sheet.len(), length, "{name}");
             let given = result(&input(1, &sheet)).unwrap();
             assert_eq!(refusal(&given), None);
             assert_eq!(sheet::chain_length(&sheet), Ok(word(&given, 0) as usize));
         }
+        let random = &mut Random::new(2);
+        assert_eq!(sheet::chain_length(&deep(random)), Ok(1_048_576));
+        assert_eq!(sheet::chain_length(&wide(random)), Ok(1_046_416));
     }
 }

@@ -29,6 +29,10 @@ mod gif_compare;
 mod gif_counts;
 mod gif_generate;
 mod gif_time;
+mod group_counts;
+mod group_edges;
+mod group_points;
+mod group_sheets;
 mod log;
 mod log_counts;
 mod memory;
@@ -59,6 +63,7 @@ mod sheet_generate;
 mod sheet_points;
 mod sheet_random;
 mod sheet_time;
+mod sheet_tree;
 mod state_block;
 mod unpack_counts;
 mod unpack_kind;
@@ -102,6 +107,7 @@ usage:
   second time-chain < INPUT > RESULT
   second sheet [--counts] < CASES > RESULTS
   second generate-sheet SEED COUNT > CASES
+  second points-sheet groups > CASES
   second compare-sheet PROGRAM SEED[,SEED..] COUNT
   second bench-sheet PROGRAM
   second time-sheet < INPUT > RESULT
@@ -230,6 +236,7 @@ fn sheet_command(arguments: &[&str]) -> Option<Result<(), String>> {
             seed.parse().ok()?,
             count.parse().ok()?,
         )),
+        ["points-sheet", "groups"] => write(&sheet_points::file(&group_points::expected())),
         ["compare-sheet", program, seeds, count] => {
             let program = compare::Program::parse(program);
             sheet_compare::compare(&program, &compare::seeds(seeds)?, count.parse().ok()?)

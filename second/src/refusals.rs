@@ -43,6 +43,8 @@ pub const CUT: u32 = 44;
 pub const PAD: u32 = 45;
 pub const LONG: u32 = 46;
 pub const OUTPUT: u32 = 47;
+pub const CHAIN: u32 = 49;
+pub const DEPTH: u32 = 52;
 
 // Of setting a register.
 pub const NUMBER: u32 = 50;

@@ -101,10 +101,10 @@ fn wrong_kept(sheet: &[u8], kept: &[u8], ranges: &[Range]) -> Option<&'static st
     {
         return Some("kept and dropped bytes together are not the sheet");
     }
-    if sheet::records(kept).is_err() {
+    if !sheet::is_first_edition(kept) {
         return Some("the kept bytes are refused");
     }
-    let valid = sheet::records(sheet).is_ok();
+    let valid = sheet::is_first_edition(sheet);
     (valid && (kept != sheet || !ranges.is_empty())).then_some("a valid sheet does not come back")
 }
 
@@ -123,7 +123,7 @@ fn stretches(length: usize, ranges: &[Range]) -> impl Iterator<Item = Range> + '
 /// Where a whole valid record starts, none of its bytes is dropped: what lies between the ranges is
 /// whole records, and none starts at a dropped byte.
 fn wrong_reading(sheet: &[u8], ranges: &[Range]) -> Option<&'static str> {
-    let whole = |range: Range| sheet::records(&sheet[range.offset..][..range.length]).is_ok();
+    let whole = |range: Range| sheet::is_first_edition(&sheet[range.offset..][..range.length]);
     if !stretches(sheet.len(), ranges).all(whole) {
         return Some("what lies between two ranges is not whole records");
     }

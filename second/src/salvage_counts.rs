@@ -65,7 +65,7 @@ impl Counts {
         self.kept += salvaged.kept.len() as u64;
         self.note_ranges(&case.sheet, &salvaged.dropped);
         self.note_reading(&case.sheet);
-        let valid = sheet::records(&case.sheet).is_ok();
+        let valid = sheet::is_first_edition(&case.sheet);
         self.add_if(
             "valid sheets that come back",
             valid && outcome.answer.is_ok(),

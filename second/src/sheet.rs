@@ -3,6 +3,7 @@
 use crate::log::Entry;
 use crate::memory;
 use crate::refusals;
+use crate::sheet_tree;
 
 /// The longest sheet in bytes.
 pub const MOST_SHEET: usize = 131_072;
@@ -45,7 +46,8 @@ pub struct Record<'a> {
     pub body: &'a [u8],
 }
 
-/// A refusal: its number and the record's offset, 0 for 46 and 47.
+/// A refusal: its number and the record's offset, 0 for 46, 47 and 49, the sheet's length where a
+/// group lacks records.
 pub type Refusal = (u32, usize);
 
 impl Kind {
@@ -85,7 +87,7 @@ impl Kind {
 
 impl Record<'_> {
     /// The quadwords of the chain, the tag included.
-    fn quadwords(&self) -> u32 {
+    pub fn quadwords(&self) -> u32 {
         let n = self.count;
         match self.kind {
             Kind::Data => 2 + n,
@@ -157,22 +159,17 @@ pub fn record_bytes(kind: u8, count: u8, address: u16, body: &[u8]) -> Vec<u8> {
     [&[MARK[0], MARK[1], kind, count, low, high], body].concat()
 }
 
-/// All records of a sheet, or the refusal.
+/// All records that a sheet stands for, its groups expanded, or the refusal.
 pub fn records(sheet: &[u8]) -> Result<Vec<Record<'_>>, Refusal> {
-    if sheet.len() > MOST_SHEET {
-        return Err((refusals::LONG, 0));
-    }
-    let mut records = Vec::new();
-    let mut at = 0;
-    while at < sheet.len() {
-        let record = first_record(&sheet[at..]).map_err(|refusal| (refusal, at))?;
-        at += HEADER + record.body.len();
-        records.push(record);
-    }
-    Ok(records)
+    sheet_tree::read(sheet)?.expanded()
 }
 
-/// The record at the head of the bytes, or the number of its refusal.
+/// Whether a sheet is valid in the first edition.
+pub fn is_first_edition(sheet: &[u8]) -> bool {
+    sheet_tree::read(sheet).is_ok_and(|tree| !tree.is_second)
+}
+
+/// The record of the first edition at the head of the bytes, or the number of its refusal.
 pub fn first_record(bytes: &[u8]) -> Result<Record<'_>, u32> {
     if bytes.len() < HEADER {
         return Err(refusals::CUT);
@@ -473,6 +470,7 @@ mod tests {
         assert_eq!(refused(&after(&[0x51, 0x9E, 1, 1, 0, 0])), (40, 6));
         assert_eq!(refused(&after(&record(0, 0, 9_999, &[]))), (41, 6));
         assert_eq!(refused(&after(&record(5, 0, 9_999, &[]))), (41, 6));
+        assert_eq!(refused(&record(5, 0, 9_999, &[])), (41, 0));
         for kind in 1..4 {
             assert_eq!(refused(&after(&record(kind, 0, 9_999, &[]))), (42, 6));
         }

@@ -1,6 +1,7 @@
 //! Another program's sheet results against our own.
 
 use crate::compare::{describe_ends, first_difference, report, Program};
+use crate::group_points;
 use crate::memory::cases::{MOST_CODE, MOST_DATA, MOST_LOG, MOST_MAIN};
 use crate::random::Random;
 use crate::sheet_cases::{
@@ -8,7 +9,7 @@ use crate::sheet_cases::{
 };
 use crate::sheet_counts::Counts;
 use crate::sheet_generate::generate;
-use crate::sheet_points;
+use crate::sheet_points::{self, Expected};
 use crate::words::{word, WORD};
 
 /// Cases that are given to the program at once.
@@ -19,9 +20,10 @@ const FILLED: usize = 10;
 /// Compares on the bench points, on the cases of each seed and on damaged files made
 /// from them.
 pub fn compare(program: &Program, seeds: &[u64], count: u64) -> Result<(), String> {
-    let points = sheet_points::file();
-    sheet_points::check(&program.run(&points)?)?;
-    compare_file(program, &points, 0, &mut Counts::default())?;
+    let points = sheet_points::expected();
+    compare_points(program, &points)?;
+    let group_points = group_points::expected();
+    compare_points(program, &group_points)?;
     let mut counts = Counts::default();
     let mut damaged_files = 0;
     for &seed in seeds {
@@ -35,11 +37,16 @@ pub fn compare(program: &Program, seeds: &[u64], count: u64) -> Result<(), Strin
     }
     let mut rows = counts.rows();
     rows.push(("damaged files".to_string(), damaged_files));
-    rows.push((
-        "bench points".to_string(),
-        sheet_points::points().len() as u64,
-    ));
+    rows.push(("bench points".to_string(), points.len() as u64));
+    let groups = group_points.len() as u64;
+    rows.push(("points about groups".to_string(), groups));
     report(&rows)
+}
+
+fn compare_points(program: &Program, points: &[Expected]) -> Result<(), String> {
+    let file = sheet_points::file(points);
+    sheet_points::check(points, &program.run(&file)?)?;
+    compare_file(program, &file, 0, &mut Counts::default())
 }
 
 fn compare_batches(program: &Program, file: &[u8], counts: &mut Counts) -> Result<(), String> {

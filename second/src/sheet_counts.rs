@@ -4,6 +4,7 @@ use crate::capture_counts::junk_beside_stmask;
 use crate::chain::{self, State};
 use crate::compare::named_rows;
 use crate::gif::Place;
+use crate::group_counts;
 use crate::log;
 use crate::log_counts;
 use crate::memory::{self, MOST_MAIN};
@@ -44,7 +45,7 @@ const RECORD_PAIRS: [(u32, u32); 8] = [
 ];
 /// At entry.
 const LENGTHS: [u32; 3] = [refusals::DATA, refusals::CODE, refusals::LOG];
-/// Stands for 40 to 46 where several things are wrong with a case.
+/// Stands for 40 to 46, 49 and 52 where several things are wrong with a case.
 const SHEET: u32 = refusals::MARK;
 
 #[derive(Default)]
@@ -74,9 +75,14 @@ impl Counts {
     /// Notes a case and what it gave.
     pub fn note(&mut self, case: &Case, outcome: &Outcome) {
         self.cases += 1;
-        match sheet::records(&case.sheet) {
-            Ok(records) => self.note_sheet(case, &records),
-            Err(refusal) => self.note_refused_sheet(case, refusal),
+        for name in group_counts::reached(case, outcome) {
+            self.add(&name);
+        }
+        if !group_counts::starts_second(&case.sheet) {
+            match sheet::records(&case.sheet) {
+                Ok(records) => self.note_sheet(case, &records),
+                Err(refusal) => self.note_refused_sheet(case, refusal),
+            }
         }
         self.note_output(case);
         self.note_answers(case, outcome);
@@ -543,7 +549,7 @@ fn wrong_in_record(bytes: &[u8]) -> Vec<u32> {
     wrong
 }
 
-/// The numbers of all that refuses the meaning, in order; 40 for any of 40 to 46.
+/// The numbers of all that refuses the meaning, in order; 40 for any of the sheet's own.
 fn wrong_for_meaning(case: &Case) -> Vec<u32> {
     let log_right = log::in_range(case.log_length as usize, case.used());
     let entries = sheet::entries(&case.sheet);
@@ -595,6 +601,7 @@ fn names() -> Vec<String> {
     add_answer_names(&mut names);
     add_record_names(&mut names);
     add_pair_names(&mut names);
+    names.extend(group_counts::names());
     for waiting in WAITING {
         names.push(format!("runs with {waiting} waiting"));
     }
@@ -609,7 +616,8 @@ fn add_answer_names(names: &mut Vec<String>) {
             names.push(format!("{part}: refused {number}"));
         }
     };
-    let sheet = [&RECORD[..], &[refusals::LONG]].concat();
+    let others = [refusals::LONG, refusals::DEPTH, refusals::CHAIN];
+    let sheet = [&RECORD[..], &others].concat();
     add("builder", "built", &with(&[], &sheet, refusals::OUTPUT));
     add("steps", "given", &sheet);
     add("meaning", "done", &with(&LENGTHS, &sheet, refusals::ROOM));

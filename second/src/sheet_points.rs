@@ -9,8 +9,8 @@ use crate::state_block::{
 };
 use crate::words::{put_number, put_word, WORD};
 
-const OUTPUT: u32 = 128;
-const MAIN: u32 = 160;
+const OUTPUT: u32 = 256;
+const MAIN: u32 = 288;
 const ADDRESS: u32 = 32;
 const ENTRIES: u64 = 4;
 const FILL: u64 = 0x0123_4567_89AB_CDEF;
@@ -18,21 +18,21 @@ const FILL: u64 = 0x0123_4567_89AB_CDEF;
 /// A sheet and what it has to give from the reset state.
 pub struct Point {
     pub name: &'static str,
-    sheet: &'static [u8],
-    chain: &'static [u32],
-    steps: u64,
-    packets: u64,
+    pub sheet: &'static [u8],
+    pub chain: &'static [u32],
+    pub steps: u64,
+    pub packets: u64,
     /// The words of data memory that change.
-    data: &'static [(usize, u32)],
+    pub data: &'static [(usize, u32)],
     /// The words of code memory that change, by their byte address divided by 4.
-    code: &'static [(usize, u32)],
-    log: &'static [[u64; ENTRY]],
+    pub code: &'static [(usize, u32)],
+    pub log: &'static [[u64; ENTRY]],
     /// The words of the state block that are not as after a reset, TADR and entries
     /// used left out.
-    state: &'static [(usize, u32)],
+    pub state: &'static [(usize, u32)],
 }
 
-const ENDED: (usize, u32) = (chain_word::ENDED, 1);
+pub const ENDED: (usize, u32) = (chain_word::ENDED, 1);
 
 pub fn points() -> [Point; 5] {
     [
@@ -180,7 +180,7 @@ impl Point {
     }
 
     /// The whole result.
-    fn expected(&self) -> Vec<u8> {
+    pub fn expected(&self) -> Vec<u8> {
         let case = self.case();
         let length = 4 * self.chain.len() as u32;
         let used = self.log.len() as u64;
@@ -231,44 +231,59 @@ impl Point {
     }
 }
 
+/// A case, its name and its whole result.
+pub struct Expected {
+    pub name: &'static str,
+    pub case: Case,
+    pub result: Vec<u8>,
+}
+
+/// The bench points with their results.
+pub fn expected() -> Vec<Expected> {
+    let points = points();
+    let with_result = |point: &Point| Expected {
+        name: point.name,
+        case: point.case(),
+        result: point.expected(),
+    };
+    points.iter().map(with_result).collect()
+}
+
 /// The cases of all points.
-pub fn file() -> Vec<u8> {
+pub fn file(points: &[Expected]) -> Vec<u8> {
     let mut file = Vec::new();
-    points()
-        .iter()
-        .for_each(|point| point.case().write(&mut file));
+    points.iter().for_each(|point| point.case.write(&mut file));
     file
 }
 
 /// Tests the results of `file` against the literal values.
-pub fn check(results: &[u8]) -> Result<(), String> {
+pub fn check(points: &[Expected], results: &[u8]) -> Result<(), String> {
     let mut rest = results;
-    for point in points() {
-        let expected = point.expected();
-        let (own, after) = rest.split_at(expected.len().min(rest.len()));
-        if let Some(at) = crate::compare::first_difference(&expected, own) {
-            return Err(explain(&point, &expected, own, at));
+    for point in points {
+        let (own, after) = rest.split_at(point.result.len().min(rest.len()));
+        if let Some(at) = crate::compare::first_difference(&point.result, own) {
+            return Err(explain(point, own, at));
         }
         rest = after;
     }
     match rest.len() {
         0 => Ok(()),
-        more => Err(format!("bench points: {more} bytes after the last result")),
+        more => Err(format!("points: {more} bytes after the last result")),
     }
 }
 
-fn explain(point: &Point, expected: &[u8], given: &[u8], at: usize) -> String {
+fn explain(point: &Expected, given: &[u8], at: usize) -> String {
     let from = at - at % WORD;
     let value = |bytes: &[u8]| match bytes.get(from..from + WORD) {
         Some(word) => format!("{:08X}", u32::from_le_bytes(word.try_into().unwrap())),
         None => format!("cut after {} bytes", bytes.len()),
     };
     format!(
-        "bench point {}: {}: {} instead of {}",
+        "point {}: {}: {} instead of {}",
         point.name,
-        describe_place(&point.case(), at / WORD),
+        describe_place(&point.case, at / WORD),
         value(given),
-        value(expected)
+        value(&point.result)
     )
 }
 
@@ -279,14 +294,14 @@ mod tests {
     use crate::sheet_counts::Counts;
 
     fn own() -> Vec<u8> {
-        let results = sheet_cases::results(&file(), &mut Counts::default());
+        let results = sheet_cases::results(&file(&expected()), &mut Counts::default());
         assert_eq!((results.damage, results.broken), (None, None));
         results.bytes
     }
 
     #[test]
     fn own_results() {
-        assert_eq!(check(&own()), Ok(()));
+        assert_eq!(check(&expected(), &own()), Ok(()));
         let lengths: Vec<usize> = points().iter().map(|p| 4 * p.chain.len()).collect();
         assert_eq!(lengths, [16, 48, 80, 80, 64]);
     }
@@ -297,9 +312,9 @@ mod tests {
         for at in (0..results.len()).step_by(7_919) {
             let mut changed = results.clone();
             changed[at] ^= 0x10;
-            assert!(check(&changed).is_err());
+            assert!(check(&expected(), &changed).is_err());
         }
-        assert!(check(&results[..results.len() - 1]).is_err());
-        assert!(check(&[&results[..], &[0]].concat()).is_err());
+        assert!(check(&expected(), &results[..results.len() - 1]).is_err());
+        assert!(check(&expected(), &[&results[..], &[0]].concat()).is_err());
     }
 }
