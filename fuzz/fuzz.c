@@ -306,11 +306,14 @@ static void give_result(size_t numbers) {
 
 /* ---- Sheets ---- */
 
-enum { RECORD_ROOM = 4160, SHEET_ROOM = TEJBORUN_SHEET_BYTES + RECORD_ROOM };
+enum { RECORD_ROOM = 4160, SHEET_ROOM = TEJBORUN_SHEET_BYTES + RECORD_ROOM, GROUPS = 16 };
 
 struct sheet {
     size_t bytes;
     uint8_t at[SHEET_ROOM];
+    /* Whether groups may come, the members still due of those around what comes next, and whether those that are missing in the end are added. */
+    bool is_second, complete;
+    uint32_t due[GROUPS], depth;
 };
 
 static struct sheet sheet;
@@ -350,12 +353,23 @@ static void make_body(struct bytes *in, const struct record *r, uint8_t *body) {
         if (i % 16 > 8) body[i] = 0;
 }
 
+/* One more member of the innermost group, where there is one; groups that are whole end. */
+static void count_member(struct sheet *s) {
+    if (s->depth > 0 && s->due[s->depth - 1] > 0) s->due[s->depth - 1]--;
+}
+
+static void end_groups(struct sheet *s) {
+    while (s->depth > 0 && s->due[s->depth - 1] == 0) s->depth--;
+}
+
 /* Starts in a row: the densest sheets, up to the longest and beyond. */
 static void add_starts(struct bytes *in, struct sheet *s) {
     uint32_t count = take16(in) % 21848;
     for (uint32_t i = 0; i < count; i++) {
         const uint8_t start[6] = {0x9E, 0x51, 4, 0, (uint8_t)i, (uint8_t)(i >> 8 & 7)};
         add(s, start, 6);
+        count_member(s);
+        end_groups(s);
     }
 }
 
@@ -363,6 +377,39 @@ static void add_raw(struct bytes *in, struct sheet *s) {
     for (uint32_t count = take8(in) % 32; count > 0; count--) {
         uint8_t raw = (uint8_t)take8(in);
         add(s, &raw, 1);
+    }
+}
+
+/* The first record of a second-edition sheet, mostly right. */
+static void add_edition(struct bytes *in, struct sheet *s) {
+    uint32_t how = take8(in);
+    uint8_t count = how < 240 ? 2 : (uint8_t)(take8(in) % 5);
+    uint32_t address = how < 248 ? 0 : take16(in);
+    const uint8_t header[6] = {0x9E, 0x51, 0, count, (uint8_t)address, (uint8_t)(address >> 8)};
+    s->is_second = true;
+    s->complete = how % 8 != 7;
+    add(s, header, 6);
+}
+
+/* A group's header: mostly few repetitions of few members. */
+static void add_group(struct bytes *in, struct sheet *s) {
+    uint32_t how = take8(in), often = take8(in);
+    uint8_t repetitions = (uint8_t)(how < 208 ? 1 + often % 3 : often);
+    uint32_t members = how % 16 < 14 ? 1 + how % 4 : how % 16 == 14 ? take16(in) % 700 : take16(in);
+    const uint8_t header[6] = {0x9E, 0x51, 5, repetitions, (uint8_t)members, (uint8_t)(members >> 8)};
+    add(s, header, 6);
+    count_member(s);
+    if (s->depth < GROUPS) s->due[s->depth++] = members;
+    end_groups(s);
+}
+
+/* Starts for the members that are missing, where they are not too many. */
+static void complete_groups(struct sheet *s) {
+    static const uint8_t start[6] = {0x9E, 0x51, 4, 0, 5, 0};
+    for (uint32_t most = 1000; s->complete && s->depth > 0 && most > 0; most--) {
+        add(s, start, 6);
+        count_member(s);
+        end_groups(s);
     }
 }
 
@@ -381,6 +428,8 @@ static void add_record(struct bytes *in, struct sheet *s) {
     uint32_t op = take8(in), fault = op >> 2;
     if (fault == 63) return add_raw(in, s);
     if (fault == 62) return add_starts(in, s);
+    if (fault >= 48 && fault < 56 && s->bytes == 0) return add_edition(in, s);
+    if (fault >= 48 && fault < 56 && s->is_second) return add_group(in, s);
     struct record r = legal_record(in, 1 + op % 4);
     size_t bytes = body_bytes(&r);
     make_body(in, &r, body);
@@ -390,11 +439,21 @@ static void add_record(struct bytes *in, struct sheet *s) {
     const uint8_t header[6] = {r.mark[0], r.mark[1], r.kind, r.count, (uint8_t)r.address, (uint8_t)(r.address >> 8)};
     add(s, header, 6);
     add(s, body, bytes);
+    count_member(s);
+    end_groups(s);
+}
+
+/* No records yet, of the first edition. */
+static void clear_sheet(void) {
+    sheet.bytes = 0;
+    sheet.depth = 0;
+    sheet.is_second = sheet.complete = false;
 }
 
 static void give_sheet(struct bytes *in) {
-    sheet.bytes = 0;
+    clear_sheet();
     while (in->left > 0 && sheet.bytes <= TEJBORUN_SHEET_BYTES) add_record(in, &sheet);
+    complete_groups(&sheet);
     void *to = give(SHEET, sheet.bytes);
     if (sheet.bytes > 0) memcpy(to, sheet.at, sheet.bytes);
     most(&longest_sheet, sheet.bytes);
@@ -777,7 +836,7 @@ static void fuzz_salvage(struct bytes *in) {
     for (size_t i = 0; i < sizeof damage_of; i++) damage_of[i] = (uint8_t)take8(in);
     for (size_t i = 0; i < sizeof lengths_of_buffers; i++) lengths_of_buffers[i] = (uint8_t)take8(in);
     struct bytes order = {damage_of, sizeof damage_of}, buffers_of = {lengths_of_buffers, sizeof lengths_of_buffers};
-    sheet.bytes = 0;
+    clear_sheet();
     while (in->left > 0 && sheet.bytes <= TEJBORUN_SHEET_BYTES) add_record(in, &sheet);
     for (uint32_t count = take8(&order) % 10; count > 0; count--) damage(&order, &sheet);
     void *to = give(SHEET, sheet.bytes);

@@ -22,6 +22,8 @@ mod salvage;
 mod set;
 #[path = "../../../second/src/sheet.rs"]
 mod sheet;
+#[path = "../../../second/src/sheet_tree.rs"]
+mod sheet_tree;
 #[path = "../../../second/src/state_block.rs"]
 mod state_block;
 #[path = "../../../second/src/vif.rs"]
