@@ -7,6 +7,7 @@ _Static_assert(TEJBORUN_VIF1_DATA_WORDS == 4096 && TEJBORUN_VIF0_DATA_WORDS == 1
 _Static_assert(TEJBORUN_VIF1_CODE_BYTES == 16384 && TEJBORUN_VIF0_CODE_BYTES == 4096, "the words of TEJBORUN_BAD_CODE");
 _Static_assert(TEJBORUN_ENTRY_NUMBERS == 3 && TEJBORUN_LOG_NUMBERS == 196608, "the words of TEJBORUN_BAD_LOG");
 _Static_assert(TEJBORUN_SHEET_BYTES == 131072, "the words of TEJBORUN_LONG_SHEET");
+_Static_assert(TEJBORUN_CHAIN_BYTES == 1048576, "the words of TEJBORUN_LONG_EXPANSION");
 _Static_assert(TEJBORUN_BLOCK_WORDS == 95, "the words of TEJBORUN_SHORT");
 
 static const char *const messages[] = {
@@ -31,13 +32,15 @@ static const char *const messages[] = {
     [TEJBORUN_BAD_DESCRIPTOR] = "GIF descriptor B is met at its data",
     [TEJBORUN_LOG_FULL] = "the log lacks room",
     [TEJBORUN_BAD_MARK] = "the record does not begin with the mark 9E 51",
-    [TEJBORUN_BAD_KIND] = "the record's kind is none of 1 to 4",
+    [TEJBORUN_BAD_KIND] = "the record's kind is none of 1 to 4, nor a group (5) in a sheet of the second edition",
     [TEJBORUN_BAD_COUNT] = "the record's count is not one of its kind",
     [TEJBORUN_BAD_ADDRESS] = "the record's address is not one of its kind",
-    [TEJBORUN_CUT_RECORD] = "the record's header or body is cut off by the sheet's end",
+    [TEJBORUN_CUT_RECORD] = "the record's header or body is cut off by the sheet's end, or records of a group are missing there",
     [TEJBORUN_BAD_PAD] = "a GS entry's pad is not zero",
     [TEJBORUN_LONG_SHEET] = "the sheet is longer than 131,072 bytes",
     [TEJBORUN_LONG_CHAIN] = "the chain is longer than the output",
+    [TEJBORUN_LONG_EXPANSION] = "the chain of the sheet, its groups expanded, is longer than 1,048,576 bytes",
+    [TEJBORUN_DEEP_GROUP] = "a group inside eight others",
     [TEJBORUN_BAD_NUMBER] = "the register's number is above 7; 0 to 3 are ROW, 4 to 7 are COL",
     [TEJBORUN_UNIT_WAITS] = "a code of this unit waits for payload",
     [TEJBORUN_LONG_KEPT] = "the records kept are longer than the output",

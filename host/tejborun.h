@@ -48,7 +48,7 @@ extern "C" {
 
 #define TEJBORUN_MAIN_BYTES 1048576u /* most bytes of main memory */
 #define TEJBORUN_SHEET_BYTES 131072u /* most bytes of a sheet */
-#define TEJBORUN_CHAIN_BYTES 699056u /* most bytes of a sheet's chain */
+#define TEJBORUN_CHAIN_BYTES 1048576u /* most bytes of a sheet's chain, groups expanded and the end tag included; 49 beyond */
 
 /* The answers: the scope document's numbers, and TEJBORUN_SHORT. */
 enum tejborun_answer {
@@ -83,13 +83,15 @@ enum tejborun_answer {
 
     /* sheet */
     TEJBORUN_BAD_MARK = 40,
-    TEJBORUN_BAD_KIND = 41,
-    TEJBORUN_BAD_COUNT = 42,
-    TEJBORUN_BAD_ADDRESS = 43,
-    TEJBORUN_CUT_RECORD = 44, /* header or body cut */
-    TEJBORUN_BAD_PAD = 45,    /* non-zero pad */
-    TEJBORUN_LONG_SHEET = 46, /* above TEJBORUN_SHEET_BYTES */
-    TEJBORUN_LONG_CHAIN = 47, /* longer than the output */
+    TEJBORUN_BAD_KIND = 41,       /* none of 1 to 4; in a sheet of the second edition none of 1 to 5 after the first record */
+    TEJBORUN_BAD_COUNT = 42,      /* of a group: 0 repetitions; of kind 0: not 2 */
+    TEJBORUN_BAD_ADDRESS = 43,    /* of a group: no record inside; of kind 0: not 0 */
+    TEJBORUN_CUT_RECORD = 44,     /* header or body cut, or records of a group missing: the offset is then the sheet's length */
+    TEJBORUN_BAD_PAD = 45,        /* non-zero pad */
+    TEJBORUN_LONG_SHEET = 46,     /* above TEJBORUN_SHEET_BYTES */
+    TEJBORUN_LONG_CHAIN = 47,     /* longer than the output */
+    TEJBORUN_LONG_EXPANSION = 49, /* the chain, groups expanded, above TEJBORUN_CHAIN_BYTES */
+    TEJBORUN_DEEP_GROUP = 52,     /* a group in eight others */
 
     /* set */
     TEJBORUN_BAD_NUMBER = 50, /* the number of a register above 7 */
@@ -114,19 +116,25 @@ static inline uint64_t tejborun_used(const struct tejborun_state *state)
     return state->chain.used[0] | (uint64_t)state->chain.used[1] << 32;
 }
 
-/* Builds the chain of a sheet in the output. Answers the chain's length in bytes (a multiple of 16), or the refusal (40 to 47). A refusal leaves the
- * output as it is, success what lies beyond the chain. */
+/* A sheet whose first record is of kind 0, count 2 and address 0 is of the second edition and may hold groups: kind 5, the count its repetitions, the address
+ * the number of records that follow inside, any of which may be a group, eight deep. It is built, counted and fed as its expansion: the records inside, repeated
+ * in order. A sheet's refusal is 46; or that of its first record that is not valid, 44 (header cut), 40, 41, 42, 43, 52, 44 (the rest), 45 in this order; or,
+ * where all are, 49. */
+
+/* Builds the chain of a sheet in the output. Answers the chain's length in bytes, a multiple of 16, or the refusal, which is not: the sheet's, 40 to 46, 49
+ * or 52, or 47, tested last. A refusal leaves the output as it is, success what lies beyond the chain. An output of TEJBORUN_CHAIN_BYTES holds every chain. */
 size_t tejborun_build(const uint8_t *sheet, size_t sheet_bytes, uint8_t *output, size_t output_bytes);
 
-/* The steps of a sheet's chain. Answers 0, or the sheet's refusal (46, 40 to 45).
- * result[0]: the steps, 0 where refused; result[1]: the offset of the refused record, 0 for 46 and where there is none. */
+/* The steps of a sheet's chain. Answers 0, or the sheet's refusal (40 to 46, 49, 52).
+ * result[0]: the steps, 0 where refused; result[1]: the offset of the refused record, 0 for 46, 49 and where there is none. */
 uint32_t tejborun_steps(const uint8_t *sheet, size_t sheet_bytes, uint64_t *result, size_t result_numbers);
 
 /* What can be kept of a damaged sheet. Read from offset 0: a whole valid record is kept and passed over, otherwise one byte is dropped. The records kept are
  * written to the output one after another, and the ranges dropped to their list, two numbers each, offset and length, joined where they touch, in order.
  * Answers 0; or, in this order, TEJBORUN_SHORT, 46 for a sheet above TEJBORUN_SHEET_BYTES, 55 exactly if the bytes kept exceed the output, 56 exactly if the
  * ranges exceed their list, which holds half its length in numbers, rounded down. A refusal leaves output and list as they are, success what lies beyond what
- * is written. The output is a sheet that is not refused with 40 to 46; a valid sheet comes back as it is, with no range.
+ * is written. The output is a sheet that is not refused with 40 to 46; a valid sheet of the first edition comes back as it is, with no range. Kinds 0
+ * and 5, of the second edition, are no valid records here: of a group the header is dropped, and the records inside are kept once.
  * result[0]: the bytes written to the output; result[1]: the ranges written to the list; both 0 where refused. */
 uint32_t tejborun_salvage(const uint8_t *sheet, size_t sheet_bytes, uint8_t *output, size_t output_bytes, uint64_t *ranges, size_t ranges_numbers,
                           uint64_t *result, size_t result_numbers);

@@ -290,6 +290,11 @@ static bool holds_meaning(const struct bench *bench, size_t from)
            memcmp(code + 8 * LAST_INSTRUCTION, instruction, 8) == 0 && code[0] == FILL && memcmp(entry(&bench->lent[LOG], from), entries, sizeof entries) == 0;
 }
 
+/* Records of six bytes: the second edition's first, a group's header and a start. */
+#define EDITION(count, address) 0x9E, 0x51, 0, count, ADDRESS(address)
+#define GROUP(repetitions, members) 0x9E, 0x51, 5, repetitions, ADDRESS(members)
+#define START(address) 0x9E, 0x51, 4, 0, ADDRESS(address)
+
 /* A sheet and its refusal. */
 struct refused {
     uint8_t bytes[24];
@@ -306,6 +311,22 @@ static const struct refused refused[] = {
     {{0x9E, 0x51, 4, 0, ADDRESS(TEJBORUN_VIF1_INSTRUCTIONS)}, 6, TEJBORUN_BAD_ADDRESS, 0},
     {{0x9E, 0x51, 2, 1, 0, 0, 1, 2, 3, 4, 5, 6, 7}, 13, TEJBORUN_CUT_RECORD, 0},
     {{0x9E, 0x51, 3, 1, 0, 0, 0, 0, 0, 0, 0, 0, 0, 0, 5, 0, 0, 0, 0, 0, 0, 1}, 22, TEJBORUN_BAD_PAD, 0},
+    /* of the second edition: its first record, groups without it, repetitions, members, and records that are missing */
+    {{EDITION(3, 0)}, 6, TEJBORUN_BAD_COUNT, 0},
+    {{EDITION(1, 1)}, 6, TEJBORUN_BAD_COUNT, 0},
+    {{EDITION(2, 256)}, 6, TEJBORUN_BAD_ADDRESS, 0},
+    {{EDITION(2, 0), EDITION(2, 0)}, 12, TEJBORUN_BAD_KIND, 6},
+    {{EDITION(2, 0), GROUP(1, 1), EDITION(2, 0)}, 18, TEJBORUN_BAD_KIND, 12},
+    {{START(5), GROUP(1, 1), START(5)}, 18, TEJBORUN_BAD_KIND, 6},
+    {{GROUP(0, 0), START(5)}, 12, TEJBORUN_BAD_KIND, 0},
+    {{EDITION(2, 0), 0x9E, 0x51, 6, 0, 0, 0}, 12, TEJBORUN_BAD_KIND, 6},
+    {{EDITION(2, 0), GROUP(0, 0)}, 12, TEJBORUN_BAD_COUNT, 6},
+    {{EDITION(2, 0), GROUP(1, 0)}, 12, TEJBORUN_BAD_ADDRESS, 6},
+    {{EDITION(2, 0), GROUP(255, 65535)}, 12, TEJBORUN_CUT_RECORD, 12},
+    {{EDITION(2, 0), GROUP(255, 2), START(5)}, 18, TEJBORUN_CUT_RECORD, 18},
+    {{EDITION(2, 0), GROUP(255, 2), START(5), 0x9E}, 19, TEJBORUN_CUT_RECORD, 18},
+    {{EDITION(2, 0), GROUP(255, 2), START(5), 0x9E, 0x51, 4, 0, 5}, 23, TEJBORUN_CUT_RECORD, 18},
+    {{EDITION(2, 0), GROUP(1, 1), START(TEJBORUN_VIF1_INSTRUCTIONS)}, 18, TEJBORUN_BAD_ADDRESS, 12},
 };
 enum { REFUSED = sizeof refused / sizeof refused[0] };
 
@@ -348,6 +369,9 @@ static void test_build(bool end)
         CHECK(try_build(refused[i].bytes, refused[i].count, 4096, end) == refused[i].refusal);
 }
 
+/* Bytes of the longest chain of a sheet without groups. */
+enum { LONGEST_PLAIN = 16 * (2 * 21845 + 1) };
+
 /* The longest sheets, and those that are too long. */
 static void test_long_sheets(bool end)
 {
@@ -355,8 +379,8 @@ static void test_long_sheets(bool end)
     CHECK(bytes != NULL);
     for (size_t at = 0; at + 6 <= TEJBORUN_SHEET_BYTES; at += 6)
         memcpy(bytes + at, "\x9E\x51\x04\x00\xFF\x07", 6);
-    CHECK(try_build(bytes, TEJBORUN_SHEET_BYTES - 2, TEJBORUN_CHAIN_BYTES, end) == TEJBORUN_CHAIN_BYTES);
-    CHECK(try_build(bytes, TEJBORUN_SHEET_BYTES - 2, TEJBORUN_CHAIN_BYTES - 1, end) == TEJBORUN_LONG_CHAIN);
+    CHECK(try_build(bytes, TEJBORUN_SHEET_BYTES - 2, LONGEST_PLAIN, end) == LONGEST_PLAIN);
+    CHECK(try_build(bytes, TEJBORUN_SHEET_BYTES - 2, LONGEST_PLAIN - 1, end) == TEJBORUN_LONG_CHAIN);
     CHECK(try_build(bytes, TEJBORUN_SHEET_BYTES, TEJBORUN_CHAIN_BYTES, end) == TEJBORUN_CUT_RECORD);
     CHECK(try_build(bytes, TEJBORUN_SHEET_BYTES + 1, TEJBORUN_CHAIN_BYTES, end) == TEJBORUN_LONG_SHEET);
     uint64_t result[2] = {9, 9};
@@ -396,6 +420,107 @@ static void test_steps(bool end)
     }
 }
 
+/* A sheet of the second edition and the one of the first that it stands for. */
+struct groups {
+    uint8_t *bytes, *plain;
+    size_t count, plain_count;
+};
+
+static void free_groups(struct groups *groups)
+{
+    free(groups->bytes);
+    free(groups->plain);
+}
+
+/* The sheet of the tests in groups: three times, then a start twice, and that all twice. */
+static struct groups new_groups(void)
+{
+    static const uint8_t outer[] = {EDITION(2, 0), GROUP(2, 2), GROUP(3, 4)}, inner[] = {GROUP(2, 1), START(9)};
+    struct groups groups = {.bytes = malloc(1000), .plain = malloc(1000)};
+    CHECK(groups.bytes != NULL && groups.plain != NULL);
+    memcpy(groups.bytes, outer, sizeof outer);
+    memcpy(groups.bytes + sizeof outer, sheet, sizeof sheet);
+    memcpy(groups.bytes + sizeof outer + sizeof sheet, inner, sizeof inner);
+    groups.count = sizeof outer + sizeof sheet + sizeof inner;
+    for (size_t i = 0; i < 10; i++) {
+        bool start = i % 5 >= 3;
+        size_t count = start ? 6 : sizeof sheet;
+        memcpy(groups.plain + groups.plain_count, start ? inner + 6 : sheet, count);
+        groups.plain_count += count;
+    }
+    return groups;
+}
+
+enum { GROUPS_STEPS = 6 * (SHEET_STEPS - 1) + 4 * 5 + 1, GROUPS_CHAIN = 6 * (SHEET_CHAIN - 16) + 4 * 32 + 16, GROUPS_ENTRIES = 6 * SHEET_ENTRIES + 4 };
+
+/* The chain and the steps of groups are those of what they stand for. */
+static void test_groups(bool end)
+{
+    struct groups groups = new_groups();
+    struct lent from = lend(groups.count, end), plain = lend(groups.plain_count, end), output[2] = {lend(GROUPS_CHAIN, end), lend(GROUPS_CHAIN, end)};
+    uint64_t result[2];
+    memcpy(from.at, groups.bytes, groups.count);
+    memcpy(plain.at, groups.plain, groups.plain_count);
+    CHECK(call_build(&from, &output[0]) == GROUPS_CHAIN && call_build(&plain, &output[1]) == GROUPS_CHAIN);
+    CHECK(memcmp(output[0].at, output[1].at, GROUPS_CHAIN) == 0);
+    CHECK(try_build(groups.bytes, groups.count, GROUPS_CHAIN + 1, end) == GROUPS_CHAIN);
+    CHECK(try_build(groups.bytes, groups.count, GROUPS_CHAIN - 1, end) == TEJBORUN_LONG_CHAIN);
+    CHECK(try_steps(groups.bytes, groups.count, 2, end, result) == TEJBORUN_DONE && result[0] == GROUPS_STEPS && result[1] == 0);
+    CHECK(try_steps(groups.bytes, 6, 2, end, result) == TEJBORUN_DONE && result[0] == 1);
+    CHECK(try_build(groups.bytes, 6, 16, end) == 16);
+    for (size_t i = 0; i < 2; i++)
+        give_back(&output[i]);
+    give_back(&from);
+    give_back(&plain);
+    free_groups(&groups);
+}
+
+/* The longest chain of all, 255 times 257 quadwords and the end tag, and one that is longer, which is refused before the output is looked at. */
+static void test_long_groups(bool end)
+{
+    static const uint8_t head[] = {EDITION(2, 0), GROUP(255, 1), 0x9E, 0x51, 1, 255, ADDRESS(7)}, start[] = {START(0)};
+    enum { RECORD_BYTES = 6 + 16 * 255, COUNT = 12 + RECORD_BYTES };
+    uint8_t bytes[COUNT + 6] = {0};
+    uint64_t result[2];
+    memcpy(bytes, head, sizeof head);
+    memcpy(bytes + COUNT, start, sizeof start);
+    CHECK(try_build(bytes, COUNT, TEJBORUN_CHAIN_BYTES, end) == TEJBORUN_CHAIN_BYTES);
+    CHECK(try_build(bytes, COUNT, TEJBORUN_CHAIN_BYTES - 1, end) == TEJBORUN_LONG_CHAIN);
+    CHECK(try_steps(bytes, COUNT, 2, end, result) == TEJBORUN_DONE && result[0] == 255 * (5 + 4 * 255) + 1);
+    CHECK(try_build(bytes, COUNT + 6, TEJBORUN_CHAIN_BYTES + 64, end) == TEJBORUN_LONG_EXPANSION);
+    CHECK(try_build(bytes, COUNT + 6, 0, end) == TEJBORUN_LONG_EXPANSION);
+    CHECK(try_steps(bytes, COUNT + 6, 2, end, result) == TEJBORUN_LONG_EXPANSION && result[0] == 0 && result[1] == 0);
+    bytes[COUNT + 2] = 6;
+    CHECK(try_steps(bytes, COUNT + 6, 2, end, result) == TEJBORUN_BAD_KIND && result[1] == COUNT);
+}
+
+/* Groups in groups: eight are taken, whose expansion passes 64 bits where each comes 255 times; a ninth is refused, after its count and address. */
+static void test_deep_groups(bool end)
+{
+    enum { DEEP = 9, COUNT = 6 + 6 * DEEP + 6 };
+    static const uint8_t edition[] = {EDITION(2, 0)}, once[] = {GROUP(1, 1)}, often[] = {GROUP(255, 1)}, start[] = {START(3)};
+    uint8_t bytes[COUNT];
+    uint64_t result[2];
+    memcpy(bytes, edition, 6);
+    for (size_t i = 1; i <= DEEP; i++)
+        memcpy(bytes + 6 * i, once, 6);
+    memcpy(bytes + COUNT - 6, start, 6);
+    CHECK(try_build(bytes, COUNT, 4096, end) == TEJBORUN_DEEP_GROUP);
+    CHECK(try_steps(bytes, COUNT, 2, end, result) == TEJBORUN_DEEP_GROUP && result[0] == 0 && result[1] == 6 * DEEP);
+    CHECK(try_steps(bytes, COUNT - 6, 2, end, result) == TEJBORUN_DEEP_GROUP && result[1] == 6 * DEEP);
+    bytes[6 * DEEP + 4] = 0;
+    CHECK(try_steps(bytes, COUNT, 2, end, result) == TEJBORUN_BAD_ADDRESS && result[1] == 6 * DEEP);
+    bytes[6 * DEEP + 3] = 0;
+    CHECK(try_steps(bytes, COUNT, 2, end, result) == TEJBORUN_BAD_COUNT && result[1] == 6 * DEEP);
+    memcpy(bytes + COUNT - 12, start, 6);
+    CHECK(try_steps(bytes, COUNT - 6, 2, end, result) == TEJBORUN_DONE && result[0] == 6);
+    CHECK(try_build(bytes, COUNT - 6, 48, end) == 48);
+    for (size_t i = 1; i < DEEP; i++)
+        memcpy(bytes + 6 * i, often, 6);
+    CHECK(try_build(bytes, COUNT - 6, 4096, end) == TEJBORUN_LONG_EXPANSION);
+    CHECK(try_steps(bytes, COUNT - 6, 2, end, result) == TEJBORUN_LONG_EXPANSION && result[0] == 0 && result[1] == 0);
+}
+
 /* What is to be kept of a sheet and the ranges to be dropped, by the steps' own reader: it says where the first record is that is not whole and valid. */
 struct expected {
     uint8_t *kept;
@@ -422,6 +547,8 @@ static struct expected expect_salvage(const uint8_t *bytes, size_t count)
     for (size_t at = 0; at < count; at++) {
         uint64_t result[2];
         size_t whole = tejborun_steps(bytes + at, count - at, result, 2) == TEJBORUN_DONE ? count - at : (size_t)result[1];
+        if (count - at > 2 && bytes[at + 2] == 0)
+            whole = 0; /* the second edition is damage here */
         memcpy(expected.kept + expected.bytes, bytes + at, whole);
         expected.bytes += whole;
         at += whole;
@@ -1668,6 +1795,58 @@ static void try_build_and_run(const uint8_t *bytes, size_t count, uint32_t addre
     free_bench(&bench);
 }
 
+/* Whether two benches hold the same memories, logs, states and numbers. */
+static bool hold_the_same(const struct bench *a, const struct bench *b)
+{
+    for (int i = MAIN; i < BUFFERS; i++)
+        if (a->lent[i].bytes != b->lent[i].bytes || memcmp(a->lent[i].at, b->lent[i].at, a->lent[i].bytes) != 0)
+            return false;
+    return true;
+}
+
+/* The benches of groups and of what they stand for, with a main memory that the chain just fits. */
+static void new_group_benches(struct bench bench[2], bool end)
+{
+    struct groups groups = new_groups();
+    struct lengths lengths = good;
+    lengths.main = GROUPS_CHAIN;
+    new_bench(&bench[0], lengths, groups.bytes, groups.count, end);
+    new_bench(&bench[1], lengths, groups.plain, groups.plain_count, end);
+    for (int i = 0; i < 2; i++)
+        remember_all(&bench[i]);
+    free_groups(&groups);
+}
+
+/* The meaning of groups is that of what they stand for; and the log has room for all of it or for none. */
+static void test_groups_fed(bool end)
+{
+    struct bench bench[2];
+    new_group_benches(bench, end);
+    for (int i = 0; i < 2; i++) {
+        CHECK(call_meaning(&bench[i], ENTRIES - GROUPS_ENTRIES + 1) == TEJBORUN_LOG_FULL && all_unchanged(&bench[i]));
+        CHECK(call_meaning(&bench[i], ENTRIES - GROUPS_ENTRIES) == TEJBORUN_DONE && all_kept_outside(&bench[i]) && kept_from(&bench[i], MEANING_NUMBERS));
+        CHECK(numbers(&bench[i].lent[RESULT])[0] == ENTRIES && numbers(&bench[i].lent[RESULT])[1] == 0 && holds_meaning(&bench[i], ENTRIES - GROUPS_ENTRIES));
+    }
+    CHECK(hold_the_same(&bench[0], &bench[1]));
+    for (int i = 0; i < 2; i++)
+        free_bench(&bench[i]);
+}
+
+/* The same of groups built and run; a chain that main memory lacks room for. */
+static void test_groups_run(bool end)
+{
+    struct bench bench[2];
+    new_group_benches(bench, end);
+    for (int i = 0; i < 2; i++) {
+        CHECK(call_build_and_run(&bench[i], 16, UINT64_MAX) == TEJBORUN_LONG_CHAIN && built_and_ran(&bench[i], 0, 0, 0) && all_unchanged(&bench[i]));
+        CHECK(call_build_and_run(&bench[i], 0, UINT64_MAX) == TEJBORUN_DONE && built_and_ran(&bench[i], GROUPS_STEPS, 0, 6 * SHEET_PACKETS));
+        CHECK(all_kept_outside(&bench[i]) && holds_meaning(&bench[i], 0) && state(&bench[i].lent[BLOCK])->chain.used[0] == GROUPS_ENTRIES);
+    }
+    CHECK(hold_the_same(&bench[0], &bench[1]));
+    for (int i = 0; i < 2; i++)
+        free_bench(&bench[i]);
+}
+
 /* Built and run for so many steps, less than all. */
 static void try_build_and_stop(uint64_t steps, uint64_t packets, bool end)
 {
@@ -1876,7 +2055,8 @@ static void test_messages(void)
         TEJBORUN_BAD_FORMAT, TEJBORUN_BAD_CYCLE,   TEJBORUN_BAD_MODE,   TEJBORUN_BAD_DIRECT, TEJBORUN_BAD_DESCRIPTOR, TEJBORUN_LOG_FULL,
         TEJBORUN_BAD_MARK,   TEJBORUN_BAD_KIND,    TEJBORUN_BAD_COUNT,  TEJBORUN_BAD_ADDRESS, TEJBORUN_CUT_RECORD,    TEJBORUN_BAD_PAD,
         TEJBORUN_LONG_SHEET, TEJBORUN_LONG_CHAIN,  TEJBORUN_SHORT,      TEJBORUN_ALLOWANCE,  TEJBORUN_INTERRUPT,      TEJBORUN_BAD_TOPS,
-        TEJBORUN_BAD_MPG,    TEJBORUN_BAD_NUMBER,  TEJBORUN_UNIT_WAITS, TEJBORUN_LONG_KEPT,  TEJBORUN_MANY_RANGES,
+        TEJBORUN_BAD_MPG,    TEJBORUN_BAD_NUMBER,  TEJBORUN_UNIT_WAITS, TEJBORUN_LONG_KEPT,  TEJBORUN_MANY_RANGES,    TEJBORUN_LONG_EXPANSION,
+        TEJBORUN_DEEP_GROUP,
     };
     enum { ANSWERS = sizeof answers / sizeof answers[0] };
     const char *none = tejborun_message(UINT32_MAX);
@@ -1925,6 +2105,11 @@ int main(void)
         test_build(end);
         test_long_sheets(end);
         test_steps(end);
+        test_groups(end);
+        test_long_groups(end);
+        test_deep_groups(end);
+        test_groups_fed(end);
+        test_groups_run(end);
         test_salvage(end);
         test_damaged(end);
         test_long_salvage(end);
@@ -1967,6 +2152,7 @@ int main(void)
     puts("paths: 2, 3 and 0 in one log, in both orders of the channels, with room for every number of entries; entries used that wrap");
     puts("set: each register of both units, one word of the block and no other; 60, 50, 5, 51 in their order; seen by the run");
     puts("why: every refusal of a step with its address and numbers, each step before it without complaint; ended; the entry's; 60; nothing lent is changed");
+    puts("groups: chain, steps, meaning and run of what they stand for; eight deep and nine; a chain of 1,048,576 bytes and a longer one; 255 times, eight deep");
     puts("salvage: sheets cut and broken at every byte, records inside others, the longest; just enough room and too little; 60, 46, 55, 56 in their order");
     puts("state block: every word under its name");
     return 0;
