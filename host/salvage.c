@@ -8,6 +8,7 @@
 #include "command.h"
 #include "kinds.h"
 #include "progress.h"
+#include "records.h"
 #include "sheet.h"
 #include "tejborun.h"
 
@@ -21,15 +22,6 @@ static int check_sheet(const char *name, const struct bytes *file)
     if (kind != NULL && strcmp(kind, "sheet") != 0)
         return complain(name, "no sheet: it begins with the mark of a %s", kind);
     return STATUS_DONE;
-}
-
-/* The records of a valid sheet. */
-static size_t count_records(const struct bytes *sheet)
-{
-    size_t records = 0;
-    for (size_t at = 0; at < sheet->count; at += record_bytes(sheet->at + at))
-        records++;
-    return records;
 }
 
 static uint64_t sum_lengths(const struct salvaged *sheet)
@@ -51,7 +43,7 @@ static void keep_records(const struct bytes *file, struct salvaged *sheet)
     sheet->refusal = tejborun_salvage(file->at, file->count, sheet->kept.at, room, sheet->range, 2 * room, numbers, 2);
     sheet->kept.count = (size_t)numbers[0];
     sheet->ranges = (size_t)numbers[1];
-    sheet->records = count_records(&sheet->kept);
+    sheet->records = (size_t)count_records(&sheet->kept).records;
     sheet->dropped = sum_lengths(sheet);
 }
 

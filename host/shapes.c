@@ -117,8 +117,11 @@ static const struct field record_idle[] = {{"addr", 32, 16, 0, NULL}};
 
 #define RECORD(name, kind, fields) {name, 2, UINT32_C(0x00FFFFFF), UINT32_C(0x519E) | (uint32_t)(kind) << 16, LIST(fields)}
 
+static const struct field record_group[] = {{"repeat", 24, 8, FIELD_SHOWN, NULL}, {"members", 32, 16, 0, NULL}};
+
 const struct shape record_heads[] = {
-    RECORD("data", 1, record_addr), RECORD("code", 2, record_addr), RECORD("gs", 3, record_idle), RECORD("start", 4, record_addr), END,
+    RECORD("data", 1, record_addr),  RECORD("code", 2, record_addr),   RECORD("gs", 3, record_idle),
+    RECORD("start", 4, record_addr), RECORD("group", 5, record_group), END,
 };
 
 static const struct field start_call[] = {

@@ -7,6 +7,7 @@
 #include "board.h"
 #include "command.h"
 #include "kinds.h"
+#include "records.h"
 #include "tejborun.h"
 #include "words.h"
 
@@ -20,7 +21,7 @@ int read_sheet(const char *name, struct bytes *sheet)
 
 bool is_sheet_refusal(uint32_t answer)
 {
-    return answer >= TEJBORUN_BAD_MARK && answer <= TEJBORUN_LONG_CHAIN;
+    return (answer >= TEJBORUN_BAD_MARK && answer <= TEJBORUN_LONG_CHAIN) || answer == TEJBORUN_LONG_EXPANSION || answer == TEJBORUN_DEEP_GROUP;
 }
 
 int sheet_refused(const char *name, uint32_t refusal, uint64_t offset)
@@ -40,25 +41,42 @@ static int count_steps(const char *name, const struct bytes *sheet, uint64_t *st
     return answer == TEJBORUN_DONE ? STATUS_DONE : sheet_refused(name, answer, numbers[1]);
 }
 
+size_t chain_of(const struct bytes *sheet, uint8_t **chain)
+{
+    *chain = allocate(TEJBORUN_CHAIN_BYTES, 1);
+    return tejborun_build(sheet->at, sheet->count, *chain, TEJBORUN_CHAIN_BYTES);
+}
+
+/* Says what a sheet of the second edition holds. */
+static void say_counts(const struct bytes *sheet)
+{
+    char text[COUNTS_TEXT];
+    struct record_counts counts = count_records(sheet);
+    counts_words(&counts, text);
+    if (counts.second)
+        say("  %s\n", text);
+}
+
 static int build_chain(const struct words_given *given, const struct bytes *sheet)
 {
     const char *name = given->word[0];
     uint64_t steps;
+    uint8_t *chain;
     int status = count_steps(name, sheet, &steps);
     if (status != STATUS_DONE)
         return status;
-    uint8_t *chain = allocate(TEJBORUN_CHAIN_BYTES, 1);
-    size_t length = tejborun_build(sheet->at, sheet->count, chain, TEJBORUN_CHAIN_BYTES);
+    size_t length = chain_of(sheet, &chain);
     if (length % 16 != 0)
         status = sheet_refused(name, (uint32_t)length, 0);
     else
         status = write_file(given->option[OPTION_OUTPUT], chain, length);
     free(chain);
-    if (status == STATUS_DONE)
-        say("%s: a chain of %zu bytes, %zu %s, %" PRIu64 " %s\n", given->option[OPTION_OUTPUT], length, length / 16,
-            plural(length / 16, "quadword", "quadwords"),
-               steps, plural(steps, "step", "steps"));
-    return status;
+    if (status != STATUS_DONE)
+        return status;
+    say("%s: a chain of %zu bytes, %zu %s, %" PRIu64 " %s\n", given->option[OPTION_OUTPUT], length, length / 16,
+        plural(length / 16, "quadword", "quadwords"), steps, plural(steps, "step", "steps"));
+    say_counts(sheet);
+    return STATUS_DONE;
 }
 
 int command_build(const struct words_given *given)
@@ -72,17 +90,34 @@ int command_build(const struct words_given *given)
     return status;
 }
 
+/* Says the steps; of a sheet of the second edition also what it holds and its chain's length. */
+static int say_steps(const char *name, const struct bytes *sheet)
+{
+    uint64_t steps;
+    uint8_t *chain;
+    int status = count_steps(name, sheet, &steps);
+    if (status != STATUS_DONE)
+        return status;
+    say("%" PRIu64 " %s\n", steps, plural(steps, "step", "steps"));
+    if (!count_records(sheet).second)
+        return STATUS_DONE;
+    say_counts(sheet);
+    size_t length = chain_of(sheet, &chain);
+    free(chain);
+    if (length % 16 != 0)
+        return sheet_refused(name, (uint32_t)length, 0);
+    say("  a chain of %zu bytes, %zu %s\n", length, length / 16, plural(length / 16, "quadword", "quadwords"));
+    return STATUS_DONE;
+}
+
 int command_steps(const struct words_given *given)
 {
     struct bytes sheet;
-    uint64_t steps;
     int status = read_sheet(given->word[0], &sheet);
     if (status != STATUS_DONE)
         return status;
-    status = count_steps(given->word[0], &sheet, &steps);
+    status = say_steps(given->word[0], &sheet);
     free(sheet.at);
-    if (status == STATUS_DONE)
-        say("%" PRIu64 " %s\n", steps, plural(steps, "step", "steps"));
     return status;
 }
 
