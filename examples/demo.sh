@@ -32,6 +32,14 @@ show "$tejborun" play "$out/all-kinds.sheet" -o "$out/played.result"
 show "$tejborun" meaning "$out/all-kinds.sheet" -o "$out/meaning.result"
 show "$tejborun" compare "$out/meaning.result" "$out/played.result"
 
+echo "   A sheet of the second edition: groups, built and played as their records repeated."
+echo
+show "$tejborun" assemble sheet "$here/groups.sheet.txt" -o "$out/groups.sheet"
+show "$tejborun" build "$out/groups.sheet" -o "$out/groups.chain"
+show "$tejborun" play "$out/groups.sheet" -o "$out/groups.result"
+show "$tejborun" meaning "$out/groups.sheet" -o "$out/groups-meaning.result"
+show "$tejborun" compare "$out/groups-meaning.result" "$out/groups.result"
+
 echo "2. A capture in difference mode: 256 vectors, each added to the one before."
 echo
 show "$tejborun" assemble capture "$here/difference.capture.txt" -o "$out/difference.capture"

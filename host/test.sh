@@ -222,7 +222,7 @@ bench_points() {
 
 # Every answer of the scope document has a meaning in words.
 meanings() {
-    for answer in 0 1 2 3 4 5 10 11 12 13 14 20 21 22 23 24 26 30 31 40 41 42 43 44 45 46 47 50 51 55 56 60 90 91; do
+    for answer in 0 1 2 3 4 5 10 11 12 13 14 20 21 22 23 24 25 26 30 31 40 41 42 43 44 45 46 47 49 50 51 52 55 56 60 90 91; do
         echo "result answer=$answer" > meaning.txt
         expect 0 assemble result meaning.txt -o meaning.result
         expect 0 dump meaning.result
@@ -264,7 +264,7 @@ refused_sheet() {
 refused_sheets() {
     as_sheet s '\236\121\4\0\5' && refused_sheet 44 0 s
     as_sheet s '\236\121\4\0\5\0\236\122\4\0\5\0' && refused_sheet 40 6 s
-    as_sheet s '\236\121\0\0\5\0' && refused_sheet 41 0 s
+    as_sheet s '\236\121\6\0\5\0' && refused_sheet 41 0 s
     as_sheet s '\236\121\4\0\5\0\236\121\5\0\5\0' && refused_sheet 41 6 s
     as_sheet s '\236\121\4\1\5\0' && refused_sheet 42 0 s
     as_sheet s '\236\121\1\0\5\0' && refused_sheet 42 0 s
@@ -283,11 +283,17 @@ refused_sheets() {
     echo "refused sheets: 40 to 46 by every command, shown as text and put together again, no output left"
 }
 
+# expanded_gs TEXT: the GS records of a sheet's expansion, a packet each.
+expanded_gs() {
+    awk 'BEGIN { times[0] = 1 } $1 == "group" { depth++; times[depth] = times[depth - 1] * substr($2, 8) } $1 == "end" { depth-- }
+        $1 == "gs" { count += times[depth] } END { print count + 0 }' "$1"
+}
+
 # one_sheet FILE RESULTS: the chain, the steps and the refusal are the second program's; the chain leaves what the sheet means.
 one_sheet() {
     set -- "$1" "$2" $(words "$2" 0 2)
     case $3 in
-    4[0-6])
+    4[0-69] | 52)
         refused_sheet "$3" "$4" "$1"
         return
         ;;
@@ -298,7 +304,7 @@ one_sheet() {
         same chain wanted "the chain of $1"
     fi
     round sheet "$1"
-    records=$(grep -c '^gs' round.txt)
+    records=$(expanded_gs round.txt)
     round chain chain
     expect 0 play "$1" -o played
     says out "; $(packets_words "$records")"
@@ -556,7 +562,7 @@ generated_captures() {
 }
 
 examples() {
-    for name in all-kinds.sheet difference.capture vif0.capture paths.capture; do
+    for name in all-kinds.sheet groups.sheet difference.capture vif0.capture paths.capture; do
         kind=${name#*.}
         expect 0 assemble "$kind" "$here/../examples/$name.txt" -o "$name"
         expect 0 dump "$name"
@@ -567,6 +573,8 @@ examples() {
     says out '256 quadwords changed, first 0, last 255'
     expect 0 play all-kinds.sheet
     says out 'answer 0, done; 66 steps; 1 packet closed'
+    expect 0 play groups.sheet
+    says out 'answer 0, done; 12815 steps; 800 packets closed'
     expect 3 run difference.capture -o some.result --allowance 100
     says out 'answer 90, the step allowance is used; 100 steps'
     expect 3 run difference.capture -o none.result --allowance 0x0
@@ -2942,6 +2950,175 @@ why_options() {
     test "$?$(cat out)" = '3no complaint' || fail "Ctrl-C: $(cat out err)"
 }
 
+# sheet_of FILE TEXT: a sheet of a text in printf's form.
+sheet_of() {
+    printf '%b' "$2" > of.txt
+    expect 0 assemble sheet of.txt -o "$1"
+}
+
+# stands_for TEXT TEXT: two sheets with one chain and one meaning, which the chain leaves.
+stands_for() {
+    sheet_of one.sheet "$1"
+    sheet_of other.sheet "$2"
+    round sheet one.sheet
+    for file in one other; do
+        expect 0 build $file.sheet -o $file.chain
+        expect 0 meaning $file.sheet -o $file.meant
+        expect 0 play $file.sheet -o $file.played
+        expect 0 compare $file.meant $file.played
+        says out 'equal'
+    done
+    same one.chain other.chain 'a chain and that of the expansion'
+    same one.meant other.meant 'a meaning and that of the expansion'
+    same one.played other.played 'a run and that of the expansion'
+}
+
+# nested DEPTH REPEAT INSIDE: the text of groups in groups.
+nested() {
+    if test "$1" = 0; then
+        printf '%s' "$3"
+    else
+        printf 'group repeat=%s\\n%s\\nend' "$2" "$(nested $(($1 - 1)) "$2" "$3")"
+    fi
+}
+
+# there_and_back FILE: what dump prints of a sheet, valid or refused, is the sheet again.
+there_and_back() {
+    "$command" dump sheet "$1" > there.txt 2> err
+    got=$?
+    test $got = 0 || test $got = 1 || fail "exit status $got: dump sheet $1"
+    expect 0 assemble sheet there.txt -o back.sheet
+    same "$1" back.sheet 'a damaged sheet to text and back'
+}
+
+# Groups: the second edition of the sheet.
+groups() {
+    stands_for 'edition 2\n' ''
+    stands_for 'edition 2\nstart addr=1\n' 'start addr=1\n'
+    stands_for 'edition 2\ngroup repeat=1\nstart addr=1\nend\n' 'start addr=1\n'
+    stands_for 'edition 2\nstart addr=1\ngroup repeat=2\ndata addr=5\nvector 1 2 3 4\ngroup repeat=2\nstart addr=3\ngs\nwrite PRIM 6\nend\nend\nstart addr=4\n' \
+        'start addr=1
+data addr=5\nvector 1 2 3 4\nstart addr=3\ngs\nwrite PRIM 6\nstart addr=3\ngs\nwrite PRIM 6
+data addr=5\nvector 1 2 3 4\nstart addr=3\ngs\nwrite PRIM 6\nstart addr=3\ngs\nwrite PRIM 6\nstart addr=4\n'
+    stands_for "edition 2\\n$(nested 8 1 'start addr=7')\\n" 'start addr=7\n'
+    stands_for "edition 2\\n$(nested 8 2 'start addr=7')\\n" "$(seq 256 | sed 's/.*/start addr=7\\n/')"
+    group_sizes
+    group_refusals
+    group_damage
+    group_texts
+    echo "groups: their chains and meanings those of the expansion, eight deep; sizes said; refused with 40 to 45, 49 and 52; damaged at every byte, to text and back; $damaged sheets"
+}
+
+# What steps, build and dump say of a sheet of the second edition, and do not say of one of the first.
+group_sizes() {
+    expect 0 assemble sheet "$here/../examples/groups.sheet.txt" -o groups.sheet
+    sizes='6 records and 2 groups in the sheet, 1602 records in its expansion'
+    expect 0 steps groups.sheet
+    printf '%s\n' '12815 steps' "  $sizes" '  a chain of 89696 bytes, 5606 quadwords' > wanted
+    same out wanted 'the steps of groups'
+    expect 0 build groups.sheet -o groups.chain
+    printf '%s\n' 'groups.chain: a chain of 89696 bytes, 5606 quadwords, 12815 steps' "  $sizes" > wanted
+    same out wanted 'what build says of groups'
+    test "$(wc -c < groups.chain)" = 89696 || fail 'the chain has another length'
+    expect 0 dump groups.sheet
+    head -n 3 out > got
+    printf '%s\n' "# sheet, $(($(wc -c < groups.sheet))) bytes, 12815 steps" "# $sizes" '# a chain of 89696 bytes, 5606 quadwords' > wanted
+    same got wanted 'what dump says of groups'
+    sed 's/ *#.*//;/^$/d;s/\(^ *[a-z]*\).*/\1/' out > got
+    sed 's/ *#.*//;/^$/d;s/\(^ *[a-z]*\).*/\1/' "$here/../examples/groups.sheet.txt" > wanted
+    same got wanted 'the lines of groups, indented'
+    sheet_of plain.sheet 'start addr=1\n'
+    expect 0 steps plain.sheet
+    test "$(cat out)" = '6 steps' || fail 'steps of a sheet of the first edition'
+    sheet_of longest.sheet "edition 2\\ngroup repeat=255\\ndata addr=7\\n$(seq 255 | sed 's/.*/vector & 0 0 0\\n/')end\\n"
+    expect 0 build longest.sheet -o longest.chain
+    says out 'a chain of 1048576 bytes, 65536 quadwords, 261376 steps'
+    says out '1 record and 1 group in the sheet, 255 records in its expansion'
+    round sheet longest.sheet
+    expect 0 play longest.sheet
+    says out 'answer 0, done; 261376 steps'
+}
+
+# Every refusal that groups have, by every command.
+group_refusals() {
+    edition='\236\121\0\2\0\0' start='\236\121\4\0\5\0' once='\236\121\5\1\1\0'
+    as_sheet s '\236\121\0\3\0\0' && refused_sheet 42 0 s
+    as_sheet s '\236\121\0\2\1\0' && refused_sheet 43 0 s
+    as_sheet s "$edition$edition" && refused_sheet 41 6 s
+    as_sheet s "$edition$once$edition" && refused_sheet 41 12 s
+    as_sheet s "$once$start" && refused_sheet 41 0 s
+    as_sheet s "$edition$start\236\121\5\0\0\0" && refused_sheet 42 12 s
+    as_sheet s "$edition$start\236\121\5\1\0\0" && refused_sheet 43 12 s
+    as_sheet s "$edition\236\121\5\377\2\0$start" && refused_sheet 44 18 s
+    as_sheet s "$edition\236\121\5\377\2\0$start\236\121" && refused_sheet 44 18 s
+    as_sheet s "$edition$once\236\121\5\377\2\0${start}xx" && refused_sheet 44 24 s
+    as_sheet s "$edition$once\236\121\5\377\2\0${start}xxxxxx" && refused_sheet 40 24 s
+    sheet_of s "edition 2\\n$(nested 9 1 'start addr=7')\\n" && refused_sheet 52 54 s
+    sheet_of s "edition 2\\nstart addr=1\\n$(nested 8 255 'start addr=7')\\n" && refused_sheet 49 0 s
+    expect 1 dump s
+    says out 'refused 49 at offset 0: the chain of the sheet, its groups expanded, is longer than 1,048,576 bytes'
+    test "$(grep -c '^ *group repeat=255  # offset' out)" = 8 || fail 'the groups of a sheet refused with 49'
+    sheet_of s "edition 2\\ngroup repeat=255\\ndata addr=7\\n$(seq 255 | sed 's/.*/vector & 0 0 0\\n/')end\\nstart addr=0\\n" && refused_sheet 49 0 s
+}
+
+# A sheet with groups cut at every byte and broken at every byte, to text and back; and salvaged: the records inside are kept once.
+group_damage() {
+    sheet_of whole.sheet "edition 2\\nstart addr=1\\ngroup repeat=2\\ncode addr=5\\ninstruction 9\\n$(nested 2 3 'gs\nwrite 1 2\nstart addr=3')\\nend\\n"
+    length=$(($(wc -c < whole.sheet))) damaged=0
+    for at in $(seq 0 $((length - 1))); do
+        slice whole.sheet 0 "$at" > damaged.sheet
+        there_and_back damaged.sheet
+        for byte in '\0' '\5' '\377'; do
+            { slice whole.sheet 0 "$at"; printf '%b' "$byte"; tail -c +$((at + 2)) whole.sheet; } > damaged.sheet
+            there_and_back damaged.sheet
+        done
+        damaged=$((damaged + 4))
+    done
+    slice whole.sheet 0 $((length - 6)) > damaged.sheet
+    expect 1 dump damaged.sheet
+    says out 'group repeat=2 members=2  # offset 12, 2 records inside, not all here'
+    expect 0 dump whole.sheet
+    says out 'group repeat=2  # offset 12, 2 records inside'
+    if grep -F 'members=' out >&2; then fail 'members of a whole group'; fi
+    salvaged whole.sheet
+    sheet_of inside.sheet 'start addr=1\ncode addr=5\ninstruction 9\ngs\nwrite 1 2\nstart addr=3\n'
+    same kept.sheet inside.sheet 'the records inside groups, kept once'
+    test "$(cat ranges)" = "$(printf '0 6\n12 6\n32 12')" || fail "ranges of a sheet with groups: $(cat ranges)"
+}
+
+# Texts that are wrong, and what each is told.
+group_texts() {
+    bad_text sheet 1 "a group belongs to the second edition: write 'edition 2' as the first line" 'group repeat=2\nstart addr=1\nend\n'
+    bad_text sheet 1 "'edition 1': write edition 2; a sheet of the first edition has no such line" 'edition 1\nstart addr=1\n'
+    bad_text sheet 1 "'edition 3': write edition 2" 'edition 3\n'
+    bad_text sheet 1 "after 'edition' come its number, 2; here are 0" 'edition\n'
+    bad_text sheet 2 "'edition' is the first line of a sheet" 'start addr=1\nedition 2\n'
+    bad_text sheet 2 "'edition' is the first line of a sheet" 'edition 2\nedition 2\n'
+    bad_text sheet 2 'how often? give it as group repeat=200' 'edition 2\ngroup\nend\n'
+    bad_text sheet 2 'repeat=256: the field has 8 bits' 'edition 2\ngroup repeat=256\nend\n'
+    bad_text sheet 2 'members=65536: the field has 16 bits' 'edition 2\ngroup repeat=1 members=65536\nend\n'
+    bad_text sheet 2 "'group' has no field 'addr'; it has repeat, members" 'edition 2\ngroup addr=2\nend\n'
+    bad_text sheet 3 "the group that begins here has no 'end'" 'edition 2\ngroup repeat=2\ngroup repeat=2\nstart addr=1\n'
+    bad_text sheet 5 "'end' without a group" 'edition 2\ngroup repeat=2\nstart addr=1\nend\nend\n'
+    bad_text sheet 3 "after 'end' come no items; here are 1" 'edition 2\ngroup repeat=2\nend 2\n'
+    bad_text sheet 3 "'vector' belongs to a record 'data'" 'edition 2\ngroup repeat=2\nvector 1 2 3 4\n'
+    bad_text sheet 6 "'vector' belongs to a record 'data'" 'edition 2\ngroup repeat=2\ndata addr=1\nvector 1 2 3 4\nend\nvector 1 2 3 4\n'
+    { printf 'edition 2\ngroup repeat=1\n'; yes 'start addr=1' | head -n 65535; } > many.txt
+    { cat many.txt; echo end; } > most.txt
+    expect 0 assemble sheet most.txt -o most.sheet
+    test "$(slice most.sheet 10 2 | od -An -tu2)" -eq 65535 || fail 'the members of the largest group'
+    { cat many.txt; printf 'start addr=1\nend\n'; } > more.txt
+    expect 2 assemble sheet more.txt -o bad.out
+    says err 'more.txt:65538: a group has at most 65535 records: end it, and begin another'
+    absent bad.out
+    { echo 'edition 2'; yes 'group repeat=1' | head -n 100000; yes end | head -n 100000; } > deep.txt
+    expect 0 assemble sheet deep.txt -o deep.sheet
+    expect 1 steps deep.sheet
+    says err 'refused 46'
+    sheet_of given.sheet 'edition 2\ngroup repeat=2 members=7\nstart addr=1\nbyte 1 2\nend\n'
+    refused_sheet 44 18 given.sheet
+}
+
 # What is given twice; and every one of 65,536 differences shown in a moment.
 repeated() {
     bad_text result 3 'quadword 10 is given twice' 'result\nquadword 10 1 2 3 4\nquadword 10 1 2 3 4\n'
@@ -2961,7 +3138,7 @@ repeated() {
 }
 
 for name in ${TESTS:-layout state_words usage bench_points meanings refused_sheets examples comparisons damaged_files other_layouts bad_texts entries_used \
-    unfinished beginnings one_file outputs dashes repeated rack messages long_runs conventions report dumps vif0 packets paths registers whys salvages generated_sheets generated_captures}; do
+    unfinished beginnings one_file outputs dashes repeated rack messages long_runs conventions report dumps vif0 packets paths registers whys groups salvages generated_sheets generated_captures}; do
     "$name"
 done
 echo "host/test.sh: all as it has to be"
