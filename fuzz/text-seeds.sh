@@ -21,6 +21,8 @@ printf 'capture vif0.data-words=8 vif0.code-bytes=16 fill=5\nstate channel=0 vif
 printf 'result parts=data+log answer=0 log-numbers=64\nentry 0 MSCAL 5\nquadword 9 -1 0x7 3 4\n' | seed 1 parts
 printf 'result parts=log+data0+code0\nvif0.quadword 255 1 2 3 4\nvif0.instruction 511 5\n' | seed 1 parts-vif0
 seed 2 sheet < "$examples/all-kinds.sheet.txt"
+seed 2 sheet-groups < "$examples/groups.sheet.txt"
+printf 'edition 2\ngroup repeat=255 members=3\ngs\nwrite 5 6\ngroup repeat=0\nbyte 1 2\nend\nend\nstart addr=2047\n' | seed 2 sheet-members
 "$command" dump chain "$out/../h" | seed 3 chain
 printf 'state channel=1 waiting=UNPACK due=2 count=1 format=V4-32 path2.place=data path2.format=IMAGE\n' | seed 4 state
 head -c 2000 "$out/../c" | seed 5 capture-file

@@ -20,14 +20,20 @@
 #define PART_FILES (TAKES(OPTION_DATA) | TAKES(OPTION_CODE) | TAKES(OPTION_DATA0) | TAKES(OPTION_CODE0) | TAKES(OPTION_LOG))
 
 static const struct command commands[] = {
-    {"build", 1, 1, 0, TAKES(OPTION_OUTPUT), true, command_build, "build SHEET -o CHAIN", "Builds the chain of a test sheet.\n"},
-    {"steps", 1, 1, 0, 0, false, command_steps, "steps SHEET", "Says how many steps the chain of a test sheet takes.\n"},
+    {"build", 1, 1, 0, TAKES(OPTION_OUTPUT), true, command_build, "build SHEET -o CHAIN",
+     "Builds the chain of a test sheet, of the first or the second edition, and says its bytes, quadwords and steps. The chain of\n"
+     "groups is that of their records, repeated in order (docs/TEXT.md); how many records are in the sheet and in its expansion is\n"
+     "said too. A chain above 1,048,576 bytes is refused with 49, a group in eight others with 52.\n"},
+    {"steps", 1, 1, 0, 0, false, command_steps, "steps SHEET",
+     "Says how many steps the chain of a test sheet takes; of a sheet of the second edition also how many records it has, in the\n"
+     "sheet and in its expansion, and how long the chain is.\n"},
     {"salvage", 1, SIZE_MAX, 0, TAKES(OPTION_OUTPUT) | TAKES(OPTION_RANGES) | TAKES(OPTION_QUIET) | TAKES(OPTION_JSON), true, command_salvage,
      "salvage SHEET.. -o SHEET or FOLDER [--ranges FILE] [--quiet] [--json]",
      "Keeps what can be kept of damaged sheets. A sheet is read from offset 0: a whole valid record is kept and passed over,\n"
      "otherwise one byte is dropped. The records kept are written one after another, and the ranges dropped are shown, where they\n"
      "begin and how long they are. Several sheets are written to a folder, under their names; they have a row each and a summary.\n"
-     "Damage that leaves a record valid, as another number in its body, is not to be seen.\n"
+     "Damage that leaves a record valid, as another number in its body, is not to be seen. Salvage keeps to the first edition: of\n"
+     "a sheet of the second the edition and the headers of groups are dropped as damage, the records inside are kept once.\n"
      "  --ranges FILE  writes the ranges as text, a line each: offset and length in decimal; of one sheet\n"
      "  --quiet        prints nothing: the exit status has it\n"
      "  --json         prints JSON\n"
