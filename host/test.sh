@@ -285,7 +285,7 @@ refused_sheets() {
 
 # expanded_gs TEXT: the GS records of a sheet's expansion, a packet each.
 expanded_gs() {
-    awk 'BEGIN { times[0] = 1 } $1 == "group" { depth++; times[depth] = times[depth - 1] * substr($2, 8) } $1 == "end" { depth-- }
+    awk 'BEGIN { depth = 0; times[0] = 1 } $1 == "group" { depth++; times[depth] = times[depth - 1] * substr($2, 8) } $1 == "end" { depth-- }
         $1 == "gs" { count += times[depth] } END { print count + 0 }' "$1"
 }
 
