@@ -349,7 +349,7 @@ generated_sheets() {
     "$second" generate-sheet 1 200 > sheets || fail 'generate-sheet'
     size=$(wc -c < sheets)
     step=$(((every + 4) / 5))
-    at=0 number=0 tried=0 in_sheets=0
+    at=0 number=0 tried=0 in_sheets=0 second_editions=0
     while test $at -lt "$size"; do
         length=$(words sheets $((at + 4)) 1)
         whole=$((sheet_at + (length + 3) / 4 * 4))
@@ -358,13 +358,15 @@ generated_sheets() {
             slice case "$sheet_at" $((length)) > "sheet"
             "$second" sheet < case > results || fail "second sheet, case $number"
             one_sheet sheet results
+            case $(head -c 6 sheet | od -An -tx1) in ' 9e 51 00 02 00 00') second_editions=$((second_editions + 1)) ;; esac
             if test $((length)) -le 131072; then salvaged sheet; fi
             tried=$((tried + 1))
         fi
         at=$((at + whole)) number=$((number + 1))
     done
     test $in_sheets -gt 0 || fail 'no GS record in the sheets'
-    echo "generated sheets: $tried of $number built as the second program builds them, to text and back, played as they are meant, salvaged; $in_sheets packets, one for each GS record"
+    test $second_editions -gt 0 || fail 'no sheet of the second edition'
+    echo "generated sheets: $tried of $number, $second_editions of the second edition, built as the second program builds them, to text and back, played as they are meant, salvaged; $in_sheets packets, one for each GS record of an expansion"
 }
 
 # replayed: reads the results of the case for its calls; sets where the last state block, the last run, each unit's memories and the log are, the exit status
