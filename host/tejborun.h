@@ -46,9 +46,9 @@ extern "C" {
 #define TEJBORUN_LOG_ENTRIES 65536u
 #define TEJBORUN_LOG_NUMBERS (TEJBORUN_LOG_ENTRIES * TEJBORUN_ENTRY_NUMBERS)
 
-#define TEJBORUN_MAIN_BYTES 1048576u /* most bytes of main memory */
-#define TEJBORUN_SHEET_BYTES 131072u /* most bytes of a sheet */
-#define TEJBORUN_CHAIN_BYTES 1048576u /* most bytes of a sheet's chain, groups expanded and the end tag included; 49 beyond */
+#define TEJBORUN_MAIN_BYTES 1048576u  /* most bytes of main memory */
+#define TEJBORUN_SHEET_BYTES 131072u  /* most bytes of a sheet */
+#define TEJBORUN_CHAIN_BYTES 1048576u /* most bytes of a sheet's chain, groups expanded and the end tag included */
 
 /* The answers: the scope document's numbers, and TEJBORUN_SHORT. */
 enum tejborun_answer {
@@ -83,7 +83,7 @@ enum tejborun_answer {
 
     /* sheet */
     TEJBORUN_BAD_MARK = 40,
-    TEJBORUN_BAD_KIND = 41,       /* none of 1 to 4; in a sheet of the second edition none of 1 to 5 after the first record */
+    TEJBORUN_BAD_KIND = 41,       /* none of 1 to 4, nor 0 as the first record, nor 5 (a group) in a sheet of the second edition */
     TEJBORUN_BAD_COUNT = 42,      /* of a group: 0 repetitions; of kind 0: not 2 */
     TEJBORUN_BAD_ADDRESS = 43,    /* of a group: no record inside; of kind 0: not 0 */
     TEJBORUN_CUT_RECORD = 44,     /* header or body cut, or records of a group missing: the offset is then the sheet's length */
