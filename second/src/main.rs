@@ -19,6 +19,7 @@ mod capture_packet_cases;
 mod capture_packet_counts;
 mod capture_path_counts;
 mod capture_points;
+mod case_results;
 mod chain;
 mod chain_time;
 mod compare;
@@ -82,6 +83,7 @@ mod why_counts;
 mod why_points;
 mod words;
 
+use case_results::Results;
 use std::io::{Read, Write};
 use std::process::ExitCode;
 
@@ -336,30 +338,25 @@ fn capture_results(with_counts: bool) -> Result<(), String> {
     }
 }
 
+/// Writes the results, the counts where they are asked for, and what is wrong with our own.
+fn tell_results(results: &Results, rows: Option<Vec<(String, u64)>>) -> Result<(), String> {
+    write(&results.bytes)?;
+    if let Some(rows) = rows {
+        eprint!("{}", compare::table(&rows));
+    }
+    results.sound(0)
+}
+
 fn sheet_results(with_counts: bool) -> Result<(), String> {
     let mut counts = sheet_counts::Counts::default();
     let results = sheet_cases::results(&read()?, &mut counts);
-    write(&results.bytes)?;
-    if with_counts {
-        eprint!("{}", compare::table(&counts.rows()));
-    }
-    match results.broken {
-        Some((case, told)) => Err(format!("case {case}: {told}")),
-        None => Ok(()),
-    }
+    tell_results(&results, with_counts.then(|| counts.rows()))
 }
 
 fn salvage_results(with_counts: bool) -> Result<(), String> {
     let mut counts = salvage_counts::Counts::default();
     let results = salvage_cases::results(&read()?, &mut counts);
-    write(&results.bytes)?;
-    if with_counts {
-        eprint!("{}", compare::table(&counts.rows()));
-    }
-    match results.broken {
-        Some((case, told)) => Err(format!("case {case}: {told}")),
-        None => Ok(()),
-    }
+    tell_results(&results, with_counts.then(|| counts.rows()))
 }
 
 /// The results of salvage cases, with nothing checked or counted.

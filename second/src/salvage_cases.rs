@@ -1,5 +1,6 @@
 //! Salvage case files and their results.
 
+use crate::case_results::Results;
 use crate::compare;
 use crate::gif_cases::fill_number;
 use crate::salvage::{salvage, Written};
@@ -82,17 +83,6 @@ impl Outcome {
         put_bytes(out, &self.output);
         self.list.iter().for_each(|&x| put_number(out, x));
     }
-}
-
-#[derive(Default)]
-pub struct Results {
-    pub bytes: Vec<u8>,
-    /// Where the result of each case starts.
-    pub starts: Vec<usize>,
-    /// Where the line about a damaged case starts.
-    pub damage: Option<usize>,
-    /// The first case whose result breaks a sentence of the request, and which.
-    pub broken: Option<(usize, String)>,
 }
 
 /// The first case of the bytes and its length; none where it is damaged.

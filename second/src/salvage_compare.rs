@@ -1,10 +1,8 @@
 //! Another program's salvage results against our own.
 
-use crate::compare::{describe_ends, first_difference, report, Program};
+use crate::compare::{report, Program};
 use crate::random::Random;
-use crate::salvage_cases::{
-    self, case_starts, describe_case, describe_place, first_case, Results, HEADER,
-};
+use crate::salvage_cases::{self, case_starts, describe_case, describe_place, first_case, HEADER};
 use crate::salvage_counts::Counts;
 use crate::salvage_generate::{cases, Made, KINDS, LARGE_KINDS};
 use crate::salvage_points;
@@ -64,50 +62,14 @@ fn compare_file(
     counts: &mut Counts,
 ) -> Result<(), String> {
     let own = salvage_cases::results(file, counts);
-    if let Some((case, told)) = &own.broken {
-        return Err(format!("case {}: our own result: {told}", first + case));
-    }
-    let theirs = program.run(file)?;
-    if theirs == own.bytes {
-        return Ok(());
-    }
-    match first_difference(&own.bytes, &theirs) {
-        None => Ok(()),
-        Some(at) => Err(explain(file, &own, &theirs, at, first)),
-    }
+    own.compare(program, file, first, |index, at| tell(file, index, at))
 }
 
-fn explain(file: &[u8], own: &Results, theirs: &[u8], at: usize, first: usize) -> String {
-    let lengths = format!("{} bytes, ours {}", theirs.len(), own.bytes.len());
-    if own.damage.is_some_and(|line| at >= line) || at >= own.bytes.len() {
-        let line = own.damage.unwrap_or(own.bytes.len());
-        let ends = describe_ends(theirs, &own.bytes, line);
-        return format!(
-            "differs after the results of {} cases: {lengths}\n  {ends}",
-            own.starts.len()
-        );
-    }
-    let index = own.starts.partition_point(|&start| start <= at) - 1;
-    let start = own.starts[index];
+/// A word of a case's result, and the case.
+fn tell(file: &[u8], index: usize, at_word: usize) -> (String, String) {
     let from = case_starts(file)[index];
     let (case, _) = first_case(&file[from..]).expect("a case with results is whole");
-    let at_word = (at - start) / WORD;
-    format!(
-        "case {}: {}: {}, ours {} ({lengths})\n  the case:\n{}",
-        first + index,
-        describe_place(&case, at_word),
-        word_at(&theirs[start.min(theirs.len())..], at_word),
-        word_at(&own.bytes[start..], at_word),
-        describe_case(&case)
-    )
-}
-
-/// A word of a result, or what is left there.
-fn word_at(bytes: &[u8], at: usize) -> String {
-    match bytes.get(WORD * at..WORD * at + WORD) {
-        Some(bytes) => format!("{:08X}", word(bytes, 0)),
-        None => format!("cut after {} bytes of the result", bytes.len()),
-    }
+    (describe_place(&case, at_word), describe_case(&case))
 }
 
 /// Damaged files made from short cases, each with a name.
@@ -196,6 +158,7 @@ fn filling_not_zero(cases: &[&Made]) -> Vec<u8> {
 #[cfg(test)]
 mod tests {
     use super::*;
+    use crate::case_results::Results;
     use crate::compare::zeros;
     use crate::salvage_cases::results;
 
@@ -246,16 +209,20 @@ mod tests {
         let start = given.starts[3];
         let mut theirs = given.bytes.clone();
         theirs[start + WORD] ^= 1;
-        let told = explain(&file, &given, &theirs, start + WORD, 250);
+        let told = given.explain(&theirs, start + WORD, 250, |index, at| {
+            tell(&file, index, at)
+        });
         assert!(told.starts_with("case 253: the bytes written: "), "{told}");
-        let told = explain(&file, &given, &given.bytes[..start], start, 0);
+        let told = given.explain(&given.bytes[..start], start, 0, |index, at| {
+            tell(&file, index, at)
+        });
         assert!(
             told.starts_with("case 3: the answer: cut after 0 bytes"),
             "{told}"
         );
         let end = given.bytes.len();
         theirs.push(0);
-        let told = explain(&file, &given, &theirs, end, 0);
+        let told = given.explain(&theirs, end, 0, |index, at| tell(&file, index, at));
         assert!(told.starts_with("differs after the results of 5 cases"));
     }
 }

@@ -1,5 +1,6 @@
 //! Sheet case files and their results.
 
+use crate::case_results::Results;
 use crate::chain::{self, State};
 use crate::compare;
 use crate::filled::{self, UnitMemories};
@@ -259,17 +260,6 @@ fn start(case: &Case, ran: &mut Ran) -> Result<State, Refusal> {
     let room = ran.main.get_mut(case.address as usize..);
     sheet::build(&case.sheet, room.unwrap_or_default())?;
     Ok(state)
-}
-
-#[derive(Default)]
-pub struct Results {
-    pub bytes: Vec<u8>,
-    /// Where the result of each case starts.
-    pub starts: Vec<usize>,
-    /// Where the line about a damaged case starts.
-    pub damage: Option<usize>,
-    /// The first case whose run is not what its sheet means, and what is wrong.
-    pub broken: Option<(usize, String)>,
 }
 
 /// The first case of the bytes and its length; none where it is damaged.

@@ -1,12 +1,10 @@
 //! Another program's sheet results against our own.
 
-use crate::compare::{describe_ends, first_difference, report, Program};
+use crate::compare::{report, Program};
 use crate::group_points;
 use crate::memory::cases::{MOST_CODE, MOST_DATA, MOST_LOG, MOST_MAIN};
 use crate::random::Random;
-use crate::sheet_cases::{
-    self, case_starts, describe_case, describe_place, first_case, Results, HEADER,
-};
+use crate::sheet_cases::{self, case_starts, describe_case, describe_place, first_case, HEADER};
 use crate::sheet_counts::Counts;
 use crate::sheet_generate::generate;
 use crate::sheet_points::{self, Expected};
@@ -66,50 +64,14 @@ fn compare_file(
     counts: &mut Counts,
 ) -> Result<(), String> {
     let own = sheet_cases::results(file, counts);
-    if let Some((case, told)) = &own.broken {
-        return Err(format!("case {}: our own run: {told}", first + case));
-    }
-    let theirs = program.run(file)?;
-    if theirs == own.bytes {
-        return Ok(());
-    }
-    match first_difference(&own.bytes, &theirs) {
-        None => Ok(()),
-        Some(at) => Err(explain(file, &own, &theirs, at, first)),
-    }
+    own.compare(program, file, first, |index, at| tell(file, index, at))
 }
 
-fn explain(file: &[u8], own: &Results, theirs: &[u8], at: usize, first: usize) -> String {
-    let lengths = format!("{} bytes, ours {}", theirs.len(), own.bytes.len());
-    if own.damage.is_some_and(|line| at >= line) || at >= own.bytes.len() {
-        let line = own.damage.unwrap_or(own.bytes.len());
-        let ends = describe_ends(theirs, &own.bytes, line);
-        return format!(
-            "differs after the results of {} cases: {lengths}\n  {ends}",
-            own.starts.len()
-        );
-    }
-    let index = own.starts.partition_point(|&start| start <= at) - 1;
-    let start = own.starts[index];
+/// A word of a case's result, and the case.
+fn tell(file: &[u8], index: usize, at_word: usize) -> (String, String) {
     let from = case_starts(file)[index];
     let (case, _) = first_case(&file[from..]).expect("a case with results is whole");
-    let at_word = (at - start) / WORD;
-    format!(
-        "case {}: {}: {}, ours {} ({lengths})\n  the case:\n{}",
-        first + index,
-        describe_place(&case, at_word),
-        word_at(&theirs[start.min(theirs.len())..], at_word),
-        word_at(&own.bytes[start..], at_word),
-        describe_case(&case)
-    )
-}
-
-/// A word of a result, or what is left there.
-fn word_at(bytes: &[u8], at: usize) -> String {
-    match bytes.get(WORD * at..WORD * at + WORD) {
-        Some(bytes) => format!("{:08X}", word(bytes, 0)),
-        None => format!("cut after {} bytes of the result", bytes.len()),
-    }
+    (describe_place(&case, at_word), describe_case(&case))
 }
 
 /// The first two cases and up to four in a row from anywhere.
@@ -207,6 +169,7 @@ fn filling_not_zero(file: &[u8]) -> Vec<u8> {
 #[cfg(test)]
 mod tests {
     use super::*;
+    use crate::case_results::Results;
     use crate::compare::zeros;
     use crate::sheet_cases::results;
     use crate::words::number;
@@ -263,10 +226,12 @@ mod tests {
         let at = run + WORD * (6 + 1);
         let mut theirs = given.bytes.clone();
         theirs[at] ^= 1;
-        let told = explain(&file, &given, &theirs, at, 250);
+        let told = given.explain(&theirs, at, 250, |index, at| tell(&file, index, at));
         let head = "case 253: part 4 (build and run), word 7 of the part, state block word 1: ";
         assert!(told.starts_with(head), "{told}");
-        let told = explain(&file, &given, &theirs, run + WORD * 4, 250);
+        let told = given.explain(&theirs, run + WORD * 4, 250, |index, at| {
+            tell(&file, index, at)
+        });
         let head = "case 253: part 4 (build and run), word 4 of the part, packets closed word 0: ";
         assert!(told.starts_with(head), "{told}");
         let (steps, packets) = (
@@ -274,7 +239,9 @@ mod tests {
             number(&given.bytes[run..], 4),
         );
         assert!(told.contains(&format!("after {steps} steps, {packets} packets closed")));
-        let told = explain(&file, &given, &given.bytes[..start], start, 0);
+        let told = given.explain(&given.bytes[..start], start, 0, |index, at| {
+            tell(&file, index, at)
+        });
         assert!(
             told.starts_with("case 3: part 1 (the builder), word 0"),
             "{told}"
@@ -282,7 +249,7 @@ mod tests {
         assert!(told.contains("cut after 0 bytes of the result"));
         let end = given.bytes.len();
         theirs.push(0);
-        let told = explain(&file, &given, &theirs, end, 0);
+        let told = given.explain(&theirs, end, 0, |index, at| tell(&file, index, at));
         assert!(told.starts_with("differs after the results of 5 cases"));
     }
 }

@@ -1,0 +1,79 @@
+//! The results of cases that are each told whole, beside another program's.
+
+use crate::compare::{describe_ends, first_difference, Program};
+use crate::words::{word, WORD};
+
+#[derive(Default)]
+pub struct Results {
+    pub bytes: Vec<u8>,
+    /// Where the result of each case starts.
+    pub starts: Vec<usize>,
+    /// Where the line about a damaged case starts.
+    pub damage: Option<usize>,
+    /// The first case whose result is not what the papers say of it, and what is wrong.
+    pub broken: Option<(usize, String)>,
+}
+
+impl Results {
+    /// What is wrong with our own result, if anything; cases are counted from `first`.
+    pub fn sound(&self, first: usize) -> Result<(), String> {
+        match &self.broken {
+            Some((case, told)) => Err(format!("case {}: our own result: {told}", first + case)),
+            None => Ok(()),
+        }
+    }
+
+    /// Compares with a program on the same file; `tell` gives the words for a place in the result of
+    /// a case, by both numbers, and for the case.
+    pub fn compare(
+        &self,
+        program: &Program,
+        file: &[u8],
+        first: usize,
+        tell: impl Fn(usize, usize) -> (String, String),
+    ) -> Result<(), String> {
+        self.sound(first)?;
+        let theirs = program.run(file)?;
+        match first_difference(&self.bytes, &theirs) {
+            None => Ok(()),
+            Some(at) => Err(self.explain(&theirs, at, first, tell)),
+        }
+    }
+
+    /// The first difference, at a byte, in words.
+    pub fn explain(
+        &self,
+        theirs: &[u8],
+        at: usize,
+        first: usize,
+        tell: impl Fn(usize, usize) -> (String, String),
+    ) -> String {
+        let lengths = format!("{} bytes, ours {}", theirs.len(), self.bytes.len());
+        if self.damage.is_some_and(|line| at >= line) || at >= self.bytes.len() {
+            let line = self.damage.unwrap_or(self.bytes.len());
+            let ends = describe_ends(theirs, &self.bytes, line);
+            return format!(
+                "differs after the results of {} cases: {lengths}\n  {ends}",
+                self.starts.len()
+            );
+        }
+        let index = self.starts.partition_point(|&start| start <= at) - 1;
+        let start = self.starts[index];
+        let at_word = (at - start) / WORD;
+        let (place, case) = tell(index, at_word);
+        format!(
+            "case {}: {place}: {}, ours {} ({lengths})\n  the case:\n{case}",
+            first + index,
+            word_at(&theirs[start.min(theirs.len())..], at_word),
+            word_at(&self.bytes[start..], at_word),
+        )
+    }
+}
+
+/// A word of a result, or what is left there.
+fn word_at(bytes: &[u8], at: usize) -> String {
+    match bytes.get(WORD * at..WORD * at + WORD) {
+        Some(bytes) => format!("{:08X}", word(bytes, 0)),
+        None => format!("cut after {} bytes of the result", bytes.len()),
+    }
+}
