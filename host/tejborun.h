@@ -8,11 +8,10 @@
  * their own. A call that is refused at once changes no memory and no log, a run that is refused after some steps leaves what those steps left; the result is
  * written in both cases, but not with TEJBORUN_SHORT, which is tested before all else. Numbers of a result beyond those stated are never written.
  *
- * state_shape.h has the words of a state block by name, docs/FORMATS.md says what they hold; a struct tejborun_state is lent as (uint32_t *)&state. On a block that
- * is a state's, a start and a build and run write back the state that they leave, also where they are refused, and so does a run that completes a step: the
- * words that mean nothing are then zero. A run that completes none leaves the block word for word, and a set changes one word of it or none. On a block that is
- * no state's each is refused with 5, or with a number that is tested before 5, and the block stays as it was. A reset writes any block, a why
- * reads it alone.
+ * state_shape.h has the words of a state block by name, docs/FORMATS.md says what they hold; a struct tejborun_state is lent as (uint32_t *)&state. A start, a
+ * build and run, and a run that completes a step write the state that they leave, in which the words that mean nothing are zero. What is refused before it begins,
+ * and a run that completes no step, leaves the block word for word; a set changes one word of it or none. On a block that is no state's each is refused with 5,
+ * or with a number that is tested before 5. A reset writes any block, a why reads it alone.
  */
 #ifndef TEJBORUN_H
 #define TEJBORUN_H

@@ -802,8 +802,11 @@ static void test_start(bool end)
     try_start(TEJBORUN_BLOCK_WORDS, WORD(chain.channel), 2, on_0, TEJBORUN_DONE, end);
     try_start(TEJBORUN_BLOCK_WORDS, WORD(chain.channel), 0, accepted, TEJBORUN_DONE, end);
     try_start(TEJBORUN_BLOCK_WORDS, WORD(vif0.itop), 1023, on_0, TEJBORUN_DONE, end);
-    for (size_t i = 0; i < sizeof wrong / sizeof wrong[0]; i++)
+    /* refused, a word that means nothing stays too */
+    for (size_t i = 0; i < sizeof wrong / sizeof wrong[0]; i++) {
         try_start(TEJBORUN_BLOCK_WORDS, WORD(chain.ended), 1, wrong[i], TEJBORUN_BAD_VALUE, end);
+        try_start(TEJBORUN_BLOCK_WORDS, WORD(chain.payload_at), 77, wrong[i], TEJBORUN_BAD_VALUE, end);
+    }
     for (size_t i = 0; i < sizeof lengths / sizeof lengths[0]; i++)
         try_start(lengths[i], WORD(chain.ended), 1, accepted, TEJBORUN_SHORT, end);
     for (size_t i = 0; i < sizeof states / sizeof states[0]; i++)
@@ -1402,8 +1405,10 @@ static void test_wrong_entry(bool end)
     for (size_t i = 0; i < WRONG_ENTRY; i++) {
         struct bench bench;
         new_bench(&bench, with_wrong(&wrong_entry[i]), sheet, sizeof sheet, end);
-        if (bench.lengths.block > WORD(chain.used))
+        if (bench.lengths.block > WORD(chain.used)) {
             words(&bench.lent[BLOCK])[WORD(chain.used)] = 2;
+            words(&bench.lent[BLOCK])[WORD(chain.payload_at)] = 77; /* means nothing */
+        }
         remember_all(&bench);
         bool is_short = wrong_entry[i].answer == TEJBORUN_SHORT;
         CHECK(call_run(&bench, UINT64_MAX) == wrong_entry[i].answer && all_unchanged(&bench) && (is_short || ran(&bench, 0, 0)));
@@ -1785,6 +1790,7 @@ static void try_build_and_run(const uint8_t *bytes, size_t count, uint32_t addre
     struct bench bench;
     new_bench(&bench, good, bytes, count, end);
     state(&bench.lent[BLOCK])->chain.used[0] = 2;
+    state(&bench.lent[BLOCK])->chain.payload_at = 77; /* means nothing */
     remember_all(&bench);
     CHECK(call_build_and_run(&bench, address, UINT64_MAX) == answer && all_kept_outside(&bench));
     CHECK(answer == TEJBORUN_DONE ? built_and_ran(&bench, SHEET_STEPS, 0, SHEET_PACKETS) : built_and_ran(&bench, 0, offset, 0));

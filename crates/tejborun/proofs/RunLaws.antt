@@ -1,16 +1,18 @@
 -- Calls on a state block.
 use mathlib.Core.Path.{_≡_, refl, ap}
-use mathlib.Core.Bool.{true, not, _&&_, _||_}
+use mathlib.Core.Bool.{Bool, true, not, _||_}
 use mathlib.Core.List.{List, [], _∷_}
 use Prim.Native.Nat.{ℕ, _<_, _≤_}
 use borrow.Author.Tests.{eq-eqb, ne-eqb, lt-ltb, le-ltb}
 use lib.ListN.{length}
 use lib.Dec.{eqb, ltb}
 use Rattle.fields.specs.Fields.{if}
-use Rattle.fields.proofs.ChoiceLaws.{if-ind, and-false}
+use Rattle.fields.proofs.ChoiceLaws.{if-ind}
 use Rattle.memories.specs.Lengths.{Lent}
 use Rattle.chain.specs.declared.State.{State}
 use Rattle.state_block.specs.declared.ReadState.{ReadState}
+use Rattle.chain.specs.declared.StartAnswer.{StartAnswer}
+use Rattle.chain.specs.declared.StartAnswer.the-variants.{Started, Refused}
 use Rattle.chain.specs.declared.StartResult.{StartResult}
 use Rattle.chain.specs.declared.RunResult.{RunResult}
 use Rattle.state_block.specs.Sizes.{stateSize}
@@ -26,7 +28,7 @@ use Rattle.console.specs.Register.{setNumber, setOf}
 use Rattle.console.specs.Block.{unitHeld, setBlock, setInBlock}
 use Rattle.console.proofs.ReadLaws.{block-as-unit}
 use Rattle.tejborun.specs.Buffers.{short, wrongBlock, written, writtenBack}
-use Rattle.tejborun.specs.Runs.{blocked, resetCall, startCall, setCall, Left, left, runCall}
+use Rattle.tejborun.specs.Runs.{Blocked, blocked, resetCall, started, startCall, setCall, Left, left, runCall}
 
 module _ (block : List ℕ) where
   pub reset-short : (length block ≡ stateSize → ⊥) → blocked short block ≡ resetCall block
@@ -49,13 +51,28 @@ module _ (block : List ℕ) (channel tadr tte : ℕ) where
   pub start-done : length block ≡ stateSize → tte ≤ 1 → {read : ReadState} → read ≡ stateInBlock block
       → {x : StartResult}
       → x ≡ startOf (read .state) channel tadr (eqb tte 1)
+      → {effect : Bool}
+      → effect ≡ started (x .answer)
       → {after : List ℕ}
-      → after ≡ writtenBack (read .known) (x .state) block
+      → after ≡ writtenBack effect (x .state) block
       → {n : ℕ}
       → n ≡ startNumber (x .answer)
       → blocked n after ≡ startCall block channel tadr tte
   unfolding startCall if
-  start-done h l e q b k = rw (eq-eqb (length block) stateSize h, le-ltb 1 tte l, ← e, ← q, b, k)
+  start-done h l e q f b k = rw (eq-eqb (length block) stateSize h, le-ltb 1 tte l, ← e, ← q, b, f, k)
+
+  refused-stays : (a : StartAnswer) (s : State) → (startNumber a ≡ 0 → ⊥) → writtenBack (started a) s block ≡ block
+  unfolding writtenBack if
+  refused-stays Started s h = absurd (h refl)
+  refused-stays (Refused n) s h = refl
+
+  -- demand 1: a start that is refused leaves the block word for word
+  pub start-refused : (startCall block channel tadr tte .answer ≡ 0 → ⊥) → startCall block channel tadr tte .block ≡ block
+  unfolding startCall
+  start-refused =
+      if-ind (λ (x : Blocked). (x .answer ≡ 0 → ⊥) → x .block ≡ block) (wrongBlock block) (λ k. refl)
+      (if-ind (λ (x : Blocked). (x .answer ≡ 0 → ⊥) → x .block ≡ block) (ltb 1 tte) (λ k. refl)
+      (λ k. refused-stays (startOf (stateInBlock block .state) channel tadr (eqb tte 1) .answer) (startOf (stateInBlock block .state) channel tadr (eqb tte 1) .state) k))
 
 module _ (block : List ℕ) (unit number value : ℕ) where
   pub set-short : (length block ≡ stateSize → ⊥) → blocked short block ≡ setCall block unit number value
@@ -92,7 +109,7 @@ module _ (main : List ℕ) (m : Lent) (block : List ℕ) (allowance : ℕ) (resu
         → {x : RunResult} {m′ : Lent}
         → leftBy x m′ ≡ runOf main allowance (read .state) m
         → {after : List ℕ}
-        → after ≡ writtenBack (read .known && not (eqb (x .counts .steps) 0)) (x .state) block
+        → after ≡ writtenBack (not (eqb (x .counts .steps) 0)) (x .state) block
         → {numbers : List ℕ}
         → numbers ≡ written (x .counts .steps ∷ x .counts .packets ∷ []) result
         → {n : ℕ}
@@ -107,6 +124,6 @@ unfolding runCall writtenBack if
 idle-run main m block result =
     let read = stateInBlock block in
     let n = stopping-changes-nothing main (read .state) m 0 0 in (
-      if-ind (λ (x : Left). x .block ≡ block) (wrongBlock block || ltb (length result) 2) refl (rw (n .uncounted, and-false (read .known))),
+      if-ind (λ (x : Left). x .block ≡ block) (wrongBlock block || ltb (length result) 2) refl (rw (n .uncounted)),
       if-ind (λ (x : Left). x .memories ≡ m) (wrongBlock block || ltb (length result) 2) refl (ap (λ (x : Machine). x .memories) (n .unmoved)),
     )

@@ -20,9 +20,9 @@ wrongBlock block = not (eqb (length block) stateSize)
 unfoldable pub written : List ℕ → List ℕ → List ℕ
 written numbers result = numbers ++ drop (length numbers) result
 
--- a block after a call on the state that was read from it: where it is a state's, the block of the state that the call left, else as it was
+-- a block after a call on the state that was read from it: where the call took effect, the block of the state that it left, else as it was
 unfoldable pub writtenBack : Bool → State → List ℕ → List ℕ
-writtenBack known state block = if known (stateBlock state) block
+writtenBack effect state block = if effect (stateBlock state) block
 
 -- what is left by a call that writes only a result: the answer's number and the result
 pub record Answered : Type 0 where

@@ -15,12 +15,12 @@ pub(crate) fn put_state(block: &mut [u32], state: State)
     fields::put_words(block, 0, &words);
 }
 
-// Writes the state that a call left, where the block was a state's.
-pub(crate) fn put_back(block: &mut [u32], known: bool, state: State)
+// Writes the state that a call left, where it took effect.
+pub(crate) fn put_back(block: &mut [u32], effect: bool, state: State)
     requires { ⌜ length (now block) ≡ stateSize ⌝ }
-    ensures { λ _. ⌜ now (block .exit) ≡ writtenBack known state (now (block .entry)) ⌝ }
+    ensures { λ _. ⌜ now (block .exit) ≡ writtenBack effect state (now (block .entry)) ⌝ }
 {
-    if !known {
+    if !effect {
         return;
     }
     put_state(block, state);

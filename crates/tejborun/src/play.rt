@@ -8,7 +8,7 @@ use state_block::state_in_block;
 ghost use mathlib.Core.Path.{_≡_};
 ghost use Rattle.memories.specs.Lengths.{lent};
 ghost use Rattle.conformance.specs.Play.{playNumber};
-ghost use Rattle.tejborun.specs.Play.{playOffset, left, playCall};
+ghost use Rattle.tejborun.specs.Play.{playOffset, begun, left, playCall};
 
 fn play_number(answer: PlayAnswer) -> u32
     ensures { λ r. ⌜ r ≡ playNumber answer ⌝ }
@@ -16,6 +16,19 @@ fn play_number(answer: PlayAnswer) -> u32
     match answer {
         PlayAnswer::Ended(ended) => run_number(ended),
         PlayAnswer::Refused { number, offset: _ } => number,
+    }
+}
+
+// Whether a run was begun.
+fn begun(answer: PlayAnswer) -> bool
+    ensures { λ r. ⌜ r ≡ begun answer ⌝ }
+{
+    match answer {
+        PlayAnswer::Ended(_) => true,
+        PlayAnswer::Refused {
+            number: _,
+            offset: _,
+        } => false,
     }
 }
 
@@ -49,12 +62,11 @@ pub extern "C" fn tejborun_build_and_run(
         return 60;
     }
     let read = state_in_block(block);
-    let known = read.known;
     let given = read.state;
     let r = conformance::build_and_run(sheet, main, address, data, code, log, given, allowance);
     let answer = r.answer;
     let state = r.state;
-    put_back(block, known, state);
+    put_back(block, begun(answer), state);
     put_three(
         result,
         r.counts.steps,

@@ -8,13 +8,13 @@ use console::SetAnswer;
 use state_block::STATE_WORDS;
 use state_block::state_in_block;
 ghost use mathlib.Core.Path.{_≡_};
-ghost use mathlib.Core.Bool.{not, _&&_};
+ghost use mathlib.Core.Bool.{not};
 ghost use lib.Dec.{eqb};
 ghost use Rattle.memories.specs.Lengths.{lent};
 ghost use Rattle.chain.specs.Start.{startNumber};
 ghost use Rattle.chain.specs.Run.{numberOf};
 ghost use Rattle.console.specs.Register.{setNumber};
-ghost use Rattle.tejborun.specs.Runs.{blocked, resetCall, startCall, setCall, left, runCall};
+ghost use Rattle.tejborun.specs.Runs.{blocked, resetCall, started, startCall, setCall, left, runCall};
 
 fn start_number(answer: StartAnswer) -> u32
     ensures { λ r. ⌜ r ≡ startNumber answer ⌝ }
@@ -22,6 +22,15 @@ fn start_number(answer: StartAnswer) -> u32
     match answer {
         StartAnswer::Started => 0,
         StartAnswer::Refused(n) => n,
+    }
+}
+
+fn started(answer: StartAnswer) -> bool
+    ensures { λ r. ⌜ r ≡ started answer ⌝ }
+{
+    match answer {
+        StartAnswer::Started => true,
+        StartAnswer::Refused(_) => false,
     }
 }
 
@@ -36,14 +45,11 @@ pub(crate) fn run_number(answer: Answer) -> u32
     }
 }
 
-// Whether a run left another state than that of a known block: one that completes no step leaves the block word for word.
-fn moved(known: bool, steps: u64) -> bool
-    ensures { λ r. ⌜ r ≡ (known && not (eqb steps 0)) ⌝ }
+// Whether a run left another state: one that completes no step leaves the block word for word.
+fn moved(steps: u64) -> bool
+    ensures { λ r. ⌜ r ≡ not (eqb steps 0) ⌝ }
 {
-    if known {
-        return steps != 0;
-    }
-    false
+    steps != 0
 }
 
 #[no_mangle]
@@ -68,12 +74,11 @@ pub extern "C" fn tejborun_start(block: &mut [u32], channel: u32, tadr: u32, tte
         return 5;
     }
     let read = state_in_block(block);
-    let known = read.known;
     let given = read.state;
     let r = chain::start(given, channel, tadr, tte == 1);
     let answer = r.answer;
     let state = r.state;
-    put_back(block, known, state);
+    put_back(block, started(answer), state);
     start_number(answer)
 }
 
@@ -116,12 +121,11 @@ pub extern "C" fn tejborun_run(
         return 60;
     }
     let read = state_in_block(block);
-    let known = read.known;
     let given = read.state;
     let r = chain::run(main, data, code, log, given, allowance);
     let answer = r.answer;
     let state = r.state;
-    put_back(block, moved(known, r.counts.steps), state);
+    put_back(block, moved(r.counts.steps), state);
     put_two(result, r.counts.steps, r.counts.packets);
     run_number(answer)
 }

@@ -188,9 +188,11 @@ pub unsafe extern "C" fn judge_start(
     let (Some(tte), Some(mut state)) = (bit(tte), read_state(block)) else {
         return refusals::RANGE;
     };
-    let started = chain::start(&mut state, channel, tadr, tte);
+    if let Err(refusal) = chain::start(&mut state, channel, tadr, tte) {
+        return refusal;
+    }
     *block = write_state(&state);
-    started.err().unwrap_or(0)
+    0
 }
 
 #[no_mangle]
@@ -214,7 +216,9 @@ fn run(memories: &mut Memories, block: &mut StateBlock, allowance: u64) -> Stop 
         return Stop::at_entry(lengths.err().unwrap_or(refusals::RANGE));
     };
     let stop = chain::run(&mut state, memories, allowance, |_, _, _| {});
-    *block = write_state(&state);
+    if stop.steps > 0 {
+        *block = write_state(&state);
+    }
     stop
 }
 
@@ -284,16 +288,14 @@ pub unsafe extern "C" fn judge_why(
 }
 
 /// Builds the chain in main memory and starts it in the block, or refuses; a refusal changes
-/// nothing but the words of the block that mean nothing.
+/// nothing.
 fn build_and_start(
     sheet: &[u8],
     main: &mut [u8],
     address: u32,
     block: &mut StateBlock,
 ) -> Result<(), sheet::Refusal> {
-    let given = read_state(block).ok_or((refusals::RANGE, 0))?;
-    *block = write_state(&given);
-    let mut started = given;
+    let mut started = read_state(block).ok_or((refusals::RANGE, 0))?;
     chain::start(&mut started, 1, address, false).map_err(|refusal| (refusal, 0))?;
     let from = main.len().min(address as usize);
     sheet::build(sheet, &mut main[from..])?;
@@ -339,9 +341,6 @@ pub unsafe extern "C" fn judge_build_and_run(
     };
     let used = state_block::used(block);
     if let Err(refusal) = chain::check_lengths(Model::Vif1, &lengths, used) {
-        if let Some(state) = read_state(block) {
-            *block = write_state(&state);
-        }
         return refusal;
     }
     if let Err((refusal, offset)) = build_and_start(view(sheet, sheet_bytes), main, address, block)

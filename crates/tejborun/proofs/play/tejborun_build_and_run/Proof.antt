@@ -13,10 +13,11 @@ returns-3 : tie.Need-returns-3
 returns-3 c =
     let w = c .before .before .before in
     let p = w .before .before .before .before .before in
-    let s = p .before .before .before .before .before .before .before .before .before .before .before in
+    let f = p .before in
+    let s = f .before .before .before .before .before .before .before .before .before .before .before in
     let r = s .before .before .before .before .before .before in
     let t = r .before .before in
-    play-done _ _ _ _ _ _ _ (t .before .if1 .left) (t .if2 .left) (r .state-in-block .ensures) (s .build-and-run .ensures) (p .put-back .ensures)
+    play-done _ _ _ _ _ _ _ (t .before .if1 .left) (t .if2 .left) (r .state-in-block .ensures) (s .build-and-run .ensures) (f .begun .ensures) (p .put-back .ensures)
     (w .before .play-offset .ensures) (w .put-three .ensures) (c .play-number .ensures)
 
 pub tejborun-build-and-run-spec : {M : Type 1} → statement M
@@ -25,6 +26,7 @@ tejborun-build-and-run-spec =
     (tie.spec
     returns
     returns-2
+    (λ c κs. search needs)
     (λ c κs. search needs)
     (λ c κs. search needs)
     (λ c κs. search needs)
