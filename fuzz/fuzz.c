@@ -1185,7 +1185,7 @@ static void print_counters(void) {
     if (longest_sheet > 0) fprintf(stderr, " longest sheet %" PRIu64 " bytes,", longest_sheet);
     if (completed > 0) fprintf(stderr, " steps completed %" PRIu64 ", packets closed %" PRIu64 ",", completed, closed);
     for (int i = 0; i < ANSWERS; i++)
-        for (int kind = TEJBORUN_WHY_ENTRY; kind <= TEJBORUN_WHY_STEP; kind++)
+        for (unsigned kind = TEJBORUN_WHY_ENTRY; kind <= TEJBORUN_WHY_STEP; kind++)
             if (refusals_told[kind][i] > 0) fprintf(stderr, " %s %d: %" PRIu64 ",", kind == TEJBORUN_WHY_STEP ? "step" : "entry", i, refusals_told[kind][i]);
     if (*entries[ENTRY].longest) fprintf(stderr, " %s %" PRIu64 ",", entries[ENTRY].longest, longest_run);
     fprintf(stderr, " nothing differs\n");
