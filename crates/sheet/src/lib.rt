@@ -2,12 +2,14 @@
 // What each function means is said by the definitions of specs/.
 mod heads;
 mod items;
+mod matching;
 mod plain;
 mod reader;
 mod sums;
 mod totals;
 mod writer;
 
+pub use matching::match_meaning;
 pub use plain::meaning;
 pub use reader::read_record;
 pub use totals::steps;
@@ -51,5 +53,11 @@ pub enum StepsAnswer {
 // The entries used afterwards, or a refusal.
 pub enum MeaningAnswer {
     Meant(u64),
+    Refused { number: u32, offset: usize },
+}
+
+// How many entries at the front of the meaning's list and of a log are the same, and how many the meaning has; or a refusal.
+pub enum MatchAnswer {
+    Matched { leading: u64, entries: u64 },
     Refused { number: u32, offset: usize },
 }

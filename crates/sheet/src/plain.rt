@@ -37,9 +37,9 @@ const QUADWORDS: usize = memories::VIF1_QUADWORDS as usize;
 const INSTRUCTIONS: usize = memories::VIF1_INSTRUCTIONS as usize;
 
 // The path of a GS record's entries.
-const GS_PATH: u64 = 2;
+pub(crate) const GS_PATH: u64 = 2;
 
-fn wide(x: u32) -> u64
+pub(crate) fn wide(x: u32) -> u64
     ensures { λ r. ⌜ (r ≡ x) × (r < 4294967296) ⌝ }
 {
     x as u64
@@ -55,7 +55,7 @@ fn word_at(sheet: &[u8], at: usize) -> u32
         + byte_at(sheet, at + 3) * 16777216
 }
 
-fn long_at(sheet: &[u8], at: usize) -> u64
+pub(crate) fn long_at(sheet: &[u8], at: usize) -> u64
     requires { ⌜ at + 8 ≤ length (now sheet) ⌝ }
     ensures { λ r. ⌜ r ≡ number (bytesAt (now (sheet .entry)) at 8) ⌝ }
 {
@@ -73,7 +73,7 @@ fn put_vector(sheet: &[u8], at: usize, data: &mut [u32], q: usize)
     data[4 * q + 3] = word_at(sheet, at + 12);
 }
 
-fn put_vectors(sheet: &[u8], body: usize, n: usize, a: usize, data: &mut [u32])
+pub(crate) fn put_vectors(sheet: &[u8], body: usize, n: usize, a: usize, data: &mut [u32])
     requires { ⌜ (body + 16 * n ≤ length (now sheet)) × (a < 4294967296) × (length (now «data») ≡ dataWords Vif1) ⌝ }
     ensures { λ _. ⌜ now («data» .exit)
         ≡ putVectors a (bytesAt (now (sheet .entry)) body (16 * n)) n 0 (now («data» .entry)) ⌝ }
@@ -85,7 +85,7 @@ fn put_vectors(sheet: &[u8], body: usize, n: usize, a: usize, data: &mut [u32])
     }
 }
 
-fn put_instructions(sheet: &[u8], body: usize, n: usize, a: usize, code: &mut [u8])
+pub(crate) fn put_instructions(sheet: &[u8], body: usize, n: usize, a: usize, code: &mut [u8])
     requires { ⌜ (body + 8 * n ≤ length (now sheet)) × (a < 4294967296) × (length (now code) ≡ codeBytes Vif1) ⌝ }
     ensures { λ _. ⌜ now (code .exit)
         ≡ putInstructions a (bytesAt (now (sheet .entry)) body (8 * n)) n 0 (now (code .entry)) ⌝ }
