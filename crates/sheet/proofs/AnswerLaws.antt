@@ -1,6 +1,7 @@
--- The answers of the meaning.
+-- The answers of the meaning, with a log for its entries and beside one.
 use mathlib.Core.Path.{_≡_, sym, ap, _∙_}
-use mathlib.Core.List.{List}
+use mathlib.Core.Bool.{true}
+use mathlib.Core.List.{List, []}
 use Prim.Native.Nat.{ℕ, _+_, _*_, _-_, _/_, _<_, _≤_}
 use native.Mathlib.Omega.{arith}
 use borrow.Author.Tests.{ne-eqb, lt-ltb, le-ltb}
@@ -14,20 +15,27 @@ use Rattle.memories.specs.Units.{dataWords, codeBytes}
 use Rattle.memories.specs.Lengths.{lent}
 use Rattle.memories.proofs.LengthLaws.{lengths-fit}
 use Rattle.sheet.specs.declared.MeaningAnswer.the-variants.{Meant, Refused}
+use Rattle.sheet.specs.declared.MatchAnswer.the-variants.{Matched, Refused as MatchRefused}
+use Rattle.sheet.specs.declared.matching.Front.{Front}
 use Rattle.sheet.specs.declared.sums.Totals.{Totals}
 use Rattle.sheet.specs.declared.totals.Measured.{Measured}
 use Rattle.sheet.specs.declared.totals.Measured.the-variants.{Whole, Refused as MeasureRefused}
+use Rattle.sheet.specs.Records.{Record}
+use Rattle.sheet.specs.Reader.{valid}
 use Rattle.sheet.specs.Editions.{expansionFrom, contentsOf}
 use Rattle.sheet.specs.Acts.{SheetFits, sheetDone, firstItem}
 use Rattle.sheet.specs.Sizes.{sheetEntries}
-use Rattle.sheet.specs.Meaning.{plain, meaningOf}
+use Rattle.sheet.specs.Meaning.{Plain, plain, meaningOf}
 use Rattle.sheet.specs.Results.{left, lengthRefusal, meaningOfSheet}
+use Rattle.sheet.specs.Match.{left as leftMatched, leading, matchOfSheet}
 use Rattle.sheet.specs.Sums.{measuredOf}
 use Rattle.sheet.specs.Fed.{Fed, fed, fedAll, RecordsRoom, Means}
+use Rattle.sheet.specs.Met.{front, metAll, Matching, matching, matchedAll, MatchRoom}
 use Rattle.sheet.proofs.EditionLaws.{contents-items}
 use Rattle.sheet.proofs.TotalsLaws.{measured-whole, measured-refused}
-use Rattle.sheet.proofs.MeaningLaws.{log-same}
+use Rattle.sheet.proofs.MeaningLaws.{meaning-count, log-same}
 use Rattle.sheet.proofs.FedLaws.{fedPlain, fed-sheet}
+use Rattle.sheet.proofs.MatchLaws.{met-leading, matchedPlain, match-meant}
 
 -- lengths that are accepted
 pub record Lengths (mem code log : List ℕ) (used : ℕ) : Type 0 where
@@ -101,3 +109,61 @@ module _ (sheet mem code log : List ℕ) (used : ℕ) {n : ℕ} (l : n ≡ lengt
   mean-means q =
       let a = measured-whole (contentsOf sheet) e q in
       record { records = a .records; accepted = a .are; sum = ap (λ (t : Totals). t .entries) (a .sums); lengths = sym l ∙ z }
+
+-- ---- beside a log
+
+pub match-lengths : (sheet mem code log : List ℕ) (used : ℕ) {n : ℕ} → n ≡ lengthRefusal mem code log used → (n ≡ 0 → ⊥)
+    → leftMatched (MatchRefused n 0) mem code ≡ matchOfSheet sheet mem code log used
+unfolding matchOfSheet if
+match-lengths sheet mem code log used e z = rw (← e, ne-eqb _ _ z)
+
+-- the parts of what is left, where nothing is refused
+match-left : (sheet mem code log : List ℕ) (used : ℕ) {rs : List Record} → lengthRefusal mem code log used ≡ 0 → contentsOf sheet ≡ valid rs → {k n : ℕ} {mem′ code′ : List ℕ}
+    → k ≡ leading (meaningOf rs (plain mem code []) .entries) (entriesIn log used)
+    → n ≡ length (meaningOf rs (plain mem code []) .entries)
+    → mem′ ≡ meaningOf rs (plain mem code []) .mem
+    → code′ ≡ meaningOf rs (plain mem code []) .code
+    → leftMatched (Matched k n) mem′ code′ ≡ matchOfSheet sheet mem code log used
+unfolding matchOfSheet if
+match-left sheet mem code log used l a ek en em ec = rw (l, a, ek, en, em, ec)
+
+module _ (sheet mem code log : List ℕ) (used : ℕ) {n : ℕ} (l : n ≡ lengthRefusal mem code log used) (z : n ≡ 0) {m : Measured} (e : m ≡ measuredOf (contentsOf sheet)) where
+  pub match-refused : {k offset : ℕ} → m ≡ MeasureRefused k offset → leftMatched (MatchRefused k offset) mem code ≡ matchOfSheet sheet mem code log used
+  unfolding matchOfSheet if
+  match-refused q = rw (← l, z, measured-refused (contentsOf sheet) e q)
+
+  module _ {t : Totals} (q : m ≡ Whole t) where
+    accepted : Means sheet mem code log used (t .entries)
+    accepted = mean-means sheet mem code log used l z e q
+
+    pub match-fits : SheetFits (MatchRoom log used) sheet (firstItem sheet) (matching mem code (front 0 true))
+    match-fits =
+        let a = accepted in
+        let s = means-lengths a in
+        record {
+          records = a .records;
+          accepted = contents-items sheet (a .records) (a .accepted);
+          room = record { words = s .words; bytes = s .bytes; held = s .held };
+        }
+
+    abbrev meant : Plain
+    meant = meaningOf (accepted .records) (plain mem code [])
+
+    entries-meant : t .entries ≡ length (meant .entries)
+    entries-meant =
+        let c = meaning-count (accepted .records) (plain mem code []) in
+        let s = accepted .sum in
+        omega arith
+
+    -- the whole sheet matched: the memories of its meaning, and how far its entries go with the log's
+    pub match-done : {mem′ code′ : List ℕ} {f : Front}
+        → matching mem′ code′ f ≡ sheetDone (matchedAll log used) (expansionFrom sheet (firstItem sheet)) (matching mem code (front 0 true))
+        → leftMatched (Matched (f .leading) (t .entries)) mem′ code′ ≡ matchOfSheet sheet mem code log used
+    unfolding metAll
+    match-done {mem′} {code′} {f} g =
+        let a = accepted in
+        let w : matching mem′ code′ f ≡ matchedPlain log used meant (front 0 true) =
+        g ∙ rw (contents-items sheet (a .records) (a .accepted)) (match-meant log used (a .records) (plain mem code []) (front 0 true)) in
+        match-left sheet mem code log used (a .lengths) (a .accepted)
+        (ap (λ (x : Matching). x .front .leading) w ∙ met-leading log used (means-lengths a .held) (meant .entries)) entries-meant
+        (ap (λ (x : Matching). x .mem) w) (ap (λ (x : Matching). x .code) w)

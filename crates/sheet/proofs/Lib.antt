@@ -23,6 +23,7 @@ pub mod WriterLaws
 pub mod BuildLaws
 pub mod MeaningLaws
 pub mod FedLaws
+pub mod MatchLaws
 pub mod FeederLaws
 pub mod AnswerLaws
 pub mod Points

@@ -123,7 +123,7 @@ module _ (l : List ℕ) (b n j : ℕ) (h : j < n) where
   instruction-inside = rw (bytes-inside l b (8 * n) (8 * j) 8 {k = b + 8 * j} (omega arith) refl)
 
   pub entry-inside : {r v : ℕ} → b + 16 * n ≤ length l → r ≡ getD l (b + 16 * j + 8) 0 → v ≡ number (bytesAt l (b + 16 * j) 8)
-      → numbers (entry 2 r v ∷ []) ≡ numbers (entryAt (bytesAt l b (16 * n)) j ∷ [])
+      → entry 2 r v ≡ entryAt (bytesAt l b (16 * n)) j
   entry-inside f er ev =
       rw (
         er,

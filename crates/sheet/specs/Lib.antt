@@ -10,7 +10,9 @@ pub mod Editions
 pub mod Build
 pub mod Meaning
 pub mod Results
+pub mod Match
 pub mod Acts
 pub mod Sums
 pub mod Inner
 pub mod Fed
+pub mod Met

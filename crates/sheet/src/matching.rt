@@ -13,11 +13,23 @@ use super::reader::byte_at;
 use super::totals::Measured;
 use super::totals::measure;
 use memories::VifUnit;
+ghost use mathlib.Core.Path.{_≡_};
+ghost use mathlib.Core.Bool.{true};
+ghost use Prim.Native.Nat.{_+_, _*_, _<_, _≤_};
+ghost use lib.ListN.{length};
+ghost use Rattle.gif.specs.Log.{entrySize, entry};
+ghost use Rattle.sheet.specs.Records.{recordOf, bodyLength, bytesAt};
+ghost use Rattle.sheet.specs.Groups.{itemAt, membersAt};
+ghost use Rattle.sheet.specs.Editions.{expansionFrom};
+ghost use Rattle.sheet.specs.Acts.{done, itemDone, membersDone, turnsDone, sheetDone, ItemFits, MembersFit, TurnsFit, SheetFits, firstItem};
+ghost use Rattle.sheet.specs.Meaning.{entriesAt};
+ghost use Rattle.sheet.specs.Match.{sameEntry, left, matchOfSheet};
+ghost use Rattle.sheet.specs.Met.{front, entryIn, nextFront, met, metAll, matching, matchedBy, matchedAll, MatchRoom, RecordHeld};
 
 // How many entries at the front are the same, and whether all so far were.
 struct Front {
     leading: u64,
-    open: bool,
+    whole: bool,
 }
 
 // The place after what was read, and the front.
@@ -29,39 +41,53 @@ struct Met {
 const ENTRY_SIZE: usize = gif::ENTRY_SIZE as usize;
 
 // Whether entry k of a log has these numbers.
-fn entry_is(log: &[u64], k: u64, path: u64, register: u64, value: u64) -> bool {
+fn entry_is(log: &[u64], k: u64, path: u64, register: u64, value: u64) -> bool
+    requires { ⌜ entrySize * (k + 1) ≤ length (now log) ⌝ }
+    ensures { λ r. ⌜ r ≡ sameEntry (entry path register value) (entryIn (now (log .entry)) k) ⌝ }
+{
     let at = ENTRY_SIZE * k as usize;
     (log[at] == path) & (log[at + 1] == register) & (log[at + 2] == value)
 }
 
-// The front once an entry is compared with the log's next.
-fn meet(log: &[u64], used: u64, front: Front, path: u64, register: u64, value: u64) -> Front {
-    if !front.open {
-        return front;
+// The front of n entries once one more is compared with the log's next.
+fn next_front(log: &[u64], used: u64, n: u64, path: u64, register: u64, value: u64) -> Front
+    requires { ⌜ entrySize * used ≤ length (now log) ⌝ }
+    ensures { λ r. ⌜ r ≡ nextFront (now (log .entry)) used n (entry path register value) ⌝ }
+{
+    if used <= n {
+        return Front {
+            leading: n,
+            whole: false,
+        };
     }
-    if front.leading < used {
-        if entry_is(log, front.leading, path, register, value) {
-            return Front {
-                leading: front.leading + 1,
-                open: true,
-            };
-        }
+    if entry_is(log, n, path, register, value) {
+        return Front {
+            leading: n + 1,
+            whole: true,
+        };
     }
     Front {
-        leading: front.leading,
-        open: false,
+        leading: n,
+        whole: false,
     }
 }
 
+// The front once an entry is compared, which moves it where all before it were the same.
+fn meet(log: &[u64], used: u64, front: Front, path: u64, register: u64, value: u64) -> Front
+    requires { ⌜ entrySize * used ≤ length (now log) ⌝ }
+    ensures { λ r. ⌜ r ≡ met (now (log .entry)) used (entry path register value) front ⌝ }
+{
+    if front.whole {
+        return next_front(log, used, front.leading, path, register, value);
+    }
+    front
+}
+
 // The entries of a GS body.
-fn meet_entries(
-    sheet: &[u8],
-    body: usize,
-    n: usize,
-    log: &[u64],
-    used: u64,
-    front: Front,
-) -> Front {
+fn meet_entries(sheet: &[u8], body: usize, n: usize, log: &[u64], used: u64, front: Front) -> Front
+    requires { ⌜ (body + 16 * n ≤ length (now sheet)) × (entrySize * used ≤ length (now log)) ⌝ }
+    ensures { λ r. ⌜ r ≡ metAll (now (log .entry)) used (entriesAt (bytesAt (now (sheet .entry)) body (16 * n)) n 0) front ⌝ }
+{
     let mut f = front;
     let mut j = 0;
     while j < n {
@@ -90,7 +116,11 @@ fn match_record(
     log: &[u64],
     used: u64,
     front: Front,
-) -> Front {
+) -> Front
+    requires { ⌜ RecordHeld (now sheet) body kind n (now «data») (now code) (now log) used ⌝ }
+    ensures { λ r. ⌜ matching (now («data» .exit)) (now (code .exit)) r
+        ≡ matchedBy (now (log .entry)) used (recordOf kind n a (bytesAt (now (sheet .entry)) body (bodyLength kind n))) (matching (now («data» .entry)) (now (code .entry)) front) ⌝ }
+{
     match kind {
         Kind::Data => {
             put_vectors(sheet, body, n as usize, a as usize, data);
@@ -115,7 +145,11 @@ fn match_item(
     log: &[u64],
     used: u64,
     front: Front,
-) -> Met {
+) -> Met
+    requires { ⌜ ItemFits (MatchRoom (now log) used) (itemAt (now sheet) depth at) (matching (now «data») (now code) front) ⌝ }
+    ensures { λ r. ⌜ done (r .next) (matching (now («data» .exit)) (now (code .exit)) (r .front))
+        ≡ itemDone (matchedAll (now (log .entry)) used) (itemAt (now (sheet .entry)) depth at) (matching (now («data» .entry)) (now (code .entry)) front) ⌝ }
+{
     match read_header(sheet, depth, at) {
         Header::End => Met { next: at, front },
         Header::Single {
@@ -172,7 +206,11 @@ fn match_group(
     log: &[u64],
     used: u64,
     front: Front,
-) -> Met {
+) -> Met
+    requires { ⌜ (0 < repetitions) × TurnsFit (MatchRoom (now log) used) repetitions (membersAt (now sheet) depth members at) (matching (now «data») (now code) front) ⌝ }
+    ensures { λ r. ⌜ done (r .next) (matching (now («data» .exit)) (now (code .exit)) (r .front))
+        ≡ turnsDone (matchedAll (now (log .entry)) used) repetitions (membersAt (now (sheet .entry)) depth members at) (matching (now («data» .entry)) (now (code .entry)) front) ⌝ }
+{
     let mut next = at;
     let mut f = front;
     let mut turns = repetitions;
@@ -196,7 +234,11 @@ fn match_members(
     log: &[u64],
     used: u64,
     front: Front,
-) -> Met {
+) -> Met
+    requires { ⌜ MembersFit (MatchRoom (now log) used) (membersAt (now sheet) depth members at) (matching (now «data») (now code) front) ⌝ }
+    ensures { λ r. ⌜ done (r .next) (matching (now («data» .exit)) (now (code .exit)) (r .front))
+        ≡ membersDone (matchedAll (now (log .entry)) used) (membersAt (now (sheet .entry)) depth members at) (matching (now («data» .entry)) (now (code .entry)) front) ⌝ }
+{
     let mut next = at;
     let mut f = front;
     let mut rest = members;
@@ -209,19 +251,23 @@ fn match_members(
     Met { next, front: f }
 }
 
-// The items of an accepted sheet; answers how many entries at the front are the same.
-fn match_items(sheet: &[u8], data: &mut [u32], code: &mut [u8], log: &[u64], used: u64) -> u64 {
+// The items of an accepted sheet.
+fn match_items(sheet: &[u8], data: &mut [u32], code: &mut [u8], log: &[u64], used: u64) -> Front
+    requires { ⌜ SheetFits (MatchRoom (now log) used) (now sheet) (firstItem (now sheet)) (matching (now «data») (now code) (front 0 true)) ⌝ }
+    ensures { λ r. ⌜ matching (now («data» .exit)) (now (code .exit)) r
+        ≡ sheetDone (matchedAll (now (log .entry)) used) (expansionFrom (now (sheet .entry)) (firstItem (now (sheet .entry)))) (matching (now («data» .entry)) (now (code .entry)) (front 0 true)) ⌝ }
+{
     let mut at = first_item(sheet);
     let mut f = Front {
         leading: 0,
-        open: true,
+        whole: true,
     };
     while at < sheet.len() {
         let t = match_item(sheet, 8, at, data, code, log, used, f);
         at = t.next;
         f = t.front;
     }
-    f.leading
+    f
 }
 
 // Feeds a sheet's records to the memories, which a refusal leaves as they are, and compares their entries with those used of a log.
@@ -231,16 +277,23 @@ pub fn match_meaning(
     code: &mut [u8],
     log: &[u64],
     used: u64,
-) -> MatchAnswer {
+) -> MatchAnswer
+    ensures { λ r. ⌜ left r (now («data» .exit)) (now (code .exit))
+        ≡ matchOfSheet (now (sheet .entry)) (now («data» .entry)) (now (code .entry)) (now (log .entry)) used ⌝ }
+{
     let number = memories::lengths_refusal(VifUnit::Vif1, data, code, log, used);
     if number != 0 {
         return MatchAnswer::Refused { number, offset: 0 };
     }
     match measure(sheet) {
         Measured::Refused { number, offset } => MatchAnswer::Refused { number, offset },
-        Measured::Whole(t) => MatchAnswer::Matched {
-            leading: match_items(sheet, data, code, log, used),
-            entries: t.entries,
-        },
+        Measured::Whole(t) => {
+            let entries = t.entries;
+            let f = match_items(sheet, data, code, log, used);
+            MatchAnswer::Matched {
+                leading: f.leading,
+                entries,
+            }
+        }
     }
 }

@@ -1,6 +1,9 @@
-use mathlib.Core.Path.{_∙_}
+use mathlib.Core.Path.{ap, _∙_}
+use mathlib.Core.List.{[], _∷_}
 use Prim.Native.Nat.{_*_, _-_}
 use borrow.Author.Needs.{needs}
+use Rattle.gif.specs.declared.Entry.{Entry}
+use Rattle.gif.specs.Log.{numbers}
 use Rattle.sheet.specs.Records.{bytesAt}
 use Rattle.sheet.proofs.MeaningLaws.{Going, turns-begin, turns-on, turns-end, putEntries, entry-turns, entry-inside, entries-all}
 use Rattle.sheet.proofs.plain.put_entries.Statement.{statement}
@@ -18,8 +21,9 @@ loop-again c =
     let q = p .before .before .before .before .before in
     let s = q .before .before .before .before in
     turns-on (entry-turns _ _) (q .before .loop .inv) (q .loop-test .taken) (p .put-entry .ensures)
+    (ap (λ (e : Entry). numbers (e ∷ []))
     (entry-inside (s .args .sheet .now) (s .args .body) _ _ (q .loop-test .taken) (s .pre .0)
-    (p .before .before .wide .ensures .0 ∙ p .before .before .before .byte-at .ensures .0) (p .before .long-at .ensures))
+    (p .before .before .wide .ensures .0 ∙ p .before .before .before .byte-at .ensures .0) (p .before .long-at .ensures)))
 
 returns : tie.Need-returns Inv-loop μ-loop
 returns c = turns-end (entry-turns _ _) (c .before .loop .inv) (c .loop-test .left) ∙ entries-all _ _ _ _
