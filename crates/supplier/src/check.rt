@@ -4,13 +4,24 @@ use super::CheckResult;
 use super::verdict::judge;
 use chain::State;
 use sheet::StepsAnswer;
+ghost use mathlib.Core.Path.{_≡_};
+ghost use lib.ListN.{length};
+ghost use Rattle.memories.specs.Lengths.{lent};
+ghost use Rattle.conformance.specs.Demand.{recordsOf};
+ghost use Rattle.supplier.specs.Check.{begun, runFromReset, meantFrom, checked, checkRan, checkOf};
+ghost use Rattle.supplier.specs.Inner.{Runs, refusedWith};
 
 // From reset on channel 1 at address 0, tag transfer off.
-fn started() -> State {
+fn started() -> State
+    ensures { λ r. ⌜ r ≡ begun ⌝ }
+{
     chain::start(chain::reset(), 1, 0, false).state
 }
 
-fn copy_words(from: &[u32], to: &mut [u32]) {
+fn copy_bytes(from: &[u8], to: &mut [u8])
+    requires { ⌜ length (now from) ≡ length (now to) ⌝ }
+    ensures { λ _. ⌜ now (to .exit) ≡ now (from .entry) ⌝ }
+{
     let mut i = 0;
     while i < from.len() {
         to[i] = from[i];
@@ -18,15 +29,9 @@ fn copy_words(from: &[u32], to: &mut [u32]) {
     }
 }
 
-fn copy_bytes(from: &[u8], to: &mut [u8]) {
-    let mut i = 0;
-    while i < from.len() {
-        to[i] = from[i];
-        i += 1;
-    }
-}
-
-fn refused(number: u32, offset: usize) -> CheckResult {
+fn refused(number: u32, offset: usize) -> CheckResult
+    ensures { λ r. ⌜ r ≡ refusedWith number offset ⌝ }
+{
     let counts = fields::steps_alone(0);
     CheckResult {
         answer: CheckAnswer::Refused { number, offset },
@@ -43,10 +48,15 @@ fn check_valid(
     code: &mut [u8],
     log: &mut [u64],
     allowance: u64,
-) -> CheckResult {
+) -> CheckResult
+    requires { ⌜ Runs (now sheet) (now main) (lent (now «data») (now code) (now log)) ⌝ }
+    ensures { λ r. ⌜ checked (r .answer) (r .used) (r .counts) (lent (now («data» .exit)) (now (code .exit)) (now (log .exit)))
+        ≡ checkRan (runFromReset (now (main .entry)) allowance (lent (now («data» .entry)) (now (code .entry)) (now (log .entry))))
+        (meantFrom (recordsOf (now (sheet .entry))) (now («data» .entry)) (now (code .entry))) ⌝ }
+{
     let mut words = [0u32; 4096];
     let mut bytes = [0u8; 16384];
-    copy_words(data, &mut words);
+    fields::put_words(&mut words, 0, data);
     copy_bytes(code, &mut bytes);
     let r = chain::run(main, data, code, log, started(), allowance);
     let answer = r.answer;
@@ -68,7 +78,10 @@ pub fn check_chain(
     code: &mut [u8],
     log: &mut [u64],
     allowance: u64,
-) -> CheckResult {
+) -> CheckResult
+    ensures { λ r. ⌜ checked (r .answer) (r .used) (r .counts) (lent (now («data» .exit)) (now (code .exit)) (now (log .exit)))
+        ≡ checkOf (now (sheet .entry)) (now (main .entry)) (lent (now («data» .entry)) (now (code .entry)) (now (log .entry))) allowance ⌝ }
+{
     let number = chain::entry_refusal(main, data, code, log, started());
     if number != 0 {
         return refused(number, 0);

@@ -1,8 +1,13 @@
 // An answer in numbers.
 use super::CheckAnswer;
 use chain::Answer;
+ghost use mathlib.Core.Path.{_≡_};
+ghost use Rattle.chain.specs.Run.{numberOf};
+ghost use Rattle.supplier.specs.Check.{checkKind, checkNumber, checkOffset};
 
-fn run_number(answer: Answer) -> u64 {
+fn run_number(answer: Answer) -> u64
+    ensures { λ r. ⌜ r ≡ numberOf answer ⌝ }
+{
     match answer {
         Answer::Done => 0,
         Answer::Allowance => 90,
@@ -12,7 +17,9 @@ fn run_number(answer: Answer) -> u64 {
 }
 
 // The kind of an answer.
-pub fn kind(answer: CheckAnswer) -> u32 {
+pub fn kind(answer: CheckAnswer) -> u32
+    ensures { λ r. ⌜ r ≡ checkKind answer ⌝ }
+{
     match answer {
         CheckAnswer::Accepted => 0,
         CheckAnswer::Refused {
@@ -28,7 +35,9 @@ pub fn kind(answer: CheckAnswer) -> u32 {
 }
 
 // Its number: the refusal's, the run's answer, the quadword, instruction or entry, or the number of entries.
-pub fn number(answer: CheckAnswer) -> u64 {
+pub fn number(answer: CheckAnswer) -> u64
+    ensures { λ r. ⌜ r ≡ checkNumber answer ⌝ }
+{
     match answer {
         CheckAnswer::Accepted => 0,
         CheckAnswer::Refused { number, offset: _ } => number as u64,
@@ -41,7 +50,9 @@ pub fn number(answer: CheckAnswer) -> u64 {
 }
 
 // The offset of the refused record, 0 where there is none.
-pub fn offset(answer: CheckAnswer) -> usize {
+pub fn offset(answer: CheckAnswer) -> usize
+    ensures { λ r. ⌜ r ≡ checkOffset answer ⌝ }
+{
     match answer {
         CheckAnswer::Accepted => 0,
         CheckAnswer::Refused { number: _, offset } => offset,

@@ -1,0 +1,3 @@
+-- Laws of the check.
+pub mod EntryLaws
+pub mod CheckLaws
