@@ -43,11 +43,11 @@ use Rattle.conformance.proofs.PlayLaws.{passed-by}
 
 -- ---- the reset state
 
-reset-ranged : stateInRange resetState ≡ true
+pub reset-ranged : stateInRange resetState ≡ true
 unfolding resetState stateInRange startInRange channelInRange stackInRange tagsInRange payloadInRange unitInRange registersInRange waitingInRange
 reset-ranged = refl
 
-reset-used : resetState .used ≡ 0
+pub reset-used : resetState .used ≡ 0
 unfolding resetState
 reset-used = refl
 

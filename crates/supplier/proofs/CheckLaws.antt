@@ -14,15 +14,26 @@ use Rattle.gif.specs.Log.{entriesIn}
 use Rattle.memories.specs.declared.VifUnit.{VifUnit}
 use Rattle.memories.specs.declared.VifUnit.the-variants.{Vif0, Vif1}
 use Rattle.memories.specs.Units.{quadwords, instructions, dataWords, codeBytes}
-use Rattle.memories.specs.Lengths.{Lent, lent}
+use Rattle.memories.specs.Lengths.{Lent, lent, LengthsFit}
+use Rattle.memories.proofs.LengthLaws.{fit-lengths}
 use Rattle.chain.specs.declared.Answer.{Answer}
+use Rattle.chain.specs.declared.Answer.the-variants.{Done, Allowance, Interrupt, Refused as RunRefused}
+use Rattle.chain.specs.declared.RunResult.{RunResult}
+use Rattle.chain.specs.declared.State.{State}
+use Rattle.chain.specs.Range.{entryRefusal}
+use Rattle.chain.specs.Run.{leftBy, runOf}
 use Rattle.sheet.specs.declared.MatchAnswer.{MatchAnswer}
 use Rattle.sheet.specs.declared.MatchAnswer.the-variants.{Matched, Refused as MatchRefused}
+use Rattle.sheet.specs.declared.StepsAnswer.{StepsAnswer}
+use Rattle.sheet.specs.declared.StepsAnswer.the-variants.{Steps, Refused as StepsRefused}
 use Rattle.sheet.specs.Records.{Record}
+use Rattle.sheet.specs.Reader.{Contents, valid, refused}
+use Rattle.sheet.specs.Editions.{contentsOf}
+use Rattle.sheet.specs.Results.{stepsIn, stepsOfSheet}
 use Rattle.sheet.specs.Meaning.{Plain}
 use Rattle.sheet.specs.Match.{Left, left, leftBeside, leading, matchOfSheet}
 use Rattle.sheet.proofs.ListLaws.{sets-front}
-use Rattle.conformance.specs.Demand.{recordsOf}
+use Rattle.conformance.specs.Demand.{recordsIn, recordsOf}
 use Rattle.compare.specs.declared.Comparison.{Comparison}
 use Rattle.compare.specs.declared.CompareAnswer.{CompareAnswer}
 use Rattle.compare.specs.declared.CompareAnswer.the-variants.{Compared, Refused as CompareRefused}
@@ -33,8 +44,9 @@ use Rattle.compare.specs.Equal.{InRange, Whole}
 use Rattle.compare.proofs.TestLaws.{never}
 use Rattle.compare.proofs.Verdict.{whole-compared}
 use Rattle.supplier.specs.declared.CheckAnswer.{CheckAnswer}
-use Rattle.supplier.specs.Check.{meantFrom, difference}
-use Rattle.supplier.specs.Inner.{entriesDifference, firstDifference, Beside, Judges, Judgement, judgement, judgedDone, judgedBy}
+use Rattle.supplier.specs.Check.{begun, runFromReset, meantFrom, difference, judged, Checked, checked, checkRan, checkRefused, checkOf}
+use Rattle.supplier.specs.Inner.{entriesDifference, firstDifference, Beside, Judges, Judgement, judgement, judgedDone, judgedBy, Runs}
+use Rattle.supplier.proofs.RunLaws.{lent-fits, left-fits}
 
 -- ---- copies
 
@@ -45,6 +57,11 @@ copied-on xs l i h = rw (add-one, drop-cons xs i 0 h)
 -- as many as there are
 pub all-copied : (xs l : List ℕ) → length xs ≡ length l → sets l 0 xs ≡ xs
 all-copied xs l e = sets-front l xs (omega arith) ∙ rw (drop-of-length-le l {i = length xs} (omega arith), append-nil xs)
+
+-- the same of words stored as a block's
+pub words-copied : (xs l : List ℕ) {m : List ℕ} → m ≡ withWords l 0 xs → length xs ≡ length l → m ≡ xs
+unfolding withWords
+words-copied xs l h e = h ∙ all-copied xs l e
 
 -- ---- the memories compared
 
@@ -127,3 +144,68 @@ module _ {sheet mem code log words bytes : List ℕ} {used : ℕ} (j : Judges sh
 pub by-answer : {a b : Answer} (m : Lent) (used : ℕ) (words bytes : List ℕ) (rs : List Record) → a ≡ b → {x : Judgement} → x ≡ judgedBy b m used words bytes rs
     → x ≡ judgedBy a m used words bytes rs
 by-answer m used words bytes rs e h = rw e h
+
+-- ---- a valid sheet
+
+judged-answer : (a : Answer) (m : Lent) (used : ℕ) (words bytes : List ℕ) (rs : List Record)
+    → judgedBy a m used words bytes rs .answer ≡ judged a m used (meantFrom rs words bytes)
+judged-answer Done m used words bytes rs = refl
+judged-answer Allowance m used words bytes rs = refl
+judged-answer Interrupt m used words bytes rs = refl
+judged-answer (RunRefused n) m used words bytes rs = refl
+
+module _ {sheet main : List ℕ} {m : Lent} (w : Runs sheet main m) (allowance : ℕ) {s : State} (b : s ≡ begun) {r : RunResult} {m′ : Lent}
+    (e : leftBy r m′ ≡ runOf main allowance s m) {words bytes : List ℕ} (ew : words ≡ m .mem) (eb : bytes ≡ m .code) where
+  ran-is : leftBy r m′ ≡ runFromReset main allowance m
+  ran-is = e ∙ rw b
+
+  -- what is given to the verdict
+  pub valid-judges : Judges sheet (m′ .mem) (m′ .code) (m′ .log) (r .state .used) words bytes
+  valid-judges =
+      let f = lent-fits main m (w .entered) in
+      let g : LengthsFit Vif1 m′ (r .state .used) = rw (← ran-is) at (left-fits main m (w .entered) allowance) in
+      record {
+        sizes = record { mem-size = g .long; code-size = g .wide; words-size = rw ew (f .long); bytes-size = rw eb (f .wide) };
+        accepted = w .accepted;
+        lengths = fit-lengths Vif1 (lent words bytes (m′ .log)) (r .state .used) (record { long = rw ew (f .long); wide = rw eb (f .wide); logged = g .logged });
+      }
+
+  pub valid-checked : {a : CheckAnswer} {words′ bytes′ : List ℕ} → judgement a words′ bytes′ ≡ judgedBy (r .answer) m′ (r .state .used) words bytes (recordsOf sheet)
+      → checked a (r .state .used) (r .counts) m′ ≡ checkRan (runFromReset main allowance m) (meantFrom (recordsOf sheet) (m .mem) (m .code))
+  valid-checked j =
+      let q = ap (λ (x : Judgement). x .answer) j ∙ judged-answer (r .answer) m′ (r .state .used) words bytes (recordsOf sheet) in
+      rw (← ran-is, ← ew, ← eb, q)
+
+-- ---- refusals
+
+-- the entry refusals come first
+pub check-entry : (sheet main : List ℕ) (m : Lent) (allowance : ℕ) {n : ℕ} {s : State} → s ≡ begun → n ≡ entryRefusal main m s → (n ≡ 0 → ⊥)
+    → checkRefused n 0 m ≡ checkOf sheet main m allowance
+unfolding checkOf if
+check-entry sheet main m allowance {n} b e z = let q : n ≡ entryRefusal main m begun = e ∙ rw b in rw (← q, ne-eqb n 0 z)
+
+steps-refused : (c : Contents) {a : StepsAnswer} {n offset : ℕ} → a ≡ stepsIn c → a ≡ StepsRefused n offset → c ≡ refused n offset
+steps-refused (valid rs) e q = absurd (let z : _≡_ {A = ℕ} 0 1 = cc in omega arith)
+steps-refused (refused n offset) e q = cc
+
+steps-valid : (c : Contents) {a : StepsAnswer} {n : ℕ} → a ≡ stepsIn c → a ≡ Steps n → c ≡ valid (recordsIn c)
+steps-valid (valid rs) e q = refl
+steps-valid (refused n offset) e q = absurd (let z : _≡_ {A = ℕ} 0 1 = cc in omega arith)
+
+module _ (sheet main : List ℕ) (m : Lent) (allowance : ℕ) {n : ℕ} {s : State} (b : s ≡ begun) (e : n ≡ entryRefusal main m s) (z : n ≡ 0) {a : StepsAnswer} (g : a ≡ stepsOfSheet sheet) where
+  entry-passed : entryRefusal main m begun ≡ 0
+  entry-passed = rw (← b) (sym e ∙ z)
+
+  -- then the sheet's
+  pub check-sheet : {k offset : ℕ} → a ≡ StepsRefused k offset → checkRefused k offset m ≡ checkOf sheet main m allowance
+  unfolding checkOf if
+  check-sheet q = rw (entry-passed, steps-refused (contentsOf sheet) g q)
+
+  pub check-runs : {k : ℕ} → a ≡ Steps k → Runs sheet main m
+  unfolding recordsOf
+  check-runs q = record { accepted = steps-valid (contentsOf sheet) g q; entered = entry-passed }
+
+  pub check-ran : {k : ℕ} → a ≡ Steps k → {x : Checked} → x ≡ checkRan (runFromReset main allowance m) (meantFrom (recordsOf sheet) (m .mem) (m .code))
+      → x ≡ checkOf sheet main m allowance
+  unfolding checkOf if
+  check-ran q h = rw (entry-passed, check-runs q .accepted) h

@@ -1,3 +1,4 @@
 -- Laws of the check.
 pub mod EntryLaws
+pub mod RunLaws
 pub mod CheckLaws

@@ -31,7 +31,7 @@ loop-again c =
 returns : tie.Need-returns Inv-loop μ-loop
 returns c =
     let i = c .before .loop .inv in
-    rw (drop-of-length-le _ (c .loop-test .left)) at (i .same) ∙ all-copied _ _ (c .before .before .before .before .pre)
+    rw (drop-of-length-le _ (c .loop-test .left)) at (i .same) ∙ all-copied _ _ (c .before .before .pre)
 
 pub copy-bytes-spec : {M : Type 1} → statement M
 copy-bytes-spec =
