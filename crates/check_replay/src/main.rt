@@ -50,13 +50,12 @@ fn run_case(
     at: usize,
     header: &[u8],
     sheet: &[u8],
-    main: &mut [u8],
+    main: &[u8],
     data: &mut [u32],
     code: &mut [u8],
     log: &mut [u64],
 ) -> Ended {
     let allowance = joined(word_at(header, 36), word_at(header, 40));
-    clear(main, length_at(header, 3) * 4);
     fill_memories(
         data,
         code,
@@ -75,7 +74,7 @@ fn take_memories(
     at: usize,
     header: &[u8],
     sheet: &[u8],
-    main: &mut [u8],
+    main: &[u8],
     data: &mut [u32],
     code: &mut [u8],
     log: &mut [u64],
@@ -123,16 +122,8 @@ fn take_case(
     if main.len() < m {
         return Ended { at, whole: false };
     }
-    take_memories(
-        out,
-        at,
-        header,
-        &sheet[..s],
-        &mut main[..m],
-        data,
-        code,
-        log,
-    )
+    clear(&mut main[..m], length_at(header, 3) * 4);
+    take_memories(out, at, header, &sheet[..s], &main[..m], data, code, log)
 }
 
 // Reads the sheet and the words of main memory after a header, if all of them are there.

@@ -4,10 +4,10 @@ use mathlib.Core.Bool.{Bool, true, false, _&&_}
 use mathlib.Core.List.{List, [], _∷_}
 use Prim.Native.Nat.{ℕ, zero, suc, _<_, _≤_}
 use native.Mathlib.Omega.{arith}
-use borrow.Author.Tests.{eq-eqb, eqb-true}
+use borrow.Author.Tests.{eq-eqb, eqb-true, leb-true, leb-false}
 use lib.ListN.{length, take, drop}
-use lib.Seq.{take-all}
-use lib.Dec.{eqb}
+use lib.Seq.{take-all, take-take}
+use lib.Dec.{eqb, leb}
 use Rattle.fields.specs.Fields.{if}
 use Rattle.fields.proofs.ChoiceLaws.{and-left, and-right}
 use Rattle.gif.specs.declared.Entry.{Entry}
@@ -66,3 +66,40 @@ leading-all : (es : List Entry) → leading es es ≡ length es
 unfolding leading if
 leading-all [] = refl
 leading-all (e ∷ es) = rw (entry-same e, leading-all es)
+
+-- lists that begin the same begin the same as far as any part of that
+take-below : (k n : ℕ) (es fs : List Entry) → k ≤ n → take n es ≡ take n fs → take k es ≡ take k fs
+take-below k n es fs l e = sym (take-take k n es l) ∙ ap (take k) e ∙ take-take k n fs l
+
+-- ---- what the first entry that differs says
+
+module _ (es fs : List Entry) where
+  -- an entry that both have
+  pub entry-first : leading fs es < length es → leading fs es < length fs → FirstEntry es fs (leading fs es)
+  entry-first l r =
+      let w = leads fs es in
+      record { inside = (l, r); before = sym (w .before); unequal = λ e. w .unequal r l (sym e) }
+
+  module _ (h : (leading fs es < length es) × (leading fs es < length fs) → ⊥) where
+    -- both go on the same as far as both go
+    as-far : (k : ℕ) → k ≤ length es → k ≤ length fs → take k es ≡ take k fs
+    as-far k l r =
+        let w = leads fs es in
+        let a = w .left in
+        let b = w .right in
+        let m : k ≤ leading fs es = by-length (leb k (leading fs es)) refl in
+        take-below k (leading fs es) es fs m (sym (w .before))
+      where
+        by-length : (b : Bool) → leb k (leading fs es) ≡ b → k ≤ leading fs es
+        by-length true q = leb-true k (leading fs es) q
+        by-length false q = let z = leb-false k (leading fs es) q in absurd (h (omega arith, omega arith))
+
+    pub other-number : (length es ≡ length fs → ⊥) → OtherNumber es fs
+    other-number n = record { number = n; before = as-far }
+
+    pub entries-same : length es ≡ length fs → es ≡ fs
+    entries-same n = sym (take-all (length es) es (omega arith)) ∙ as-far (length es) (omega arith) (omega arith) ∙ take-all (length es) fs (omega arith)
+
+-- equal lists are the same to their end
+pub same-entries : (es fs : List Entry) → es ≡ fs → leading fs es ≡ length es
+same-entries es fs e = rw e (leading-all fs)

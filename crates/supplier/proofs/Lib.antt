@@ -2,3 +2,4 @@
 pub mod EntryLaws
 pub mod RunLaws
 pub mod CheckLaws
+pub mod Theorems

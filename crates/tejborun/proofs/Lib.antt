@@ -5,4 +5,5 @@ pub mod RunLaws
 pub mod PlayLaws
 pub mod BoardLaws
 pub mod ReasonLaws
+pub mod CheckLaws
 pub mod NoState

@@ -5,3 +5,4 @@ pub mod Runs
 pub mod Play
 pub mod Boards
 pub mod Reasons
+pub mod Checks

@@ -1,6 +1,7 @@
 // The functions that C calls (host/tejborun.h). What each one means is said by the definitions of specs/.
 mod blocks;
 mod boards;
+mod checks;
 mod play;
 mod reasons;
 mod results;
@@ -8,6 +9,7 @@ mod runs;
 mod sheets;
 
 pub use boards::tejborun_compare;
+pub use checks::tejborun_check;
 pub use play::tejborun_build_and_run;
 pub use reasons::tejborun_why;
 pub use runs::tejborun_reset;

@@ -32,6 +32,17 @@ pub(crate) fn put_four(result: &mut [u64], a: u64, b: u64, c: u64, d: u64)
     result[3] = d;
 }
 
+pub(crate) fn put_five(result: &mut [u64], a: u64, b: u64, c: u64, d: u64, e: u64)
+    requires { ⌜ 5 ≤ length (now result) ⌝ }
+    ensures { λ _. ⌜ now (result .exit) ≡ written (a ∷ b ∷ c ∷ d ∷ e ∷ []) (now (result .entry)) ⌝ }
+{
+    result[0] = a;
+    result[1] = b;
+    result[2] = c;
+    result[3] = d;
+    result[4] = e;
+}
+
 pub(crate) fn put_ten(
     result: &mut [u64],
     a: u64,
