@@ -3,3 +3,4 @@ pub mod EntryLaws
 pub mod RunLaws
 pub mod CheckLaws
 pub mod Theorems
+pub mod Builder

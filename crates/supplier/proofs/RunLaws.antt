@@ -17,6 +17,7 @@ use Rattle.memories.specs.declared.VifUnit.the-variants.{Vif1}
 use Rattle.memories.specs.Lengths.{Lent, LengthsFit}
 use Rattle.vif.specs.declared.VifAnswer.{VifAnswer}
 use Rattle.vif.specs.declared.VifAnswer.the-variants.{Word, Quadword, Refused as VifRefused}
+use Rattle.chain.specs.declared.StartAnswer.the-variants.{Started}
 use Rattle.chain.specs.declared.StartResult.{StartResult}
 use Rattle.chain.specs.declared.StepResult.{StepResult}
 use Rattle.chain.specs.declared.TagWords.{TagWords}
@@ -94,9 +95,13 @@ stops-keep main n x o (at-refusal c e l p h b) = along p
 
 -- ---- from reset
 
+pub reset-starts : startOf resetState 1 0 false ≡ startResult Started (startedFrom resetState 1 0 false)
+unfolding startInRange channelInRange
+reset-starts = start-accepted resetState 0 reset-ranged refl
+
 begun-made : begun ≡ startedFrom resetState 1 0 false
-unfolding begun startInRange channelInRange
-begun-made = ap (λ (r : StartResult). r .state) (start-accepted resetState 0 reset-ranged refl)
+unfolding begun
+begun-made = ap (λ (r : StartResult). r .state) reset-starts
 
 pub begun-channel : begun .channel ≡ 1
 begun-channel = ap (λ (s : State). s .channel) begun-made

@@ -209,3 +209,9 @@ module _ (sheet main : List ℕ) (m : Lent) (allowance : ℕ) where
 
   pub accepted-exactly : (checkOf sheet main m allowance .answer ≡ Accepted) ↔ Matches sheet main m allowance
   accepted-exactly = (λ e. says-accepted first-difference e, matches-accepted)
+
+  -- what is accepted is told with the run's counts and entries used
+  pub matches-run : Matches sheet main m allowance
+      → (checkOf sheet main m allowance .counts .steps ≡ run .counts .steps) × (checkOf sheet main m allowance .used ≡ run .after .state .used)
+  unfolding checkOf if
+  matches-run w = rw (done-entered main allowance begun m (w .ended), w .accepted) (refl, refl)
