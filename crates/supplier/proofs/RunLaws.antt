@@ -1,20 +1,22 @@
 -- A run from reset: it is VIF1's from the first step to the last, so what it leaves has the lengths that it was lent.
 use mathlib.Core.Path.{_≡_, refl, sym, ap, _∙_}
-use mathlib.Core.Bool.{Bool, true, false}
+use mathlib.Core.Bool.{Bool, true, false, not}
 use mathlib.Core.List.{List}
 use Prim.Native.Nat.{ℕ}
-use borrow.Author.Tests.{eqb-true, eqb-false}
+use borrow.Author.Tests.{eqb-true, not-false}
+use lib.ListN.{length}
 use lib.Dec.{eqb}
 use Rattle.fields.specs.declared.Counts.{Counts}
 use Rattle.fields.specs.Fields.{if}
 use Rattle.fields.specs.Memory.{quadwordAt}
-use Rattle.fields.proofs.ChoiceLaws.{if-ind}
+use Rattle.fields.specs.Refusals.{mainLength}
+use Rattle.fields.proofs.ChoiceLaws.{if-ind, if-ind-by}
 use Rattle.gif.specs.declared.GifAnswer.{GifAnswer}
 use Rattle.gif.specs.declared.GifAnswer.the-variants.{Taken, Refused as GifRefused}
 use Rattle.gif.specs.declared.GifPath.the-variants.{Three}
 use Rattle.gif.specs.Step.{gifStep}
 use Rattle.memories.specs.declared.VifUnit.the-variants.{Vif1}
-use Rattle.memories.specs.Lengths.{Lent, LengthsFit}
+use Rattle.memories.specs.Lengths.{Lent, LengthsFit, lengthsRefusal}
 use Rattle.vif.specs.declared.VifAnswer.{VifAnswer}
 use Rattle.vif.specs.declared.VifAnswer.the-variants.{Word, Quadword, Refused as VifRefused}
 use Rattle.chain.specs.declared.StartAnswer.the-variants.{Started}
@@ -25,16 +27,17 @@ use Rattle.chain.specs.declared.TagWords.the-variants.{Nothing as NoTagWords, F
 use Rattle.chain.specs.declared.Payload.{Payload}
 use Rattle.chain.specs.declared.Payload.the-variants.{Nothing as NoPayload, Words}
 use Rattle.chain.specs.declared.State.{State}
-use Rattle.chain.specs.Range.{unitOf, startInRange, channelInRange, entryRefusal}
+use Rattle.chain.specs.Range.{unitOf, mainRefused, startInRange, channelInRange, stackInRange, tagsInRange, payloadInRange, tagsInside, payloadInside, entryRefusal}
 use Rattle.chain.specs.Start.{resetState, startResult, startedFrom, startOf}
 use Rattle.chain.specs.Tags.{tagState, tagRead, tagStep}
 use Rattle.chain.specs.Pending.{tagsAfter, payloadAfter}
 use Rattle.chain.specs.Step.{Machine, machine, Stepped, steppedBy, fedUnit, afterVif, vifTook, vifGiven, afterGif, gifGiven, payloadStep, payloadOrTag, pendingOrTag, stepOf}
 use Rattle.chain.specs.Run.{Ran, stepsOf, runOf}
 use Rattle.chain.specs.Stops.{stepFrom, Reaches, here, step, Stops, at-end, at-allowance, at-interrupt, at-refusal}
-use Rattle.chain.proofs.ReadyLaws.{facts-of}
+use Rattle.chain.proofs.ReadyLaws.{Fields, fields-of, state-of, facts-of}
 use Rattle.chain.proofs.RunLaws.{run-entered}
 use Rattle.chain.proofs.Theorems.{run-stops, run-accepted}
+use Rattle.conformance.specs.Inner.{memoriesRefusal}
 use Rattle.conformance.proofs.StartLaws.{start-accepted}
 use Rattle.conformance.proofs.NotEmpty.{reset-ranged, reset-used}
 use Rattle.supplier.specs.Check.{begun, runFromReset}
@@ -103,11 +106,25 @@ begun-made : begun ≡ startedFrom resetState 1 0 false
 unfolding begun
 begun-made = ap (λ (r : StartResult). r .state) reset-starts
 
+begun-fields : Fields (startedFrom resetState 1 0 false)
+unfolding startInRange channelInRange stackInRange tagsInRange payloadInRange
+begun-fields =
+    let f = fields-of resetState reset-ranged in
+    record { start = refl; stack = refl; tags = refl; payload = refl; unit0 = f .unit0; unit1 = f .unit1; path2 = f .path2; path3 = f .path3 }
+
 pub begun-channel : begun .channel ≡ 1
 begun-channel = ap (λ (s : State). s .channel) begun-made
 
 pub begun-used : begun .used ≡ 0
 begun-used = ap (λ (s : State). s .used) begun-made ∙ reset-used
+
+-- "entry refusals": of a run from reset 1 to 4 alone, since its state is in range and nothing is pending
+pub lengths-alone : (main : List ℕ) (m : Lent) → entryRefusal main m begun ≡ memoriesRefusal main m 0
+unfolding entryRefusal memoriesRefusal unitOf tagsInside payloadInside if
+lengths-alone main m =
+    rw (begun-made, state-of _ begun-fields, reset-used)
+    (if-ind-by (λ (n : ℕ). if (mainRefused (length main)) mainLength n ≡ if (mainRefused (length main)) mainLength (lengthsRefusal Vif1 m 0)) (not (eqb (lengthsRefusal Vif1 m 0) 0))
+    (λ t. refl) (λ t. rw (eqb-true (lengthsRefusal Vif1 m 0) 0 (not-false _ t))))
 
 module _ (main : List ℕ) (m : Lent) (h : entryRefusal main m begun ≡ 0) where
   -- what the run gets
