@@ -15,6 +15,29 @@ pub struct Results {
 }
 
 impl Results {
+    /// The results of a file's cases up to a damaged one; `write` adds that of a case.
+    pub fn of<C>(
+        file: &[u8],
+        first_case: impl Fn(&[u8]) -> Option<(C, usize)>,
+        mut write: impl FnMut(usize, C, &mut Vec<u8>),
+    ) -> Results {
+        let mut results = Results::default();
+        let mut rest = file;
+        while !rest.is_empty() {
+            let index = results.starts.len();
+            let Some((case, length)) = first_case(rest) else {
+                results.damage = Some(results.bytes.len());
+                let line = format!("damaged case {index}\n");
+                results.bytes.extend_from_slice(line.as_bytes());
+                return results;
+            };
+            results.starts.push(results.bytes.len());
+            write(index, case, &mut results.bytes);
+            rest = &rest[length..];
+        }
+        results
+    }
+
     /// What is wrong with our own result, if anything; cases are counted from `first`.
     pub fn sound(&self, first: usize) -> Result<(), String> {
         match &self.broken {

@@ -129,23 +129,11 @@ pub fn plain_results(file: &[u8]) -> Vec<u8> {
 }
 
 fn all_results(file: &[u8], mut watch: impl FnMut(usize, &Case, &Outcome)) -> Results {
-    let mut results = Results::default();
-    let mut rest = file;
-    while !rest.is_empty() {
-        let index = results.starts.len();
-        let Some((case, length)) = first_case(rest) else {
-            results.damage = Some(results.bytes.len());
-            let line = format!("damaged case {index}\n");
-            results.bytes.extend_from_slice(line.as_bytes());
-            return results;
-        };
-        results.starts.push(results.bytes.len());
+    Results::of(file, first_case, |index, case, out| {
         let outcome = Outcome::new(&case);
-        outcome.write(&mut results.bytes);
+        outcome.write(out);
         watch(index, &case, &outcome);
-        rest = &rest[length..];
-    }
-    results
+    })
 }
 
 /// Where each case of a file starts, a damaged last one too.

@@ -95,11 +95,31 @@ pub struct Filled {
 
 impl Filled {
     pub fn new(case: &Case) -> Filled {
-        let memories = UnitMemories::new(case.fill, case.data_length, case.code_length);
+        Filled::of(
+            case.fill,
+            case.data_length,
+            case.code_length,
+            case.log_length,
+        )
+    }
+
+    /// By their lengths, as a case gives them.
+    pub fn of(fill: u64, data: u32, code: u32, log: u32) -> Filled {
+        let memories = UnitMemories::new(fill, data, code);
         Filled {
             data: memories.data,
             code: memories.code,
-            log: filled::log(case.fill, case.log_length),
+            log: filled::log(fill, log),
+        }
+    }
+
+    /// Lent to a run, beside a main memory.
+    pub fn lend<'a>(&'a mut self, main: &'a [u8]) -> chain::Memories<'a> {
+        chain::Memories {
+            main,
+            data: &mut self.data,
+            code: &mut self.code,
+            log: &mut self.log,
         }
     }
 
@@ -231,7 +251,7 @@ fn build_and_run(case: &Case) -> Ran {
     match start(case, &mut ran) {
         Err(refusal) => ran.answer = Err(refusal),
         Ok(mut state) => {
-            let mut memories = lend(&mut ran.memories, &ran.main);
+            let mut memories = ran.memories.lend(&ran.main);
             let stop = chain::run(&mut state, &mut memories, case.allowance, |_, _, _| {});
             ran.answer = Ok(stop.answer);
             ran.steps = stop.steps;
@@ -242,18 +262,9 @@ fn build_and_run(case: &Case) -> Ran {
     ran
 }
 
-fn lend<'a>(memories: &'a mut Filled, main: &'a [u8]) -> chain::Memories<'a> {
-    chain::Memories {
-        main,
-        data: &mut memories.data,
-        code: &mut memories.code,
-        log: &mut memories.log,
-    }
-}
-
 /// Builds the chain in main memory and starts it. A refusal changes nothing.
 fn start(case: &Case, ran: &mut Ran) -> Result<State, Refusal> {
-    let memories = lend(&mut ran.memories, &ran.main);
+    let memories = ran.memories.lend(&ran.main);
     chain::check_lengths(Model::Vif1, &memories, case.used()).map_err(|refusal| (refusal, 0))?;
     let mut state = read_state(&case.state).ok_or((refusals::RANGE, 0))?;
     chain::start(&mut state, 1, case.address, false).map_err(|refusal| (refusal, 0))?;
@@ -302,25 +313,16 @@ pub fn first_case(bytes: &[u8]) -> Option<(Case, usize)> {
 
 /// The results of a case file.
 pub fn results(file: &[u8], counts: &mut Counts) -> Results {
-    let mut results = Results::default();
-    let mut rest = file;
-    while !rest.is_empty() {
-        let index = results.starts.len();
-        let Some((case, length)) = first_case(rest) else {
-            results.damage = Some(results.bytes.len());
-            let line = format!("damaged case {index}\n");
-            results.bytes.extend_from_slice(line.as_bytes());
-            return results;
-        };
-        results.starts.push(results.bytes.len());
+    let mut checked = None;
+    let mut results = Results::of(file, first_case, |index, case, out| {
         let outcome = Outcome::new(&case);
-        outcome.write(&mut results.bytes);
-        if results.broken.is_none() {
-            results.broken = broken(&case, &outcome).map(|told| (index, told));
+        outcome.write(out);
+        if checked.is_none() {
+            checked = broken(&case, &outcome).map(|told| (index, told));
         }
         counts.note(&case, &outcome);
-        rest = &rest[length..];
-    }
+    });
+    results.broken = checked;
     results
 }
 
