@@ -22,6 +22,15 @@ mod capture_points;
 mod case_results;
 mod chain;
 mod chain_time;
+mod check;
+mod check_cases;
+mod check_chains;
+mod check_compare;
+mod check_counts;
+mod check_generate;
+mod check_points;
+mod check_sentences;
+mod check_sheets;
 mod compare;
 mod filled;
 mod gif;
@@ -119,6 +128,11 @@ usage:
   second compare-salvage PROGRAM SEED[,SEED..] COUNT
   second bench-salvage PROGRAM
   second time-salvage < CASES > RESULTS
+  second check [--counts] < CASES > RESULTS
+  second generate-check SEED COUNT > CASES
+  second points-check > CASES
+  second stored-check > CASES
+  second compare-check PROGRAM SEED[,SEED..] COUNT
 PROGRAM is the path of an executable; one argument may hold a path and its arguments.
 ";
 
@@ -145,6 +159,7 @@ fn command(arguments: &[&str]) -> Option<Result<(), String>> {
         .or_else(|| capture_command(arguments))
         .or_else(|| sheet_command(arguments))
         .or_else(|| salvage_command(arguments))
+        .or_else(|| check_command(arguments))
 }
 
 fn gif_command(arguments: &[&str]) -> Option<Result<(), String>> {
@@ -272,6 +287,25 @@ fn salvage_command(arguments: &[&str]) -> Option<Result<(), String>> {
     Some(done)
 }
 
+fn check_command(arguments: &[&str]) -> Option<Result<(), String>> {
+    let done = match arguments {
+        ["check"] => check_results(false),
+        ["check", "--counts"] => check_results(true),
+        ["generate-check", seed, count] => write(&check_generate::generate(
+            seed.parse().ok()?,
+            count.parse().ok()?,
+        )),
+        ["points-check"] => write(&check_points::file()),
+        ["stored-check"] => write(&check_points::stored()),
+        ["compare-check", program, seeds, count] => {
+            let program = compare::Program::parse(program);
+            check_compare::compare(&program, &compare::seeds(seeds)?, count.parse().ok()?)
+        }
+        _ => return None,
+    };
+    Some(done)
+}
+
 /// The points under a name; none for another name.
 fn gif_point_cases(name: &str) -> Option<Vec<gif_cases::Case>> {
     match name {
@@ -356,6 +390,12 @@ fn sheet_results(with_counts: bool) -> Result<(), String> {
 fn salvage_results(with_counts: bool) -> Result<(), String> {
     let mut counts = salvage_counts::Counts::default();
     let results = salvage_cases::results(&read()?, &mut counts);
+    tell_results(&results, with_counts.then(|| counts.rows()))
+}
+
+fn check_results(with_counts: bool) -> Result<(), String> {
+    let mut counts = check_counts::Counts::default();
+    let results = check_cases::results(&read()?, &mut counts);
     tell_results(&results, with_counts.then(|| counts.rows()))
 }
 
