@@ -723,7 +723,7 @@ static void give_main(struct bytes *in, size_t bytes) {
 /* ---- The entry points ---- */
 
 /* The numbers of a result: the steps first, the packets closed last. */
-enum { RUN_RESULT = 2, BUILD_AND_RUN_RESULT = 3, WHY_RESULT = 4 };
+enum { RUN_RESULT = 2, BUILD_AND_RUN_RESULT = 3, WHY_RESULT = 4, CHECK_RESULT = TEJBORUN_CHECK_NUMBERS };
 
 static void count_run(uint32_t answer, size_t numbers) {
     if (NUMBERS(RESULT) < numbers || WORDS(BLOCK) != TEJBORUN_BLOCK_WORDS || answer == TEJBORUN_SHORT) return;
@@ -1083,6 +1083,91 @@ static void fuzz_build_and_run(struct bytes *in) {
     count_run(proved, BUILD_AND_RUN_RESULT);
 }
 
+static uint64_t verdicts[TEJBORUN_CHECK_ENTRIES + 1][ANSWERS];
+
+/* Changes to the chain: a bit, a word of zeros, or a word raw. */
+static void change_chain(struct bytes *in) {
+    uint8_t *main = buffers[MAIN].given;
+    for (uint32_t count = take8(in) % 4; count > 0; count--) {
+        uint32_t how = take8(in), at = take32(in), word = take32(in);
+        if (BYTES(MAIN) < 4) return;
+        /* Often near the start. */
+        uint32_t words = (uint32_t)WORDS(MAIN), place = how < 128 ? at % (words < 16 ? words : 16) : at % words;
+        uint8_t *to = main + 4 * place;
+        if (how % 4 < 2) to[word % 4] ^= (uint8_t)(1 << (word >> 8) % 8);
+        else if (how % 4 == 2) memset(to, 0, 4);
+        else memcpy(to, &word, 4);
+    }
+}
+
+/* The builder's chain of the sheet, in a main memory that it fits into; with changes. */
+static void give_built(struct bytes *in) {
+    static uint8_t output[TEJBORUN_CHAIN_BYTES + 64];
+    size_t built_bytes = judge_build(buffers[SHEET].given, BYTES(SHEET), output, sizeof output);
+    if (built_bytes % 16 != 0 || built_bytes > TEJBORUN_MAIN_BYTES) built_bytes = 0;
+    size_t bytes = built_bytes == 0 ? 64 : built_bytes;
+    uint32_t how = take8(in);
+    if (how >= 224 && how < 240 && bytes > 16) bytes -= 16 * (1 + how % 16 % (bytes / 16 - 1));
+    if (how >= 240) bytes = spoiled(in, bytes);
+    uint8_t *main = give(MAIN, bytes);
+    if (bytes > 0) memset(main, 0, bytes);
+    if (bytes > 0 && built_bytes > 0) memcpy(main, output, bytes < built_bytes ? bytes : built_bytes);
+    change_chain(in);
+}
+
+static uint32_t judged_check(uint64_t allowance) {
+    return judge_check(JUDGED(SHEET), BYTES(SHEET), JUDGED(MAIN), BYTES(MAIN), JUDGED(DATA), WORDS(DATA), JUDGED(CODE), BYTES(CODE), JUDGED(LOG), NUMBERS(LOG),
+                       allowance, JUDGED(RESULT), NUMBERS(RESULT));
+}
+
+/* The allowance of a check. A chain may never end: a large allowance is given only where the judge came to an end with a smaller one. */
+static uint64_t check_allowance(struct bytes *in) {
+    uint32_t how = take8(in);
+    uint64_t steps[2] = {0, 0};
+    judge_steps(buffers[SHEET].given, BYTES(SHEET), steps, 2);
+    if (how < 48) return take16(in);
+    if (how < 96) return steps[0] + how % 3 - 1;
+    uint64_t limit = steps[0] > 20000 ? steps[0] : 20000;
+    lend_all();
+    if (NUMBERS(RESULT) < CHECK_RESULT || judged_check(limit) != TEJBORUN_CHECK_ANSWER) return UINT64_MAX;
+    return *(const uint64_t *)JUDGED(RESULT) == TEJBORUN_ALLOWANCE ? limit : UINT64_MAX;
+}
+
+/* A sheet, and the builder's chain of it with changes; sometimes another chain. */
+static void fuzz_check(struct bytes *in) {
+    struct lengths n = lengths_of(0, log_numbers(in), CHECK_RESULT);
+    spoil(in, &n);
+    uint32_t how = take8(in), cut = take16(in);
+    uint8_t chain_of[40];
+    for (size_t i = 0; i < sizeof chain_of; i++) chain_of[i] = (uint8_t)take8(in);
+    struct bytes order = {chain_of, sizeof chain_of};
+    give_memories(in, &n);
+    give_result(n.result);
+    struct bytes records = {in->at, how < 192 || cut > in->left ? in->left : cut};
+    in->at += records.left;
+    in->left -= records.left;
+    give_sheet(&records);
+    for_vif0 = false;
+    if (how < 192) give_built(&order);
+    else give_main(in, main_bytes(&order));
+    uint64_t allowance = check_allowance(&order);
+    lend_all();
+    uint32_t proved = tejborun_check(PROVED(SHEET), BYTES(SHEET), PROVED(MAIN), BYTES(MAIN), PROVED(DATA), WORDS(DATA), PROVED(CODE), BYTES(CODE), PROVED(LOG),
+                                     NUMBERS(LOG), allowance, PROVED(RESULT), NUMBERS(RESULT));
+    agreed(proved, judged_check(allowance));
+    only_read(SHEET);
+    only_read(MAIN);
+    if (proved == TEJBORUN_SHORT) return only_read(RESULT);
+    const uint64_t *result = PROVED(RESULT);
+    bool named = proved == TEJBORUN_CHECK_REFUSED || proved == TEJBORUN_CHECK_ANSWER;
+    if (named && result[0] >= ANSWERS) stop("an answer that the header does not have");
+    verdicts[proved][named ? result[0] : 0]++;
+    completed += result[3];
+    most(&longest_run, result[3]);
+    show_kind(18, proved, named ? (uint32_t)result[0] : magnitude(result[0]), magnitude(result[3]));
+    show_kind(19, proved, magnitude(result[1]), magnitude(result[2]) * 64 + magnitude(result[4]));
+}
+
 /* A change to a buffer, where it has the place. */
 static void change(struct bytes *in, int which) {
     uint8_t *to = buffers[which].given;
@@ -1159,7 +1244,7 @@ static void fuzz_compare(struct bytes *in) {
 
 /* ---- The program ---- */
 
-enum { entry_build, entry_steps, entry_meaning, entry_salvage, entry_start, entry_set, entry_run, entry_why, entry_build_and_run, entry_compare };
+enum { entry_build, entry_steps, entry_meaning, entry_salvage, entry_start, entry_set, entry_run, entry_why, entry_build_and_run, entry_check, entry_compare };
 
 static const struct {
     const char *name, *longest;
@@ -1174,6 +1259,7 @@ static const struct {
     {"run", "longest run", fuzz_run},
     {"why", "", fuzz_why},
     {"build_and_run", "longest run", fuzz_build_and_run},
+    {"check", "longest run", fuzz_check},
     {"compare", "most differences", fuzz_compare},
 };
 
@@ -1185,8 +1271,11 @@ static void print_counters(void) {
     if (longest_sheet > 0) fprintf(stderr, " longest sheet %" PRIu64 " bytes,", longest_sheet);
     if (completed > 0) fprintf(stderr, " steps completed %" PRIu64 ", packets closed %" PRIu64 ",", completed, closed);
     for (int i = 0; i < ANSWERS; i++)
-        for (unsigned kind = TEJBORUN_WHY_ENTRY; kind <= TEJBORUN_WHY_STEP; kind++)
+        for (uint32_t kind = TEJBORUN_WHY_ENTRY; kind <= TEJBORUN_WHY_STEP; kind++)
             if (refusals_told[kind][i] > 0) fprintf(stderr, " %s %d: %" PRIu64 ",", kind == TEJBORUN_WHY_STEP ? "step" : "entry", i, refusals_told[kind][i]);
+    for (uint32_t kind = 0; kind <= TEJBORUN_CHECK_ENTRIES; kind++)
+        for (int i = 0; i < ANSWERS; i++)
+            if (verdicts[kind][i] > 0) fprintf(stderr, " kind %" PRIu32 ", %d: %" PRIu64 ",", kind, i, verdicts[kind][i]);
     if (*entries[ENTRY].longest) fprintf(stderr, " %s %" PRIu64 ",", entries[ENTRY].longest, longest_run);
     fprintf(stderr, " nothing differs\n");
 }

@@ -6,6 +6,8 @@
 
 #[path = "../../../second/src/chain.rs"]
 mod chain;
+#[path = "../../../second/src/check.rs"]
+mod check;
 #[path = "../../../second/src/gif.rs"]
 mod gif;
 #[path = "../../../second/src/log.rs"]
@@ -45,6 +47,8 @@ use std::slice::{from_raw_parts, from_raw_parts_mut};
 
 const SHORT: u32 = 60;
 const REFUSED: u32 = 100;
+/// The numbers of a check's result.
+const CHECKED: usize = 5;
 
 unsafe fn view<'a, T>(start: *const T, count: usize) -> &'a [T] {
     if count == 0 {
@@ -357,6 +361,44 @@ pub unsafe extern "C" fn judge_build_and_run(
     let stop = run(&mut memories, block, allowance);
     (result[0], result[2]) = (stop.steps, stop.packets);
     stop.answer
+}
+
+#[no_mangle]
+pub unsafe extern "C" fn judge_check(
+    sheet: *const u8,
+    sheet_bytes: usize,
+    main: *const u8,
+    main_bytes: usize,
+    data: *mut u32,
+    data_words: usize,
+    code: *mut u8,
+    code_bytes: usize,
+    log: *mut u64,
+    log_numbers: usize,
+    allowance: u64,
+    result: *mut u64,
+    result_numbers: usize,
+) -> u32 {
+    if result_numbers < CHECKED {
+        return SHORT;
+    }
+    let mut memories = Memories {
+        main: view(main, main_bytes),
+        data: lent(data, data_words),
+        code: lent(code, code_bytes),
+        log: lent(log, log_numbers),
+    };
+    let checked = check::check(view(sheet, sheet_bytes), &mut memories, allowance);
+    let verdict = checked.verdict;
+    let numbers = [
+        verdict.number(),
+        verdict.offset() as u64,
+        checked.used,
+        checked.steps,
+        checked.packets,
+    ];
+    lent(result, result_numbers)[..CHECKED].copy_from_slice(&numbers);
+    verdict.kind()
 }
 
 #[no_mangle]
