@@ -4,8 +4,8 @@
  * where the number is 0), aligned for its type, and no buffer that is written may overlap another one of the same call. What const points to is only
  * read. Nothing is kept between calls, nothing is allocated, and no function prints or stops the program.
  *
- * An answer is a number of the scope document, or TEJBORUN_SHORT; tejborun_build may answer a length, and tejborun_compare and tejborun_why have answers of
- * their own. A call that is refused at once changes no memory and no log, a run that is refused after some steps leaves what those steps left; the result is
+ * An answer is a number of the scope document, or TEJBORUN_SHORT; tejborun_build may answer a length, and tejborun_compare, tejborun_why and tejborun_check have
+ * answers of their own. A call that is refused at once changes no memory and no log, a run that is refused after some steps leaves what those steps left; the result is
  * written in both cases, but not with TEJBORUN_SHORT, which is tested before all else. Numbers of a result beyond those stated are never written.
  *
  * state_shape.h has the words of a state block by name, docs/FORMATS.md says what they hold; a struct tejborun_state is lent as (uint32_t *)&state. A start, a
@@ -192,6 +192,32 @@ uint32_t tejborun_why(const uint8_t *main, size_t main_bytes, const uint32_t *da
 uint32_t tejborun_build_and_run(const uint8_t *sheet, size_t sheet_bytes, uint8_t *main, size_t main_bytes, uint32_t address, uint32_t *data,
                                 size_t data_words, uint8_t *code, size_t code_bytes, uint64_t *log, size_t log_numbers, uint32_t *block,
                                 size_t block_words, uint64_t allowance, uint64_t *result, size_t result_numbers);
+
+/* Whether a chain does what a sheet means. The chain is in main memory, at address 0. It is run from the reset state, started on channel 1 at address 0 without
+ * tag transfer, for at most so many steps, over VIF1's memories as they are lent and a log of which no entry is used. It is accepted exactly if the sheet is valid,
+ * the run ends with 0, and both memories and the log then are the sheet's meaning of the memories as they stood before the run. Answers TEJBORUN_SHORT, or the
+ * first of these that applies:
+ *   TEJBORUN_CHECK_REFUSED      1 to 4 for the lengths, then the sheet's refusal (40 to 46, 49, 52): nothing is run, no memory is changed,
+ *   TEJBORUN_CHECK_ANSWER       the run's answer is not 0: 90, 91 or a refusal,
+ *   TEJBORUN_CHECK_QUADWORD     a quadword of data memory differs from the meaning,
+ *   TEJBORUN_CHECK_INSTRUCTION  an instruction of code memory does,
+ *   TEJBORUN_CHECK_ENTRY        a log entry that both have does, in one of its three numbers,
+ *   TEJBORUN_CHECK_ENTRIES      the number of entries does,
+ *   TEJBORUN_CHECK_ACCEPTED     nothing does.
+ * The chain that tejborun_build makes of the sheet is accepted where allowance and log suffice. But where refused, memories and log are left as the run left them.
+ * result[0]: the refusal; the run's answer; the lowest quadword, instruction or entry that differs; of TEJBORUN_CHECK_ENTRIES the run's number of entries; 0 where
+ * accepted. result[1]: the offset of the refused record, 0 where there is none. result[2]: the entries used by the run; result[3]: the steps completed;
+ * result[4]: the packets closed; these three are 0 where refused. */
+#define TEJBORUN_CHECK_ACCEPTED 0u
+#define TEJBORUN_CHECK_REFUSED 1u
+#define TEJBORUN_CHECK_ANSWER 2u
+#define TEJBORUN_CHECK_QUADWORD 3u
+#define TEJBORUN_CHECK_INSTRUCTION 4u
+#define TEJBORUN_CHECK_ENTRY 5u
+#define TEJBORUN_CHECK_ENTRIES 6u
+#define TEJBORUN_CHECK_NUMBERS 5u
+uint32_t tejborun_check(const uint8_t *sheet, size_t sheet_bytes, const uint8_t *main, size_t main_bytes, uint32_t *data, size_t data_words, uint8_t *code,
+                        size_t code_bytes, uint64_t *log, size_t log_numbers, uint64_t allowance, uint64_t *result, size_t result_numbers);
 
 /* What of two boards is compared: a sum of these. */
 #define TEJBORUN_PART_VIF1_DATA 1u

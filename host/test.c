@@ -1878,6 +1878,239 @@ static void test_build_and_run(bool end)
     try_build_and_stop(GS_END, SHEET_PACKETS, end);
 }
 
+/* The lengths of a check, with a number of the result that it leaves alone. */
+static struct lengths check_lengths(void)
+{
+    struct lengths lengths = good;
+    lengths.result = TEJBORUN_CHECK_NUMBERS + 1;
+    return lengths;
+}
+
+/* A check, with nothing lent that could be written but memories, log and result. */
+static uint32_t call_check(struct bench *bench, uint64_t allowance)
+{
+    struct lent *lent = bench->lent;
+    only_read(&lent[SHEET], true);
+    only_read(&lent[MAIN], true);
+    uint32_t kind = tejborun_check(lent[SHEET].at, lent[SHEET].bytes, lent[MAIN].at, bench->lengths.main, words(&lent[DATA]), bench->lengths.data,
+                                   lent[CODE].at, bench->lengths.code, numbers(&lent[LOG]), bench->lengths.log, allowance, numbers(&lent[RESULT]),
+                                   bench->lengths.result);
+    only_read(&lent[SHEET], false);
+    only_read(&lent[MAIN], false);
+    CHECK(unchanged(&lent[SHEET]) && unchanged(&lent[MAIN]) && unchanged(&lent[BLOCK]) && all_kept_outside(bench));
+    return kind;
+}
+
+/* Whether a check was refused with these numbers, and said no more. */
+static bool check_refused(const struct bench *bench, uint64_t refusal, uint64_t offset)
+{
+    const uint64_t wanted[TEJBORUN_CHECK_NUMBERS] = {refusal, offset}, *result = numbers(&bench->lent[RESULT]);
+    return memcmp(result, wanted, sizeof wanted) == 0 && kept_from(bench, TEJBORUN_CHECK_NUMBERS) && all_unchanged(bench);
+}
+
+/* A bench with the sheet's chain in main memory. */
+static void new_check(struct bench *bench, struct lengths lengths, bool end)
+{
+    new_bench(bench, lengths, sheet, sizeof sheet, end);
+    CHECK(tejborun_build(sheet, sizeof sheet, bench->lent[MAIN].at, lengths.main) == SHEET_CHAIN);
+}
+
+/* Whether data, code and log are those that a run from reset leaves, and the result has its numbers; the run is made here, on a bench of the same lengths. */
+static bool left_by_run(const struct bench *bench, uint64_t allowance, uint64_t answer)
+{
+    struct bench run;
+    const uint64_t *result = numbers(&bench->lent[RESULT]);
+    new_bench(&run, bench->lengths, NULL, 0, false);
+    memcpy(run.lent[MAIN].at, bench->lent[MAIN].at, bench->lengths.main);
+    uint32_t *block = words(&run.lent[BLOCK]);
+    CHECK(tejborun_reset(block, TEJBORUN_BLOCK_WORDS) == TEJBORUN_DONE && tejborun_start(block, TEJBORUN_BLOCK_WORDS, 1, 0, 0) == TEJBORUN_DONE);
+    bool same = call_run(&run, allowance) == answer;
+    for (int i = DATA; i <= LOG; i++)
+        same = same && (bench->lent[i].bytes == 0 || memcmp(run.lent[i].at, bench->lent[i].at, bench->lent[i].bytes) == 0);
+    same = same && result[2] == tejborun_used(state(&run.lent[BLOCK]));
+    same = same && memcmp(result + 3, numbers(&run.lent[RESULT]), sizeof *result * RUN_NUMBERS) == 0;
+    free_bench(&run);
+    return same;
+}
+
+/* A word of the sheet's chain that is another one. */
+struct edit {
+    size_t word;
+    uint32_t value;
+};
+
+enum { EDITS = 5 };
+
+/* A check of the chain with edits: the kind and the number; the run's answer is 0 but for TEJBORUN_CHECK_ANSWER. */
+static void try_edits(const struct edit *edits, uint32_t kind, uint64_t number, bool end)
+{
+    struct bench bench;
+    new_check(&bench, check_lengths(), end);
+    for (size_t i = 0; i < EDITS; i++)
+        if (edits[i].word > 0)
+            words(&bench.lent[MAIN])[edits[i].word] = edits[i].value;
+    remember_all(&bench);
+    CHECK(call_check(&bench, UINT64_MAX) == kind);
+    const uint64_t *result = numbers(&bench.lent[RESULT]);
+    CHECK(result[0] == number && result[1] == 0 && kept_from(&bench, TEJBORUN_CHECK_NUMBERS));
+    CHECK(left_by_run(&bench, UINT64_MAX, kind == TEJBORUN_CHECK_ANSWER ? number : TEJBORUN_DONE));
+    free_bench(&bench);
+}
+
+/* The words of the sheet's chain that are edited: codes, vectors, the instruction and the second GS write. */
+enum { AT_NOP = 4, AT_STCYCL = 5, AT_UNPACK = 7, AT_VECTOR_0 = 8, AT_VECTOR_1 = 12, AT_INSTRUCTION = 24, AT_REGISTER = 42, AT_VALUE = 44, AT_BEFORE = 54, AT_MSCAL = 55 };
+
+/* Each kind of difference, and of several the first in the order of kinds, the lowest of a kind. */
+static void test_check_kinds(bool end)
+{
+    static const struct {
+        struct edit edits[EDITS];
+        uint32_t kind;
+        uint64_t number;
+    } cases[] = {
+        {{{AT_VECTOR_0, 99}}, TEJBORUN_CHECK_QUADWORD, LAST_QUADWORD},
+        {{{AT_VECTOR_1 + 3, 99}}, TEJBORUN_CHECK_QUADWORD, 0},
+        {{{AT_VECTOR_0, 99}, {AT_VECTOR_1, 99}, {AT_INSTRUCTION, 99}, {AT_VALUE, 99}, {AT_MSCAL, 0}}, TEJBORUN_CHECK_QUADWORD, 0},
+        {{{AT_INSTRUCTION + 1, 99}}, TEJBORUN_CHECK_INSTRUCTION, LAST_INSTRUCTION},
+        {{{AT_INSTRUCTION, 99}, {AT_VALUE, 99}, {AT_MSCAL, 0}}, TEJBORUN_CHECK_INSTRUCTION, LAST_INSTRUCTION},
+        {{{AT_REGISTER, 6}}, TEJBORUN_CHECK_ENTRY, 0},
+        {{{AT_VALUE, 99}}, TEJBORUN_CHECK_ENTRY, 1},
+        {{{AT_VALUE + 1, 1}, {AT_MSCAL, 0}}, TEJBORUN_CHECK_ENTRY, 1},
+        {{{AT_MSCAL, 0x14000006}}, TEJBORUN_CHECK_ENTRY, 2},
+        {{{AT_NOP, 0x14000005}}, TEJBORUN_CHECK_ENTRY, 0},
+        {{{AT_MSCAL, 0}}, TEJBORUN_CHECK_ENTRIES, SHEET_ENTRIES - 1},
+        {{{AT_BEFORE, 0x14000005}}, TEJBORUN_CHECK_ENTRIES, SHEET_ENTRIES + 1},
+        {{{AT_MSCAL, 0x94000005}}, TEJBORUN_CHECK_ANSWER, TEJBORUN_INTERRUPT},
+        {{{AT_VECTOR_0, 99}, {AT_BEFORE, 0x08000000}}, TEJBORUN_CHECK_ANSWER, TEJBORUN_BAD_CMD},
+        {{{AT_STCYCL, 0}}, TEJBORUN_CHECK_ANSWER, TEJBORUN_BAD_CYCLE},
+        {{{AT_UNPACK, 0x05000003}}, TEJBORUN_CHECK_ANSWER, TEJBORUN_BAD_MODE},
+        {{{AT_BEFORE, 0x07000000}}, TEJBORUN_CHECK_ACCEPTED, 0},
+    };
+    for (size_t i = 0; i < sizeof cases / sizeof cases[0]; i++)
+        try_edits(cases[i].edits, cases[i].kind, cases[i].number, end);
+}
+
+/* The chain that is built, over memories that are not zero: accepted with just enough steps and entries, 90 and 31 with one fewer. */
+static void test_check(bool end)
+{
+    static const struct {
+        uint64_t allowance, entries, answer;
+    } cases[] = {
+        {UINT64_MAX, ENTRIES, TEJBORUN_DONE},     {SHEET_STEPS, SHEET_ENTRIES, TEJBORUN_DONE},    {SHEET_STEPS - 1, SHEET_ENTRIES, TEJBORUN_ALLOWANCE},
+        {0, ENTRIES, TEJBORUN_ALLOWANCE},         {SHEET_STEPS, SHEET_ENTRIES - 1, TEJBORUN_LOG_FULL}, {UINT64_MAX, 0, TEJBORUN_LOG_FULL},
+        {UINT64_MAX, TEJBORUN_LOG_ENTRIES, TEJBORUN_DONE},
+    };
+    for (size_t i = 0; i < sizeof cases / sizeof cases[0]; i++) {
+        struct bench bench;
+        struct lengths lengths = check_lengths();
+        bool is_done = cases[i].answer == TEJBORUN_DONE;
+        lengths.log = cases[i].entries * TEJBORUN_ENTRY_NUMBERS;
+        new_check(&bench, lengths, end);
+        remember_all(&bench);
+        CHECK(call_check(&bench, cases[i].allowance) == (is_done ? TEJBORUN_CHECK_ACCEPTED : TEJBORUN_CHECK_ANSWER));
+        const uint64_t *result = numbers(&bench.lent[RESULT]);
+        CHECK(result[0] == cases[i].answer && result[1] == 0 && kept_from(&bench, TEJBORUN_CHECK_NUMBERS));
+        CHECK(!is_done || (holds_meaning(&bench, 0) && result[2] == SHEET_ENTRIES && result[3] == SHEET_STEPS && result[4] == SHEET_PACKETS));
+        CHECK(left_by_run(&bench, cases[i].allowance, cases[i].answer));
+        free_bench(&bench);
+    }
+}
+
+/* Lengths that are refused, with a sheet that is valid and with one that is not; then sheets that are. */
+static void test_wrong_check(bool end)
+{
+    static const struct wrong wrong[] = {
+        {LENGTH(main), 0, TEJBORUN_BAD_MAIN},
+        {LENGTH(main), 248, TEJBORUN_BAD_MAIN},
+        {LENGTH(main), TEJBORUN_MAIN_BYTES + 16, TEJBORUN_BAD_MAIN},
+        {LENGTH(data), TEJBORUN_VIF1_DATA_WORDS - 1, TEJBORUN_BAD_DATA},
+        {LENGTH(data), TEJBORUN_VIF0_DATA_WORDS, TEJBORUN_BAD_DATA},
+        {LENGTH(data), 0, TEJBORUN_BAD_DATA},
+        {LENGTH(code), TEJBORUN_VIF1_CODE_BYTES + 8, TEJBORUN_BAD_CODE},
+        {LENGTH(code), TEJBORUN_VIF0_CODE_BYTES, TEJBORUN_BAD_CODE},
+        {LENGTH(code), 0, TEJBORUN_BAD_CODE},
+        {LENGTH(log), 1, TEJBORUN_BAD_LOG},
+        {LENGTH(log), ENTRIES * TEJBORUN_ENTRY_NUMBERS + 2, TEJBORUN_BAD_LOG},
+        {LENGTH(log), TEJBORUN_LOG_NUMBERS + TEJBORUN_ENTRY_NUMBERS, TEJBORUN_BAD_LOG},
+    };
+    struct bench bench;
+    for (size_t i = 0; i < 2 * (sizeof wrong / sizeof wrong[0]); i++) {
+        new_bench(&bench, but_for(check_lengths(), &wrong[i / 2]), sheet, i % 2 == 0 ? sizeof sheet : 5, end);
+        remember_all(&bench);
+        CHECK(call_check(&bench, UINT64_MAX) == TEJBORUN_CHECK_REFUSED && check_refused(&bench, wrong[i / 2].answer, 0));
+        free_bench(&bench);
+    }
+    for (size_t i = 0; i < REFUSED; i++) {
+        new_bench(&bench, check_lengths(), refused[i].bytes, refused[i].count, end);
+        remember_all(&bench);
+        CHECK(call_check(&bench, UINT64_MAX) == TEJBORUN_CHECK_REFUSED && check_refused(&bench, refused[i].refusal, refused[i].offset));
+        free_bench(&bench);
+    }
+}
+
+/* The refusals of whole sheets: too long, groups too deep, a chain that is too long. */
+static void test_check_sheets(bool end)
+{
+    enum { LONG = TEJBORUN_SHEET_BYTES + 1 };
+    uint8_t *bytes = calloc(LONG, 1);
+    CHECK(bytes != NULL);
+    static const uint8_t edition[] = {EDITION(2, 0)}, group[] = {GROUP(255, 1)}, start[] = {START(3)};
+    struct {
+        size_t count;
+        uint64_t refusal, offset;
+    } cases[] = {{6 * 10, TEJBORUN_LONG_EXPANSION, 0}, {6 * 11, TEJBORUN_DEEP_GROUP, 6 * 9}, {LONG, TEJBORUN_LONG_SHEET, 0}};
+    for (size_t i = 0; i < 3; i++) {
+        struct bench bench;
+        memcpy(bytes, edition, 6);
+        for (size_t at = 6; at + 6 < cases[i].count && at < 1000; at += 6)
+            memcpy(bytes + at, group, 6);
+        memcpy(bytes + cases[i].count - 6, start, 6);
+        new_bench(&bench, check_lengths(), bytes, cases[i].count, end);
+        remember_all(&bench);
+        CHECK(call_check(&bench, UINT64_MAX) == TEJBORUN_CHECK_REFUSED && check_refused(&bench, cases[i].refusal, cases[i].offset));
+        free_bench(&bench);
+    }
+    free(bytes);
+}
+
+/* Results of too few numbers: nothing is changed, whatever else is wrong. */
+static void test_short_checks(bool end)
+{
+    for (size_t i = 0; i < 3 * (TEJBORUN_CHECK_NUMBERS + 1); i++) {
+        struct bench bench;
+        struct lengths lengths = good;
+        bool is_short = i / 3 < TEJBORUN_CHECK_NUMBERS;
+        lengths.result = i / 3;
+        lengths.main = i % 3 == 1 ? good.main - 1 : good.main;
+        new_bench(&bench, lengths, sheet, i % 3 == 2 ? 5 : sizeof sheet, end);
+        remember_all(&bench);
+        uint32_t made = i % 3 == 0 ? TEJBORUN_CHECK_ANSWER : TEJBORUN_CHECK_REFUSED;
+        CHECK(call_check(&bench, 0) == (is_short ? TEJBORUN_SHORT : made) && all_unchanged(&bench) && (!is_short || unchanged(&bench.lent[RESULT])));
+        free_bench(&bench);
+    }
+    CHECK(tejborun_check(NULL, 0, NULL, 0, NULL, 0, NULL, 0, NULL, 0, 0, NULL, 0) == TEJBORUN_SHORT);
+}
+
+/* Groups are checked as what they stand for: each sheet's chain is the other's. */
+static void test_check_groups(bool end)
+{
+    struct bench bench[2];
+    struct groups groups = new_groups();
+    struct lengths lengths = check_lengths();
+    lengths.main = GROUPS_CHAIN;
+    for (int i = 0; i < 2; i++) {
+        new_bench(&bench[i], lengths, i == 0 ? groups.bytes : groups.plain, i == 0 ? groups.count : groups.plain_count, end);
+        CHECK(tejborun_build(i == 0 ? groups.plain : groups.bytes, i == 0 ? groups.plain_count : groups.count, bench[i].lent[MAIN].at, GROUPS_CHAIN) ==
+              GROUPS_CHAIN);
+        remember_all(&bench[i]);
+        CHECK(call_check(&bench[i], GROUPS_STEPS) == TEJBORUN_CHECK_ACCEPTED && left_by_run(&bench[i], GROUPS_STEPS, TEJBORUN_DONE));
+    }
+    CHECK(hold_the_same(&bench[0], &bench[1]));
+    for (int i = 0; i < 2; i++)
+        free_bench(&bench[i]);
+    free_groups(&groups);
+}
+
 /* Two boards that are compared, by their parts in the library's order, and the result. */
 enum { PARTS = 5, RESULT_NUMBERS = TEJBORUN_COMPARED };
 
@@ -2143,6 +2376,12 @@ int main(void)
         test_lengths_by_channel(end);
         test_wrong_state(end);
         test_build_and_run(end);
+        test_check(end);
+        test_check_kinds(end);
+        test_wrong_check(end);
+        test_check_sheets(end);
+        test_short_checks(end);
+        test_check_groups(end);
         test_compare(end);
         test_wrong_compare(end);
         test_wrong_parts(end);
@@ -2160,6 +2399,7 @@ int main(void)
     puts("why: every refusal of a step with its address and numbers, each step before it without complaint; ended; the entry's; 60; nothing lent is changed");
     puts("groups: chain, steps, meaning and run of what they stand for; eight deep and nine; a chain of 1,048,576 bytes and a longer one; 255 times, eight deep");
     puts("salvage: sheets cut and broken at every byte, records inside others, the longest; just enough room and too little; 60, 46, 55, 56 in their order");
+    puts("check: accepted with just enough steps and entries, over any memories; each kind of difference, the first of several; 60, 1 to 4, the sheet's in their order");
     puts("state block: every word under its name");
     return 0;
 }
