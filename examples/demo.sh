@@ -84,4 +84,13 @@ show "$tejborun" run "$out/paths.capture" -o "$out/paths.result"
 "$tejborun" assemble result "$out/paths.txt" -o "$out/path-2.result"
 show_different "$tejborun" compare "$out/paths.result" "$out/path-2.result" --only log --all
 
+echo "8. A supplier's chain for the sheet of the beginning, shorter than ours; and one that keeps the first of two writes to a quadword in place of the second."
+echo
+show "$tejborun" assemble chain "$here/supplier.chain.txt" -o "$out/supplier.chain"
+show "$tejborun" check "$out/all-kinds.sheet" "$out/supplier.chain"
+sed 's/word 0 0x3F800000 0 0x3F800000/word 0x3F800000 0 0 0/' "$here/supplier.chain.txt" > "$out/late.chain.txt"
+"$tejborun" assemble chain "$out/late.chain.txt" -o "$out/late.chain"
+show_different "$tejborun" check "$out/all-kinds.sheet" "$out/late.chain"
+show_different "$tejborun" check "$out/all-kinds.sheet" "$out/all-kinds.chain" "$out/supplier.chain" "$out/late.chain"
+
 echo "Shown: a sheet's chain leaves what the sheet means, and a board that loses one count a vector is caught at its first vector."

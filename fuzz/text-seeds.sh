@@ -24,6 +24,7 @@ seed 2 sheet < "$examples/all-kinds.sheet.txt"
 seed 2 sheet-groups < "$examples/groups.sheet.txt"
 printf 'edition 2\ngroup repeat=255 members=3\ngs\nwrite 5 6\ngroup repeat=0\nbyte 1 2\nend\nend\nstart addr=2047\n' | seed 2 sheet-members
 "$command" dump chain "$out/../h" | seed 3 chain
+seed 3 chain-supplier < "$examples/supplier.chain.txt"
 printf 'state channel=1 waiting=UNPACK due=2 count=1 format=V4-32 path2.place=data path2.format=IMAGE\n' | seed 4 state
 head -c 2000 "$out/../c" | seed 5 capture-file
 head -c 2000 "$out/../r" | seed 6 result-file

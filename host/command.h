@@ -53,7 +53,7 @@ struct words_given {
 
 /* Each does its command and hands back the exit status. */
 typedef int command_call(const struct words_given *given);
-command_call command_build, command_steps, command_salvage, command_meaning, command_run, command_why, command_play, command_set, command_compare, command_report, command_import, command_export, command_dump, command_assemble;
+command_call command_build, command_steps, command_salvage, command_meaning, command_run, command_why, command_play, command_check, command_set, command_compare, command_report, command_import, command_export, command_dump, command_assemble;
 
 struct command {
     const char *name;

@@ -5,34 +5,7 @@
 
 #include "compare.h"
 #include "json.h"
-#include "numbers.h"
-
-static void print_quadword(const struct board *board, enum part part, size_t number)
-{
-    const uint32_t *at = board_quadword(board, part, number);
-    printf("[\"0x%08" PRIX32 "\", \"0x%08" PRIX32 "\", \"0x%08" PRIX32 "\", \"0x%08" PRIX32 "\"]", at[0], at[1], at[2], at[3]);
-}
-
-static void print_instruction(const struct board *board, enum part part, size_t number)
-{
-    printf("\"0x%016" PRIX64 "\"", get_number(board_instruction(board, part, number)));
-}
-
-static void print_entry(const struct board *board, enum part part, size_t number)
-{
-    (void)part;
-    const uint64_t *entry = board_entry(board, number);
-    printf("{\"path\": %" PRIu64 ", \"register\": %" PRIu64 ", \"value\": \"0x%016" PRIX64 "\"}", entry[TEJBORUN_ENTRY_PATH],
-           entry[TEJBORUN_ENTRY_REGISTER], entry[TEJBORUN_ENTRY_VALUE]);
-}
-
-static void print_unit(const struct board *board, enum part part, size_t number)
-{
-    static void (*const print[])(const struct board *, enum part, size_t) = {
-        [MEMORY_DATA] = print_quadword, [MEMORY_CODE] = print_instruction, [MEMORY_LOG] = print_entry,
-    };
-    print[part_shapes[part].memory](board, part, number);
-}
+#include "units.h"
 
 static void print_difference(const struct board *a, const struct board *b, enum part part, size_t number)
 {
@@ -40,9 +13,9 @@ static void print_difference(const struct board *a, const struct board *b, enum 
     if (part == PART_LOG)
         printf("\"path_alone\": %s, ", is_path_alone(a, b, number) ? "true" : "false");
     printf("\"result\": ");
-    print_unit(a, part, number);
+    print_unit_json(a, part, number);
     printf(", \"board\": ");
-    print_unit(b, part, number);
+    print_unit_json(b, part, number);
     printf("}");
 }
 

@@ -66,6 +66,23 @@ static const struct command commands[] = {
     {"play", 1, 1, 0, TAKES(OPTION_OUTPUT), false, command_play, "play SHEET [-o RESULT]",
      "Builds the chain of a test sheet at address 0 and runs it from reset on channel 1, over zero memories and an empty log.\n"
      "Prints the answer, the steps and the packets closed, as run does.\n"},
+    {"check", 2, SIZE_MAX, 0,
+     TAKES(OPTION_OUTPUT) | TAKES(OPTION_DATA) | TAKES(OPTION_CODE) | TAKES(OPTION_ALLOWANCE) | TAKES(OPTION_QUIET) | TAKES(OPTION_JSON), false, command_check,
+     "check SHEET CHAIN.. [--data FILE] [--code FILE] [--allowance N] [-o RESULT] [--quiet] [--json]",
+     "Says whether a supplier's chains do what a sheet means. A chain is run from reset on channel 1 at address 0, without tag\n"
+     "transfer, and accepted exactly if the run ends with done and VIF1's memories and the log then are the sheet's meaning. Else\n"
+     "the first difference is shown, expected and found: the run's answer, the lowest quadword, instruction or log entry, or the\n"
+     "number of entries. How long the chain is and how many steps it takes is said beside the chain that build makes of the sheet.\n"
+     "Several chains have a row each and a summary.\n"
+     "  --data FILE    VIF1's data memory before the run, raw, zeros otherwise\n"
+     "  --code FILE    VIF1's code memory, the same\n"
+     "  --allowance N  the step allowance of each run, 10,000,000 where it is not given\n"
+     "  -o RESULT      writes what the run left, of one chain\n"
+     "  --quiet        prints no verdict: the exit status has it\n"
+     "  --json         prints JSON\n"
+     "Main memory is the chain's file and nothing behind it: a chain that reads beyond its file is refused (10, 14), and a file\n"
+     "that is empty, no whole quadwords or longer than 1,048,576 bytes too (1). The log is empty, with room for 65,536 entries.\n"
+     "The exit status is 0 where all are accepted, 1 where one differs or is refused, 3 where a run stopped before its end (90, 91).\n"},
     {"set", 1, 1, 0, TAKES(OPTION_OUTPUT) | TAKES(OPTION_UNIT) | TAKES(OPTION_ROW) | TAKES(OPTION_COL), true, command_set,
      "set FILE -o FILE [--unit N] [--row I=VALUE].. [--col I=VALUE]..",
      "Sets ROW and COL in the state that a file holds, and writes the file with it; all else stays. FILE is a state, a capture\n"

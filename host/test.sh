@@ -159,7 +159,7 @@ state_words() {
 usage() {
     expect 0 --help
     says out 'tejborun build SHEET -o CHAIN'
-    for name in build steps salvage meaning run why play set compare report dump assemble; do
+    for name in build steps salvage meaning run why play check set compare report dump assemble; do
         expect 0 "$name" --help
         says out "usage: tejborun $name"
         expect 2 "$name"
@@ -171,7 +171,7 @@ usage() {
     done
     expect 2
     expect 2 nonsense
-    says err 'no such command; known are build, steps, salvage, meaning, run, why, play, set, compare, report, import, export, dump, assemble'
+    says err 'no such command; known are build, steps, salvage, meaning, run, why, play, check, set, compare, report, import, export, dump, assemble'
     expect 2 build a.sheet
     says err 'say with -o where to write'
     expect 2 build a.sheet -o
@@ -249,6 +249,10 @@ refused_sheet() {
         says err "$3: refused $1 at offset $2: "
         absent refused.out
     done
+    head -c 16 /dev/zero > refused.chain
+    expect 1 check "$3" refused.chain -o refused.out
+    says err "$3: refused $1 at offset $2: "
+    absent refused.out
     expect 1 steps "$3"
     says err "refused $1 at offset $2: "
     expect 1 dump sheet "$3"
@@ -312,6 +316,9 @@ one_sheet() {
     expect 0 meaning "$1" -o meant
     expect 0 compare meant played
     says out 'equal'
+    expect 0 check "$1" chain -o checked
+    says out "chain: accepted: it leaves what $1 means"
+    same checked played 'what the run of a chain left'
 }
 
 # salvaged FILE: salvages a sheet. What is kept is a sheet that the builder takes; what is dropped is a list of ranges in order and apart; together they are
@@ -3121,6 +3128,257 @@ group_texts() {
     refused_sheet 44 18 given.sheet
 }
 
+# chain_of NAME SCRIPT: the supplier's chain with an edit of its text.
+chain_of() {
+    sed "$2" "$here/../examples/supplier.chain.txt" > edited.txt
+    if test -n "$2" && cmp -s edited.txt "$here/../examples/supplier.chain.txt"; then fail "an edit that changes nothing: $2"; fi
+    expect 0 assemble chain edited.txt -o "$1"
+}
+
+# checked_so STATUS SCRIPT VERDICT LINE..: the supplier's chain with an edit has the verdict, and these lines are said of it.
+checked_so() {
+    chain_of edited.chain "$2"
+    expect "$1" check all.sheet edited.chain
+    test "$(head -n 1 out)" = "edited.chain: $3" || fail "the verdict is '$(head -n 1 out)', not '$3'"
+    shift 3
+    for line in "$@"; do says out "$line"; done
+}
+
+# A supplier's chains beside a sheet: accepted, each kind of difference with both values, no verdict, refused; many at once.
+checks() {
+    expect 0 assemble sheet "$here/../examples/all-kinds.sheet.txt" -o all.sheet
+    expect 0 build all.sheet -o ours.chain
+    chain_of short.chain ''
+    round chain short.chain
+    expect 0 check all.sheet short.chain
+    printf '%s\n' 'short.chain: accepted: it leaves what all.sheet means' "  224 bytes, 208 shorter than our chain's 432" \
+        "  35 steps, 31 fewer than our chain's 66; 1 packet closed" > wanted
+    same out wanted 'what is said of a chain that is accepted'
+    expect 0 check all.sheet ours.chain
+    printf '%s\n' 'ours.chain: accepted: it leaves what all.sheet means' '  432 bytes, as long as our chain' '  66 steps, as many as our chain; 1 packet closed' > wanted
+    same out wanted 'what is said of our own chain'
+    check_differences
+    check_stops
+    check_files
+    check_starts
+    check_results
+    check_rack
+    echo "checks: chains accepted, each difference with both values, stopped, refused, beyond their files; memories before; results kept; rows, quiet, JSON"
+}
+
+# Each kind of difference, and of several the first.
+check_differences() {
+    checked_so 1 's/word 0 0x3F800000 0 0x3F800000/word 0x3F800000 0 0 0/' 'different: quadword 16 differs' '  quadword 16 (0x10)' \
+        'all.sheet                                edited.chain                             chain - sheet' \
+        '    X  0x00000000           0  0                0x3F800000  1065353216  1                +1065353216 counts' \
+        '    Y  0x3F800000  1065353216  1                0x00000000           0  0                -1065353216 counts' \
+        "  224 bytes, 208 shorter than our chain's 432" "  35 steps, 31 fewer than our chain's 66; 1 packet closed"
+    checked_so 1 's/word 5 6 7 8/word 5 6 7 9/' 'different: quadword 0 differs' '+1 count'
+    checked_so 1 's/addr=1023/addr=1022/' 'different: quadword 0 differs'
+    checked_so 1 's/addr=2047/addr=2046/' 'different: instruction 0 differs' '  instruction 0 (0x0)' '    all.sheet     0x00000000000002FF' \
+        '    edited.chain  0x8000033C400002FF'
+    checked_so 1 's/0x0005000D/0x0005000C/' 'different: log entry 3 differs' '  log entry 3' \
+        '    all.sheet     path 2, register 0x47 TEST_1, value 0x000000000005000D (327693)' \
+        '    edited.chain  path 2, register 0x47 TEST_1, value 0x000000000005000C (327692)'
+    checked_so 1 's/MSCAL imm=0/NOP/' 'different: the run logged 6 entries, the sheet means 7' \
+        'log: all.sheet has 7 entries, edited.chain 6; only all.sheet has 6 to 6, the first of them' \
+        '    all.sheet     path 0, register 0x100 MSCAL, value 0x0000000000000000 (0)'
+    checked_so 1 '$s/NOP/MSCNT/' 'different: the run logged 8 entries, the sheet means 7' '    edited.chain  path 0, register 0x102 MSCNT, value 0x0000000000000000 (0)'
+    checked_so 1 's/eop=1/eop=0/;s/MSCAL imm=0/NOP/;s/0x0005000D/5/;s/addr=2047/addr=5/' 'different: instruction 0 differs' '; no packet closed'
+    checked_so 1 's/MSCAL imm=0/NOP/;s/0x0005000D/5/' 'different: log entry 3 differs'
+    check_answers
+}
+
+# Runs that do not end with done: refused, with the address and the number at fault.
+check_answers() {
+    checked_so 1 's/STCYCL cl=1 wl=1/STCYCL cl=1 wl=0/' "different: the run's answer is 22: UNPACK with WL 0" '  refused 22 at 0x00000014: UNPACK with WL 0' \
+        "  224 bytes, 208 shorter than our chain's 432"
+    test "$(tail -n 1 out)" = '  2 steps; no packet closed' || fail "the steps of a refused run: $(tail -n 1 out)"
+    checked_so 1 '/^  NOP$/{N;s/\(.*\)\n\(.*\)/\2\n\1/;}' "different: the run's answer is 24: $(message 24)" '  refused 24 at 0x0000006C: '
+    checked_so 1 's/qwc=13/qwc=12/' "different: the run logged 5 entries, the sheet means 7"
+    checked_so 1 's/qwc=13/qwc=14/' "different: the run's answer is 14: payload or pending words lie outside main memory" \
+        '  refused 14 at 0x00000000: a tag with QWC 14 where 13 quadwords fit'
+    checked_so 1 's/end qwc=13/cnt qwc=13/' "different: the run's answer is 10: TADR lies outside main memory" '  refused 10 at 0x000000E0: TADR 0xE0 lies outside main memory'
+}
+
+# message ANSWER: its words.
+message() {
+    echo "result answer=$1" > message.txt
+    "$command" assemble result message.txt -o message.result && "$command" dump message.result | sed -n '1s/.*# //p'
+}
+
+# Runs that stop before their end: no verdict.
+check_stops() {
+    checked_so 3 's/MSCAL imm=2047/MSCAL imm=2047 irq=1/' "no verdict: the run's answer is 91: stopped at an interrupt mark" '  32 steps; 1 packet closed'
+    expect 0 check all.sheet short.chain --allowance 35
+    for form in '--allowance 34' --allowance=34; do
+        # shellcheck disable=SC2086
+        expect 3 check all.sheet short.chain $form
+        printf '%s\n' "short.chain: no verdict: the run's answer is 90: the step allowance is used" '  the allowance was 34 steps; --allowance gives another' \
+            "  224 bytes, 208 shorter than our chain's 432" '  34 steps; 1 packet closed' > wanted
+        same out wanted 'what is said of a used allowance'
+    done
+    expect 3 check all.sheet short.chain --allowance 0
+    printf 'next addr=0\n' > endless.txt
+    expect 0 assemble chain endless.txt -o endless.chain
+    expect 3 check all.sheet endless.chain
+    says out '  the allowance was 10000000 steps; --allowance gives another'
+    expect 2 check all.sheet short.chain --allowance x
+}
+
+# What is no chain: a file of a length that no main memory has, text, other files. A chain that is cut is not accepted.
+check_files() {
+    : > none
+    slice ours.chain 0 24 > cut
+    head -c 1048592 /dev/zero > long
+    for file in none cut long; do
+        expect 1 check all.sheet $file -o bad.out
+        says err "$file: $(($(wc -c < $file))) bytes, refused 1: main memory has length 0, no multiple of 16 or more than 1,048,576 bytes"
+        test ! -s out || fail 'something is said of a chain that is refused'
+        absent bad.out
+    done
+    slice ours.chain 0 416 > cut
+    expect 1 check all.sheet cut
+    says out "cut: different: the run's answer is 10: TADR lies outside main memory"
+    for at in $(seq 0 16 416); do
+        slice ours.chain 0 "$at" > cut
+        expect 1 check all.sheet cut
+    done
+    head -c 1048576 /dev/zero > long
+    : > none.sheet
+    expect 0 check none.sheet long
+    says out "long: accepted: it leaves what none.sheet means"
+    says out "  1048576 bytes, 1048560 longer than our chain's 16"
+    says out '  1 step, as many as our chain; no packet closed'
+    expect 2 check all.sheet "$here/../examples/supplier.chain.txt"
+    says err 'no chain, but text; assemble it first: tejborun assemble chain '
+    echo capture > kind.txt
+    expect 0 assemble capture kind.txt -o kind.capture
+    expect 2 check all.sheet kind.capture
+    says err 'kind.capture: no chain: it begins with the mark of a capture'
+    expect 2 check all.sheet missing
+    expect 2 check missing short.chain
+    expect 2 check all.sheet short.chain short.chain
+    expect 2 check all.sheet all.sheet
+    expect 2 check all.sheet
+    says err 'too few words'
+    expect 1 check "$here/../examples/all-kinds.sheet.txt" short.chain
+    says err 'it is text; assemble it first: tejborun assemble sheet '
+    expect 1 check short.chain all.sheet
+    says err 'short.chain: refused 40 at offset 0: '
+    as_sheet bad.sheet '\236\121\4\0\5\0\236\121\6\0\5\0'
+    expect 1 check bad.sheet none
+    says err 'none: 0 bytes, refused 1: '
+    expect 1 check bad.sheet short.chain ours.chain
+    test "$(grep -c 'bad.sheet: refused 41 at offset 6: ' err)" = 1 || fail 'a refused sheet is to be said once'
+    says out 'short.chain  refused 41'
+    says out '2 chains beside bad.sheet: 2 refused'
+    expect 0 check all.sheet - < short.chain
+    says out '-: accepted: it leaves what all.sheet means'
+    expect 0 check - short.chain < all.sheet
+}
+
+# The memories that a run begins with: what the sheet leaves as it was has to be left.
+check_starts() {
+    head -c $((4 * data_words)) /dev/urandom > before.data
+    head -c "$code_bytes" /dev/urandom > before.code
+    expect 0 check all.sheet short.chain ours.chain --data before.data --code=before.code
+    expect 0 check all.sheet short.chain --data before.data
+    expect 0 check all.sheet short.chain --code before.code
+    printf 'end qwc=2\nSTCYCL cl=1 wl=1\nUNPACK format=V4-32 num=1 addr=9\nword 0 0 0 0\nNOP\nNOP\n' > zero.txt
+    expect 0 assemble chain zero.txt -o zero.chain
+    : > none.sheet
+    expect 0 check none.sheet zero.chain
+    head -c $((4 * data_words)) /dev/zero | tr '\0' '\1' > before.data
+    expect 1 check none.sheet zero.chain --data before.data
+    says out 'zero.chain: different: quadword 9 differs'
+    says out '    X  0x01010101    16843009'
+    expect 2 check all.sheet short.chain --data before.code.missing
+    slice before.data 0 16 > small.data
+    expect 2 check all.sheet short.chain --data small.data
+    says err "small.data: no dump of VIF1's data memory"
+    expect 2 check all.sheet short.chain --data0 before.data
+}
+
+# What the run left is what a run of a capture leaves whose main memory is the chain.
+check_results() {
+    for name in short ours edited; do
+        test $name != edited || chain_of edited.chain 's/STCYCL cl=1 wl=1/STCYCL cl=1 wl=0/'
+        printf 'capture main-bytes=%d\nstart\nrun\n' $(($(wc -c < $name.chain))) > of.txt
+        expect 0 assemble capture of.txt --main $name.chain -o of.capture
+        if test $name = edited; then status=1; else status=0; fi
+        expect $status run of.capture -o run.result
+        expect $status check all.sheet $name.chain -o left.result
+        same left.result run.result 'what the run left'
+        expect $status check all.sheet $name.chain -o - > /dev/null
+        same out run.result 'what the run left, on standard output'
+        says err "$name.chain: "
+    done
+    expect 3 check all.sheet short.chain --allowance 34 -o left.result
+    expect 0 dump left.result
+    says out 'result answer=90 steps=34 packets=1'
+    expect 2 check all.sheet short.chain ours.chain -o several.result
+    says err '-o takes what the run of one chain left; here are 2'
+    absent several.result
+    expect 2 check all.sheet short.chain -o short.chain
+    expect 2 check all.sheet short.chain -o missing/left.result
+    says out 'short.chain: accepted'
+}
+
+# Many: a row a chain, the summary, the worst status; quiet; JSON.
+check_rack() {
+    chain_of late.chain 's/word 0 0x3F800000 0 0x3F800000/word 0x3F800000 0 0 0/'
+    chain_of mark.chain 's/MSCAL imm=2047/MSCAL imm=2047 irq=1/'
+    chain_of refused.chain 's/STCYCL cl=1 wl=1/STCYCL cl=1 wl=0/'
+    chain_of fewer.chain 's/MSCAL imm=0/NOP/'
+    : > none
+    expect 1 check all.sheet short.chain ours.chain late.chain refused.chain fewer.chain
+    printf '%s\n' 'all.sheet: our chain has 432 bytes and takes 66 steps' \
+        'chain          verdict         bytes     - ours      steps     - ours  first difference' \
+        'short.chain    accepted          224       -208         35        -31' \
+        'ours.chain     accepted          432          0         66          0' \
+        'late.chain     different         224       -208         35        -31  quadword 16 differs' \
+        "refused.chain  different         224       -208          2             the run's answer is 22: UNPACK with WL 0" \
+        'fewer.chain    different         224       -208         35        -31  the run logged 6 entries, the sheet means 7' \
+        '5 chains beside all.sheet: 2 accepted, 3 different' > wanted
+    same out wanted 'the rows of chains'
+    expect 0 check all.sheet short.chain ours.chain
+    says out '2 chains beside all.sheet: 2 accepted'
+    expect 3 check all.sheet short.chain mark.chain late.chain
+    says out '3 chains beside all.sheet: 1 accepted, 1 different, 1 no verdict'
+    expect 2 check all.sheet short.chain mark.chain none missing
+    says out 'none         refused 1'
+    says out 'missing      not read'
+    says out '4 chains beside all.sheet: 1 accepted, 1 no verdict, 1 refused, 1 not read'
+    for words in '0 short.chain' '1 late.chain' '1 short.chain none' '3 mark.chain late.chain' '2 missing late.chain'; do
+        set -- $words
+        wanted=$1
+        shift
+        expect "$wanted" check all.sheet "$@" --quiet
+        test ! -s out || fail '--quiet says something'
+    done
+    odd=$(printf 'na"m\\e\t<&>\377')
+    cp short.chain "$odd"
+    expect 2 check all.sheet "$odd" late.chain refused.chain fewer.chain mark.chain none missing --json
+    well_formed json out
+    says out '"sheet": {"file": "all.sheet", "chain_bytes": 432, "chain_steps": 66, "entries": 7},'
+    says out '"na\"m\\e\u0009<&>\uFFFD", "verdict": "accepted", "status": 0, "bytes": 224, "steps": 35, "packets": 1, "entries": 7}'
+    says out '"difference": {"kind": "quadword", "number": 16, "words": "quadword 16 differs", "expected": ["0x00000000", "0x3F800000", "0x00000000", "0x3F800000"], "found": ["0x3F800000", "0x00000000", "0x00000000", "0x00000000"]}}'
+    says out '"difference": {"kind": "answer", "number": 22, "words": "the run'"'"'s answer is 22: UNPACK with WL 0", "why": "refused 22 at 0x00000014: UNPACK with WL 0"}}'
+    says out '"difference": {"kind": "entries", "number": 6, "words": "the run logged 6 entries, the sheet means 7"}}'
+    says out '"verdict": "no verdict", "status": 3, "bytes": 224, "steps": 32, "packets": 1, "entries": 6,'
+    says out '"difference": {"kind": "answer", "number": 91, "words": "the run'"'"'s answer is 91: stopped at an interrupt mark"}}'
+    says out '"verdict": "refused", "status": 1, "refusal": 1, "offset": 0}'
+    says out '"verdict": "not read", "status": 2}'
+    says out '"summary": {"chains": 7, "accepted": 1, "different": 3, "no_verdict": 1, "refused": 1, "not_read": 1},'
+    expect 1 check bad.sheet short.chain --json
+    well_formed json out
+    says out '"sheet": {"file": "bad.sheet"},'
+    says out '"verdict": "refused", "status": 1, "refusal": 41, "offset": 6}'
+    expect 0 check all.sheet short.chain --json -o left.result
+    well_formed json out
+}
+
 # What is given twice; and every one of 65,536 differences shown in a moment.
 repeated() {
     bad_text result 3 'quadword 10 is given twice' 'result\nquadword 10 1 2 3 4\nquadword 10 1 2 3 4\n'
@@ -3140,7 +3398,7 @@ repeated() {
 }
 
 for name in ${TESTS:-layout state_words usage bench_points meanings refused_sheets examples comparisons damaged_files other_layouts bad_texts entries_used \
-    unfinished beginnings one_file outputs dashes repeated rack messages long_runs conventions report dumps vif0 packets paths registers whys groups salvages generated_sheets generated_captures}; do
+    unfinished beginnings one_file outputs dashes repeated rack messages long_runs conventions report dumps vif0 packets paths registers whys groups checks salvages generated_sheets generated_captures}; do
     "$name"
 done
 echo "host/test.sh: all as it has to be"

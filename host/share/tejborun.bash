@@ -1,7 +1,7 @@
 # Completion of tejborun's words for bash.
 _tejborun() {
     local word=${COMP_WORDS[COMP_CWORD]} command=${COMP_WORDS[1]}
-    local commands='build steps salvage meaning run why play set compare report import export dump assemble help'
+    local commands='build steps salvage meaning run why play check set compare report import export dump assemble help'
     local kinds='sheet chain state capture result'
     local parts='data code data0 code0 log'
     local registers='0= 1= 2= 3='
@@ -10,6 +10,7 @@ _tejborun() {
     build | meaning | play) options='-o --output --help' ;;
     run) options='-o --output --allowance --from --no-start --why --help' ;;
     why) options='--allowance --from --no-start --help' ;;
+    check) options='-o --output --data --code --allowance --quiet --json --help' ;;
     salvage) options='-o --output --ranges --quiet --json --help' ;;
     set) options='-o --output --unit --row --col --help' ;;
     compare) options='--only --all --unfinished --quiet --json --help' ;;
