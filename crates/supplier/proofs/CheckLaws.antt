@@ -45,7 +45,7 @@ use Rattle.compare.proofs.TestLaws.{never}
 use Rattle.compare.proofs.Verdict.{whole-compared}
 use Rattle.supplier.specs.declared.CheckAnswer.{CheckAnswer}
 use Rattle.supplier.specs.Check.{begun, runFromReset, meantFrom, difference, judged, Checked, checked, checkRan, checkRefused, checkOf}
-use Rattle.supplier.specs.Inner.{entriesDifference, firstDifference, Beside, Judges, Judgement, judgement, judgedDone, judgedBy, Runs}
+use Rattle.supplier.specs.Inner.{entriesDifference, firstDifference, Beside, Judges, Judgement, judgement, judgedDone, judgedBy, judgedRun, Runs, RunsBeside}
 use Rattle.supplier.proofs.RunLaws.{lent-fits, left-fits}
 
 -- ---- copies
@@ -154,27 +154,31 @@ judged-answer Allowance m used words bytes rs = refl
 judged-answer Interrupt m used words bytes rs = refl
 judged-answer (RunRefused n) m used words bytes rs = refl
 
-module _ {sheet main : List ℕ} {m : Lent} (w : Runs sheet main m) (allowance : ℕ) {s : State} (b : s ≡ begun) {r : RunResult} {m′ : Lent}
-    (e : leftBy r m′ ≡ runOf main allowance s m) {words bytes : List ℕ} (ew : words ≡ m .mem) (eb : bytes ≡ m .code) where
+module _ {sheet main : List ℕ} {m : Lent} {words bytes : List ℕ} (w : RunsBeside sheet main m words bytes) (allowance : ℕ) {s : State} (b : s ≡ begun) {r : RunResult} {m′ : Lent}
+    (e : leftBy r m′ ≡ runOf main allowance s m) where
   ran-is : leftBy r m′ ≡ runFromReset main allowance m
   ran-is = e ∙ rw b
 
   -- what is given to the verdict
-  pub valid-judges : Judges sheet (m′ .mem) (m′ .code) (m′ .log) (r .state .used) words bytes
-  valid-judges =
-      let f = lent-fits main m (w .entered) in
-      let g : LengthsFit Vif1 m′ (r .state .used) = rw (← ran-is) at (left-fits main m (w .entered) allowance) in
+  pub ran-judges : Judges sheet (m′ .mem) (m′ .code) (m′ .log) (r .state .used) words bytes
+  ran-judges =
+      let f = lent-fits main m (w .runs .entered) in
+      let g : LengthsFit Vif1 m′ (r .state .used) = rw (← ran-is) at (left-fits main m (w .runs .entered) allowance) in
+      let lw = ap length (w .same-words) ∙ f .long in
+      let lb = ap length (w .same-bytes) ∙ f .wide in
       record {
-        sizes = record { mem-size = g .long; code-size = g .wide; words-size = rw ew (f .long); bytes-size = rw eb (f .wide) };
-        accepted = w .accepted;
-        lengths = fit-lengths Vif1 (lent words bytes (m′ .log)) (r .state .used) (record { long = rw ew (f .long); wide = rw eb (f .wide); logged = g .logged });
+        sizes = record { mem-size = g .long; code-size = g .wide; words-size = lw; bytes-size = lb };
+        accepted = w .runs .accepted;
+        lengths = fit-lengths Vif1 (lent words bytes (m′ .log)) (r .state .used) (record { long = lw; wide = lb; logged = g .logged });
       }
 
-  pub valid-checked : {a : CheckAnswer} {words′ bytes′ : List ℕ} → judgement a words′ bytes′ ≡ judgedBy (r .answer) m′ (r .state .used) words bytes (recordsOf sheet)
-      → checked a (r .state .used) (r .counts) m′ ≡ checkRan (runFromReset main allowance m) (meantFrom (recordsOf sheet) (m .mem) (m .code))
-  valid-checked j =
+  -- and what it answers
+  pub ran-checked : {a : CheckAnswer} {words′ bytes′ : List ℕ} → judgement a words′ bytes′ ≡ judgedBy (r .answer) m′ (r .state .used) words bytes (recordsOf sheet)
+      → (checked a (r .state .used) (r .counts) m′ ≡ checkRan (runFromReset main allowance m) (meantFrom (recordsOf sheet) (m .mem) (m .code)))
+      × (judgement a words′ bytes′ ≡ judgedRun (runFromReset main allowance m) words bytes (recordsOf sheet))
+  ran-checked j =
       let q = ap (λ (x : Judgement). x .answer) j ∙ judged-answer (r .answer) m′ (r .state .used) words bytes (recordsOf sheet) in
-      rw (← ran-is, ← ew, ← eb, q)
+      (rw (← ran-is, ← w .same-words, ← w .same-bytes, q), rw (← ran-is) j)
 
 -- ---- refusals
 

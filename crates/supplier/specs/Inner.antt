@@ -13,6 +13,7 @@ use Rattle.memories.specs.Lengths.{Lent}
 use Rattle.chain.specs.declared.Answer.{Answer}
 use Rattle.chain.specs.declared.Answer.the-variants.{Done, Allowance, Interrupt, Refused as RunRefused}
 use Rattle.chain.specs.Range.{entryRefusal}
+use Rattle.chain.specs.Run.{Ran}
 use Rattle.sheet.specs.Records.{Record}
 use Rattle.sheet.specs.Reader.{valid}
 use Rattle.sheet.specs.Editions.{contentsOf}
@@ -69,10 +70,20 @@ judgedBy Allowance m used words bytes rs = judgement (Stopped Allowance) words b
 judgedBy Interrupt m used words bytes rs = judgement (Stopped Interrupt) words bytes
 judgedBy (RunRefused n) m used words bytes rs = judgement (Stopped (RunRefused n)) words bytes
 
+-- the same of a run
+abbrev pub judgedRun : Ran → List ℕ → List ℕ → List Record → Judgement
+judgedRun r words bytes rs = judgedBy (r .answer) (r .after .memories) (r .after .state .used) words bytes rs
+
 -- a valid sheet, and memories that a run accepts
 pub record Runs (sheet main : List ℕ) (m : Lent) : Type 0 where
   pub accepted : contentsOf sheet ≡ valid (recordsOf sheet)
   pub entered : entryRefusal main m begun ≡ 0
+
+-- with copies of the memories
+pub record RunsBeside (sheet main : List ℕ) (m : Lent) (words bytes : List ℕ) : Type 0 where
+  pub runs : Runs sheet main m
+  pub same-words : words ≡ m .mem
+  pub same-bytes : bytes ≡ m .code
 
 abbrev pub refusedWith : ℕ → ℕ → CheckResult
 refusedWith n offset = record { answer = Refused n offset; used = 0; counts = none }

@@ -9,7 +9,7 @@ ghost use lib.ListN.{length};
 ghost use Rattle.memories.specs.Lengths.{lent};
 ghost use Rattle.conformance.specs.Demand.{recordsOf};
 ghost use Rattle.supplier.specs.Check.{begun, runFromReset, meantFrom, checked, checkRan, checkOf};
-ghost use Rattle.supplier.specs.Inner.{Runs, refusedWith};
+ghost use Rattle.supplier.specs.Inner.{judgement, judgedRun, Runs, RunsBeside, refusedWith};
 
 // From reset on channel 1 at address 0, tag transfer off.
 fn started() -> State
@@ -40,6 +40,36 @@ fn refused(number: u32, offset: usize) -> CheckResult
     }
 }
 
+// Runs the chain and judges what it left; `words` and `bytes` are copies of the memories before the run.
+fn run_beside(
+    sheet: &[u8],
+    main: &[u8],
+    data: &mut [u32],
+    code: &mut [u8],
+    log: &mut [u64],
+    allowance: u64,
+    words: &mut [u32],
+    bytes: &mut [u8],
+) -> CheckResult
+    requires { ⌜ RunsBeside (now sheet) (now main) (lent (now «data») (now code) (now log)) (now words) (now bytes) ⌝ }
+    ensures { λ r. ⌜ (checked (r .answer) (r .used) (r .counts) (lent (now («data» .exit)) (now (code .exit)) (now (log .exit)))
+        ≡ checkRan (runFromReset (now (main .entry)) allowance (lent (now («data» .entry)) (now (code .entry)) (now (log .entry))))
+        (meantFrom (recordsOf (now (sheet .entry))) (now («data» .entry)) (now (code .entry))))
+        × (judgement (r .answer) (now (words .exit)) (now (bytes .exit))
+        ≡ judgedRun (runFromReset (now (main .entry)) allowance (lent (now («data» .entry)) (now (code .entry)) (now (log .entry))))
+        (now (words .entry)) (now (bytes .entry)) (recordsOf (now (sheet .entry)))) ⌝ }
+{
+    let r = chain::run(main, data, code, log, started(), allowance);
+    let answer = r.answer;
+    let used = r.state.used;
+    let counts = r.counts;
+    CheckResult {
+        answer: judge(sheet, answer, data, code, log, used, words, bytes),
+        used,
+        counts,
+    }
+}
+
 // A valid sheet beside a chain, on memories whose lengths are accepted.
 fn check_valid(
     sheet: &[u8],
@@ -58,15 +88,16 @@ fn check_valid(
     let mut bytes = [0u8; 16384];
     fields::put_words(&mut words, 0, data);
     copy_bytes(code, &mut bytes);
-    let r = chain::run(main, data, code, log, started(), allowance);
-    let answer = r.answer;
-    let used = r.state.used;
-    let counts = r.counts;
-    CheckResult {
-        answer: judge(sheet, answer, data, code, log, used, &mut words, &mut bytes),
-        used,
-        counts,
-    }
+    run_beside(
+        sheet,
+        main,
+        data,
+        code,
+        log,
+        allowance,
+        &mut words,
+        &mut bytes,
+    )
 }
 
 // Runs a chain from reset on channel 1 at address 0, tag transfer off, and says whether it ends with 0 and leaves what the sheet means, or the first difference. The
