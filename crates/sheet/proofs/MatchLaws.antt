@@ -1,13 +1,13 @@
 -- Records that are matched one after another: an action on the memories and the front of the entries; and what it is of a sheet's meaning.
-use mathlib.Core.Path.{_≡_, refl, sym, ap, _∙_}
+use mathlib.Core.Path.{_≡_, refl, ap, _∙_}
 use mathlib.Core.Bool.{Bool, true, false}
 use mathlib.Core.List.{List, [], _∷_, _++_}
 use Prim.Native.Nat.{ℕ, suc, _+_, _*_, _-_, _<_, _≤_}
 use native.Mathlib.Nat.{add-zero, zero-add, sub-zero}
 use native.Mathlib.Numerals.{add-one}
 use native.Mathlib.Omega.{arith}
-use borrow.Author.Tests.{lt-ltb, le-ltb, ltb-true, ltb-false}
-use lib.ListN.{length, getD, drop}
+use borrow.Author.Tests.{ltb-true, ltb-false}
+use lib.ListN.{length, drop}
 use lib.Seq.{drop-cons}
 use lib.Dec.{ltb}
 use Rattle.fields.specs.Fields.{if}
@@ -19,7 +19,7 @@ use Rattle.sheet.specs.declared.heads.Header.the-variants.{Single}
 use Rattle.sheet.specs.declared.matching.Front.{Front}
 use Rattle.sheet.specs.Records.{Record}
 use Rattle.sheet.specs.Groups.{headerAt}
-use Rattle.sheet.specs.Meaning.{Plain, plain, entryAt, entriesAt, entriesBy, fedRecord, meaningOf}
+use Rattle.sheet.specs.Meaning.{Plain, entryAt, entriesAt, entriesBy, fedRecord, meaningOf}
 use Rattle.sheet.specs.Match.{sameEntry, leading}
 use Rattle.sheet.specs.Met.{front, entryIn, nextFront, met, metAll, Matching, matching, matchedBy, matchedAll, MatchRoom, RecordHeld}
 use Rattle.sheet.proofs.RestLaws.{recordAt}

@@ -1,10 +1,10 @@
 -- Records matched one after another: what inner functions require of their input, and what they make of it; no promise of a public function cites them.
 use Prim.Native.Nat.{ℕ, _+_, _*_, _≤_}
-use mathlib.Core.Bool.{Bool, true, false, _&&_}
+use mathlib.Core.Bool.{Bool, true, false}
 use mathlib.Core.Path.{_≡_}
 use mathlib.Core.List.{List, [], _∷_}
 use lib.ListN.{length, getD}
-use lib.Dec.{eqb, ltb}
+use lib.Dec.{ltb}
 use Rattle.fields.specs.Fields.{if}
 use Rattle.gif.specs.declared.Entry.{Entry}
 use Rattle.gif.specs.Log.{entrySize, entry}

@@ -1,25 +1,18 @@
 -- Request 13: "The chain our builder makes of the sheet is accepted when allowance and log suffice." It comes from demand 3, for sheets of both editions.
-use mathlib.Core.Path.{_≡_, refl, sym, ap, _∙_}
-use mathlib.Core.Bool.{Bool, true, false, not}
-use mathlib.Core.List.{List, []}
+use mathlib.Core.Path.{_≡_, refl, ap, _∙_}
+use mathlib.Core.List.{List}
 use Prim.Native.Nat.{ℕ}
 use native.Mathlib.Omega.{arith}
-use lib.ListN.{length}
-use lib.Dec.{eqb}
-use Rattle.fields.specs.Fields.{if}
-use Rattle.gif.specs.Log.{entriesIn}
-use Rattle.memories.specs.declared.VifUnit.the-variants.{Vif1}
-use Rattle.memories.specs.Lengths.{Lent, lengthsRefusal}
+use Rattle.memories.specs.Lengths.{Lent}
 use Rattle.chain.specs.declared.StartResult.{StartResult}
-use Rattle.chain.specs.Range.{mainRefused, entryRefusal}
-use Rattle.chain.specs.Start.{resetState, startOf}
+use Rattle.chain.specs.Start.{resetState}
 use Rattle.sheet.specs.declared.BuildAnswer.the-variants.{Built}
 use Rattle.sheet.specs.Reader.{Contents, valid, refused}
 use Rattle.sheet.specs.Editions.{contentsOf}
 use Rattle.sheet.specs.Build.{builtFrom, buildOf}
-use Rattle.conformance.specs.Demand.{recordsIn, recordsOf, Typed, Premises, Conclusion}
+use Rattle.conformance.specs.Demand.{recordsIn, recordsOf, Premises, Conclusion}
 use Rattle.conformance.proofs.Theorem.{demand-3}
-use Rattle.supplier.specs.Check.{begun, runFromReset, meantFrom, checkOf}
+use Rattle.supplier.specs.Check.{begun, checkOf}
 use Rattle.supplier.specs.Claims.{Matches, BuiltHere, AcceptedWhole}
 use Rattle.supplier.proofs.RunLaws.{reset-starts}
 use Rattle.supplier.proofs.Theorems.{accepted-exactly, matches-run}

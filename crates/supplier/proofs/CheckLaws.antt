@@ -1,13 +1,12 @@
 -- What the check's functions answer.
 use mathlib.Core.Path.{_≡_, refl, sym, ap, _∙_}
 use mathlib.Core.List.{List, append-nil}
-use Prim.Native.Nat.{ℕ, suc, _+_, _<_, _≤_}
+use Prim.Native.Nat.{ℕ, _+_, _<_}
 use native.Mathlib.Numerals.{add-one}
 use native.Mathlib.Omega.{arith}
 use borrow.Author.Tests.{ne-eqb}
 use lib.ListN.{length, getD, set, drop, drop-of-length-le}
 use lib.Seq.{sets, drop-cons}
-use lib.Dec.{eqb}
 use Rattle.fields.specs.Fields.{if}
 use Rattle.fields.specs.Parts.{withWords}
 use Rattle.gif.specs.Log.{entriesIn}
@@ -38,9 +37,9 @@ use Rattle.compare.specs.declared.Comparison.{Comparison}
 use Rattle.compare.specs.declared.CompareAnswer.{CompareAnswer}
 use Rattle.compare.specs.declared.CompareAnswer.the-variants.{Compared, Refused as CompareRefused}
 use Rattle.compare.specs.Elements.{firstDiffering, foundIn}
-use Rattle.compare.specs.Parts.{dataPart, codePart, logPart, asks, lookedAt, Asked}
+use Rattle.compare.specs.Parts.{dataPart, codePart, asks, lookedAt, Asked}
 use Rattle.compare.specs.Boards.{memories, Board, board, memoriesOf, unitFound, comparisonOf, compareOf}
-use Rattle.compare.specs.Equal.{InRange, Whole}
+use Rattle.compare.specs.Equal.{Whole}
 use Rattle.compare.proofs.TestLaws.{never}
 use Rattle.compare.proofs.Verdict.{whole-compared}
 use Rattle.supplier.specs.declared.CheckAnswer.{CheckAnswer}

@@ -1,6 +1,6 @@
 -- A run from reset: it is VIF1's from the first step to the last, so what it leaves has the lengths that it was lent.
 use mathlib.Core.Path.{_≡_, refl, sym, ap, _∙_}
-use mathlib.Core.Bool.{Bool, true, false, not}
+use mathlib.Core.Bool.{false, not}
 use mathlib.Core.List.{List}
 use Prim.Native.Nat.{ℕ}
 use borrow.Author.Tests.{eqb-true, not-false}
@@ -32,8 +32,8 @@ use Rattle.chain.specs.Start.{resetState, startResult, startedFrom, startOf}
 use Rattle.chain.specs.Tags.{tagState, tagRead, tagStep}
 use Rattle.chain.specs.Pending.{tagsAfter, payloadAfter}
 use Rattle.chain.specs.Step.{Machine, machine, Stepped, steppedBy, fedUnit, afterVif, vifTook, vifGiven, afterGif, gifGiven, payloadStep, payloadOrTag, pendingOrTag, stepOf}
-use Rattle.chain.specs.Run.{Ran, stepsOf, runOf}
-use Rattle.chain.specs.Stops.{stepFrom, Reaches, here, step, Stops, at-end, at-allowance, at-interrupt, at-refusal}
+use Rattle.chain.specs.Run.{Ran, stepsOf}
+use Rattle.chain.specs.Stops.{Reaches, here, step, Stops, at-end, at-allowance, at-interrupt, at-refusal}
 use Rattle.chain.proofs.ReadyLaws.{Fields, fields-of, state-of, facts-of}
 use Rattle.chain.proofs.RunLaws.{run-entered}
 use Rattle.chain.proofs.Theorems.{run-stops, run-accepted}

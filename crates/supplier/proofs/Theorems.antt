@@ -1,18 +1,18 @@
 -- Request 13: the check accepts exactly if the run leaves the sheet's meaning, names the first difference otherwise, and accepts the chain that the builder makes.
 use mathlib.Core.Path.{_≡_, refl, sym, ap, _∙_}
-use mathlib.Core.Bool.{Bool, true, false, not, _&&_}
+use mathlib.Core.Bool.{true, false, not, _&&_}
 use mathlib.Core.Logic.{_↔_}
 use mathlib.Core.List.{List, []}
 use Prim.Native.Nat.{ℕ, _*_, _<_, _≤_}
 use native.Mathlib.Omega.{arith}
 use borrow.Author.Tests.{eq-eqb, eqb-true, eqb-false, lt-ltb, le-ltb, ltb-true, ltb-false, not-false}
-use lib.ListN.{length, take, drop}
+use lib.ListN.{length, take}
 use lib.Seq.{take-all}
 use lib.Dec.{eqb, ltb}
 use Rattle.fields.specs.Fields.{if}
 use Rattle.fields.proofs.ChoiceLaws.{if-ind-by, and-left, and-right, not-true}
 use Rattle.gif.specs.declared.Entry.{Entry}
-use Rattle.gif.specs.Log.{entrySize, logMost, entriesIn}
+use Rattle.gif.specs.Log.{logMost, entriesIn}
 use Rattle.gif.proofs.RangeLaws.{log-fits}
 use Rattle.gif.proofs.LogLaws.{in-count}
 use Rattle.memories.specs.declared.VifUnit.the-variants.{Vif1}
@@ -26,16 +26,15 @@ use Rattle.chain.specs.Run.{Ran, runOf}
 use Rattle.sheet.specs.Records.{Record}
 use Rattle.sheet.specs.Reader.{Contents, valid, refused}
 use Rattle.sheet.specs.Editions.{contentsOf}
-use Rattle.sheet.specs.Meaning.{Plain, plain, meaningOf}
+use Rattle.sheet.specs.Meaning.{Plain, plain}
 use Rattle.sheet.specs.Match.{leading}
 use Rattle.sheet.proofs.MeaningLaws.{meaning-kept}
-use Rattle.compare.specs.Tests.{firstOf}
 use Rattle.compare.specs.Elements.{differs as differsAt, firstDiffering, foundIn}
 use Rattle.compare.specs.Equal.{FirstDifference, Says as FoundSays}
 use Rattle.compare.proofs.TestLaws.{first-is}
 use Rattle.compare.proofs.ListLaws.{found-says}
 use Rattle.supplier.specs.declared.CheckAnswer.{CheckAnswer}
-use Rattle.supplier.specs.declared.CheckAnswer.the-variants.{Accepted, Refused, Stopped, Entry as EntryDiffers, Entries}
+use Rattle.supplier.specs.declared.CheckAnswer.the-variants.{Accepted, Entry as EntryDiffers, Entries}
 use Rattle.supplier.specs.Check.{begun, runFromReset, meantFrom, lowestQuadword, lowestInstruction, lowestEntry, difference, judged, Checked, checkSheet, checkOf}
 use Rattle.supplier.specs.Claims.{Equal, Differs, quadword, instruction, entry, number, Matches, Says, matches, refused-entry, refused-sheet, stopped, differs}
 use Rattle.supplier.proofs.EntryLaws.{entry-first, other-number, entries-same, same-entries}

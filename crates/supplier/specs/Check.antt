@@ -9,7 +9,6 @@ use lib.Dec.{eqb, ltb}
 use Rattle.fields.specs.declared.Counts.{Counts}
 use Rattle.fields.specs.Counts.{none}
 use Rattle.fields.specs.Fields.{if}
-use Rattle.gif.specs.declared.Entry.{Entry}
 use Rattle.gif.specs.Log.{entriesIn}
 use Rattle.memories.specs.declared.VifUnit.the-variants.{Vif1}
 use Rattle.memories.specs.Units.{quadwords, instructions}

@@ -1,4 +1,3 @@
-use mathlib.Core.Path.{refl}
 use borrow.Author.Needs.{needs}
 use Rattle.supplier.proofs.CheckLaws.{by-answer}
 use Rattle.supplier.proofs.verdict.judge.Statement.{statement}

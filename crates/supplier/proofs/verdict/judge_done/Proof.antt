@@ -1,4 +1,3 @@
-use mathlib.Core.Path.{_∙_}
 use borrow.Author.Needs.{needs}
 use Rattle.supplier.proofs.CheckLaws.{match-never, done-judged}
 use Rattle.supplier.proofs.verdict.judge_done.Statement.{statement}
