@@ -1,57 +1,53 @@
 // Definitions and laws: fields of numbers, the choice by a test, numbers in main memory, and blocks of words put together of parts.
+mod counting;
 mod memory;
 pub mod refusals;
 
+pub use counting::no_counts;
+pub use counting::no_units;
+pub use counting::of_unit;
+pub use counting::one_if;
+pub use counting::one_quadword;
+pub use counting::one_tag;
+pub use counting::one_word;
+pub use counting::plus;
+pub use counting::plus_units;
+pub use counting::quadwords_alone;
+pub use counting::words_alone;
 pub use memory::lies_inside;
 pub use memory::long_at;
 pub use memory::word_at;
-use std::num::wrapping_add_u64;
 ghost use mathlib.Core.Path.{_≡_};
 ghost use lib.ListN.{set};
-ghost use Rattle.fields.specs.Counts.{oneIf, stepsAlone, oneStep, plusModulo};
 ghost use Rattle.fields.specs.Parts.{withWords};
 
-// What is counted over completed steps.
+// Sums of QWC, by tag ID.
+pub struct Qwc {
+    pub id0: u64,
+    pub id1: u64,
+    pub id2: u64,
+    pub id3: u64,
+    pub id4: u64,
+    pub id5: u64,
+    pub id6: u64,
+    pub id7: u64,
+}
+
+// What is counted over completed steps: the steps, the packets closed, the VIF words taken, the NOPs among them, and QWC of the tags read.
 pub struct Counts {
     pub steps: u64,
     pub packets: u64,
+    pub words: u64,
+    pub nops: u64,
+    pub qwc: Qwc,
 }
 
-// Of n steps that count for nothing else.
-pub fn steps_alone(n: u64) -> Counts
-    ensures { λ r. ⌜ r ≡ stepsAlone n ⌝ }
-{
-    Counts {
-        steps: n,
-        packets: 0,
-    }
-}
-
-// Of a step, by whether it closed a packet.
-pub fn one_step(closed: bool) -> Counts
-    ensures { λ r. ⌜ r ≡ oneStep closed ⌝ }
-{
-    Counts {
-        steps: 1,
-        packets: one_if(closed),
-    }
-}
-
-// Of steps and those after them.
-pub fn plus(a: Counts, b: Counts) -> Counts
-    ensures { λ r. ⌜ r ≡ plusModulo a b ⌝ }
-{
-    Counts {
-        steps: wrapping_add_u64(a.steps, b.steps),
-        packets: wrapping_add_u64(a.packets, b.packets),
-    }
-}
-
-// 1 for what is so, 0 for what is not.
-pub fn one_if(b: bool) -> u64
-    ensures { λ r. ⌜ r ≡ oneIf b ⌝ }
-{
-    if b { 1 } else { 0 }
+// Of steps that read no tag.
+pub struct UnitCounts {
+    pub steps: u64,
+    pub packets: u64,
+    pub words: u64,
+    pub nops: u64,
 }
 
 fn put_word(block: &mut [u32], at: usize, word: u32)

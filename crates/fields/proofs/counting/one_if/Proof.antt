@@ -1,6 +1,6 @@
 use Rattle.fields.specs.Counts.{oneIf}
-use Rattle.fields.proofs.one_if.Statement.{statement}
-use Rattle.fields.proofs.one_if.Tie as tie
+use Rattle.fields.proofs.counting.one_if.Statement.{statement}
+use Rattle.fields.proofs.counting.one_if.Tie as tie
 
 returns : tie.Need-returns
 unfolding oneIf
