@@ -2,6 +2,7 @@
 -- the number of such quadwords among its completed steps", and request 14's "Each run hands back its counts over completed steps, which request 9 adds too".
 use Prim.Native.Nat.{ℕ, _+_, _%_, _^_, _<_, _≤_}
 use mathlib.Core.Bool.{Bool, true, false}
+use mathlib.Core.List.{List, [], _∷_}
 use lib.Dec.{eqb}
 use Rattle.fields.specs.declared.Qwc.{Qwc}
 use Rattle.fields.specs.declared.Counts.{Counts}
@@ -112,6 +113,13 @@ plus a b = counts (plusUnits (unitCounts a) (unitCounts b)) (plusQwc (a .qwc) (b
 -- the same in numbers of 64 bits
 unfoldable pub plusModulo : Counts → Counts → Counts
 plusModulo a b = counts (plusUnitsModulo (unitCounts a) (unitCounts b)) (plusQwcModulo (a .qwc) (b .qwc))
+
+-- the counts as numbers one after another: the steps, the packets closed, the VIF words, the NOPs, and QWC by ID
+abbrev pub qwcNumbers : Qwc → List ℕ
+qwcNumbers q = q .id0 ∷ q .id1 ∷ q .id2 ∷ q .id3 ∷ q .id4 ∷ q .id5 ∷ q .id6 ∷ q .id7 ∷ []
+
+abbrev pub countNumbers : Counts → List ℕ
+countNumbers a = a .steps ∷ a .packets ∷ a .words ∷ a .nops ∷ qwcNumbers (a .qwc)
 
 -- the sums fit their 64 bits, also QWC over all IDs
 pub record SumsFit (a : Counts) : Type 0 where

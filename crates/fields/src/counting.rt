@@ -6,7 +6,7 @@ use std::num::wrapping_add_u64;
 ghost use mathlib.Core.Path.{_≡_};
 ghost use lib.Dec.{eqb};
 ghost use Rattle.fields.specs.Fields.{if};
-ghost use Rattle.fields.specs.Counts.{oneIf, noUnits, oneWord, wordsAlone, oneQuadword, quadwordsAlone, plusUnitsModulo, noQwc, qwcUnder, plusQwcModulo, none, ofUnit, oneTag, plusModulo};
+ghost use Rattle.fields.specs.Counts.{oneIf, noUnits, oneWord, wordsAlone, oneQuadword, quadwordsAlone, plusUnitsModulo, noQwc, qwcUnder, plusQwcModulo, none, ofUnit, oneTag, plusModulo, countNumbers};
 
 // 1 for what is so, 0 for what is not.
 pub fn one_if(b: bool) -> u64
@@ -173,4 +173,25 @@ pub fn plus(a: Counts, b: Counts) -> Counts
         nops: wrapping_add_u64(a.nops, b.nops),
         qwc: plus_qwc(a.qwc, b.qwc),
     }
+}
+
+// As numbers one after another.
+pub fn count_numbers(a: Counts) -> [u64; 12]
+    ensures { λ r. ⌜ r ≡ countNumbers a ⌝ }
+{
+    let q = a.qwc;
+    [
+        a.steps,
+        a.packets,
+        a.words,
+        a.nops,
+        q.id0,
+        q.id1,
+        q.id2,
+        q.id3,
+        q.id4,
+        q.id5,
+        q.id6,
+        q.id7,
+    ]
 }

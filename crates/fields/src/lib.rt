@@ -3,6 +3,7 @@ mod counting;
 mod memory;
 pub mod refusals;
 
+pub use counting::count_numbers;
 pub use counting::no_counts;
 pub use counting::no_units;
 pub use counting::of_unit;
