@@ -1,10 +1,13 @@
 // State blocks of cases, and states and answers as results show them.
 use chain::Answer;
 use chain::State;
+use fields::Counts;
 use state_block::STATE_WORDS;
 ghost use mathlib.Core.Path.{_≡_};
+ghost use Rattle.fields.specs.Counts.{countNumbers};
 ghost use Rattle.chain.specs.Run.{numberOf};
-ghost use Rattle.cases.specs.Memories.{ruled, wordFrom};
+ghost use Rattle.wire.specs.Words.{sent, sentAll};
+ghost use Rattle.cases.specs.Memories.{ruled, wordFrom, longsWords};
 ghost use Rattle.state_block.specs.Sizes.{stateSize};
 ghost use Rattle.blocks.specs.Shown.{shownBlock};
 
@@ -38,4 +41,12 @@ pub fn shown_block(block: [u32; STATE_WORDS], state: State) -> [u32; STATE_WORDS
         return state_block::state_block(state);
     }
     block
+}
+
+// A run's counts, two words for each number.
+pub fn emit_counts(out: &mut [u8; 65536], at: usize, counts: Counts) -> usize
+    ensures { λ r. ⌜ sent (now (out .exit)) r ≡ sentAll (now (out .entry)) at (longsWords (countNumbers counts)) ⌝ }
+{
+    let numbers = fields::count_numbers(counts);
+    cases::emit_longs(out, at, &numbers)
 }

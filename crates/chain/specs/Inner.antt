@@ -6,7 +6,7 @@ use mathlib.Core.Path.{_≡_}
 use lib.ListN.{length}
 use lib.Dec.{eqb}
 use Rattle.fields.specs.declared.Counts.{Counts}
-use Rattle.fields.specs.Counts.{Counted}
+use Rattle.fields.specs.declared.UnitCounts.{UnitCounts}
 use Rattle.fields.specs.Fields.{if}
 use Rattle.gif.specs.Log.{logRefused}
 use Rattle.gif.specs.Range.{pathInRange}
@@ -60,13 +60,12 @@ pub record PayloadNext (s : State) (at n : ℕ) : Type 0 where
   pub payload : s .payload ≡ Words at n
   pub some : n ≡ 0 → ⊥
 
-abbrev pub burstResult : State → Counts → Bool → BurstResult
+abbrev pub burstResult : State → UnitCounts → Bool → BurstResult
 burstResult s c i = record { state = s; counts = c; interrupt = i }
 
 -- some steps of a run of at most n, from x to y: i says whether the last of them was an interrupt mark, at which the run stops
 pub record Burst (main : List ℕ) (n : ℕ) (x : Machine) (i : Bool) (c : Counts) (y : Machine) : Type 0 where
   pub few : c .steps ≤ n
-  pub counted : Counted c
   pub some : i ≡ true → 1 ≤ c .steps
   pub goes : i ≡ false → Reaches main c x y
   pub stops : i ≡ true → stepsOf main n (x .state) (x .memories) ≡ ran Interrupt (y .state) c (y .memories)
@@ -74,7 +73,6 @@ pub record Burst (main : List ℕ) (n : ℕ) (x : Machine) (i : Bool) (c : Count
 -- some steps of a run of at most n, from x to y, at least one, and the answer to the last; or none, and the refusal of the first, at which the run stops
 pub record Advance (main : List ℕ) (n : ℕ) (x : Machine) (a : StepAnswer) (c : Counts) (y : Machine) : Type 0 where
   pub few : c .steps ≤ n
-  pub counted : Counted c
   pub some : a ≡ Completed false → 1 ≤ c .steps
   pub goes : a ≡ Completed false → Reaches main c x y
   pub interrupts : a ≡ Completed true → stepsOf main n (x .state) (x .memories) ≡ ran Interrupt (y .state) c (y .memories)

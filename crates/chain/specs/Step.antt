@@ -4,7 +4,8 @@ use mathlib.Core.Bool.{false}
 use mathlib.Core.List.{List}
 use lib.Dec.{eqb}
 use Rattle.fields.specs.declared.Counts.{Counts}
-use Rattle.fields.specs.Counts.{none, oneStep}
+use Rattle.fields.specs.declared.UnitCounts.{UnitCounts}
+use Rattle.fields.specs.Counts.{oneQuadword, ofUnit, none}
 use Rattle.fields.specs.Fields.{if}
 use Rattle.gif.specs.declared.GifPath.the-variants.{Three}
 use Rattle.gif.specs.declared.GifAnswer.{GifAnswer}
@@ -12,6 +13,7 @@ use Rattle.gif.specs.declared.GifAnswer.the-variants.{Taken, Refused as GifRefu
 use Rattle.gif.specs.Step.{Left as GifLeft, gifStep}
 use Rattle.memories.specs.declared.VifUnit.{VifUnit}
 use Rattle.memories.specs.Lengths.{Lent, lent}
+use Rattle.vif.specs.declared.Incoming.{Incoming}
 use Rattle.vif.specs.declared.Vif.{Vif}
 use Rattle.vif.specs.declared.VifAnswer.{VifAnswer}
 use Rattle.vif.specs.declared.VifAnswer.the-variants.{Word, Quadword, Refused as VifRefused}
@@ -63,25 +65,25 @@ fedUnit s = unitOf (s .channel)
 abbrev pub heldBy : VifUnit → State → Vif
 heldBy which s = pickUnit which (s .vif0) (s .vif1)
 
--- a word or quadword that a unit was given, by what it made of it, and, request 1, by whether it closed a packet; t and p are what is then pending, p by the number of words taken
-abbrev pub afterVif : VifUnit → VifAnswer → VifLeft → TagWords → (ℕ → Payload) → State → Lent → Stepped
-afterVif which (Word i) o t p s m = stepped (Completed i) (countsIn (Word i)) (withPending (withUnit which s (o .unit) (o .path2) (o .used)) t (p 1)) (o .memories)
-afterVif which (Quadword i closed) o t p s m = stepped (Completed i) (countsIn (Quadword i closed)) (withPending (withUnit which s (o .unit) (o .path2) (o .used)) t (p 4)) (o .memories)
-afterVif which (VifRefused n) o t p s m = refusedStep n s m
+-- a word or quadword that a unit was given, by what it made of it and what that counts for; t and p are what is then pending, p by the number of words taken
+abbrev pub afterVif : VifUnit → VifAnswer → UnitCounts → VifLeft → TagWords → (ℕ → Payload) → State → Lent → Stepped
+afterVif which (Word i) c o t p s m = stepped (Completed i) (ofUnit c) (withPending (withUnit which s (o .unit) (o .path2) (o .used)) t (p 1)) (o .memories)
+afterVif which (Quadword i closed) c o t p s m = stepped (Completed i) (ofUnit c) (withPending (withUnit which s (o .unit) (o .path2) (o .used)) t (p 4)) (o .memories)
+afterVif which (VifRefused n) c o t p s m = refusedStep n s m
 
-abbrev pub givenVif : VifUnit → VifLeft → TagWords → (ℕ → Payload) → State → Lent → Stepped
-givenVif which o t p s m = afterVif which (o .answer) o t p s m
+abbrev pub givenVif : VifUnit → Incoming → VifLeft → TagWords → (ℕ → Payload) → State → Lent → Stepped
+givenVif which n o t p s m = afterVif which (o .answer) (countsIn (heldBy which s .waiting) n (o .answer)) o t p s m
 
 -- the step of a unit with the word at an address
 abbrev pub vifTook : VifUnit → List ℕ → ℕ → State → Lent → VifLeft
 vifTook which main a s m = vifStep which (heldBy which s) (s .path2) (incomingAt main a) (s .used) m
 
 unfoldable pub vifGiven : List ℕ → ℕ → TagWords → (ℕ → Payload) → State → Lent → Stepped
-vifGiven main a t p s m = givenVif (fedUnit s) (vifTook (fedUnit s) main a s m) t p s m
+vifGiven main a t p s m = givenVif (fedUnit s) (incomingAt main a) (vifTook (fedUnit s) main a s m) t p s m
 
 -- a quadword that path 3 was given
 abbrev pub afterGif : GifAnswer → GifLeft → Payload → State → Lent → Stepped
-afterGif (Taken closed) o p s m = stepped (Completed false) (oneStep closed) (withPending (withPath3 s (o .path) (o .used)) (s .tags) p) (lent (m .mem) (m .code) (o .log))
+afterGif (Taken closed) o p s m = stepped (Completed false) (ofUnit (oneQuadword closed)) (withPending (withPath3 s (o .path) (o .used)) (s .tags) p) (lent (m .mem) (m .code) (o .log))
 afterGif (GifRefused n) o p s m = refusedStep n s m
 
 abbrev pub givenGif : GifLeft → Payload → State → Lent → Stepped

@@ -4,7 +4,8 @@ use mathlib.Core.Bool.{Bool, true, false, not, _&&_, _||_}
 use mathlib.Core.List.{List}
 use lib.ListN.{length}
 use lib.Dec.{eqb, ltb, leb}
-use Rattle.fields.specs.Counts.{none, oneStep}
+use Rattle.fields.specs.declared.Counts.{Counts}
+use Rattle.fields.specs.Counts.{none, oneTag}
 use Rattle.fields.specs.Fields.{if, bits}
 use Rattle.fields.specs.Refusals.{tadrOutside, addrUnaligned, scratchpadSet, stackFull, payloadOutside}
 use Rattle.chain.specs.declared.Stack.{Stack}
@@ -112,15 +113,16 @@ tagState id addr qwc s =
     (tagWordsOf (s .tte) (s .tadr))
     (payloadOf (payloadAt id addr (s .tadr)) qwc)
 
-abbrev pub completedResult : Bool → Bool → State → StepResult
-completedResult i closed s = record { answer = Completed i; counts = oneStep closed; state = s }
+abbrev pub completedResult : Bool → Counts → State → StepResult
+completedResult i c s = record { answer = Completed i; counts = c; state = s }
 
 abbrev pub refusedResult : ℕ → State → StepResult
 refusedResult n s = record { answer = Refused n; counts = none; state = s }
 
+-- by the refusal; request 14's "QWC by tag ID": it counts whole in the tag's own step, and a refused tag counts for nothing
 abbrev pub tagAnswer : ℕ → ℕ → State → StepResult
 tagAnswer n tag s =
-    if (eqb n 0) (completedResult false false (tagState (idOf tag) (addrOf tag) (qwcOf tag) s)) (refusedResult n s)
+    if (eqb n 0) (completedResult false (oneTag (idOf tag) (qwcOf tag)) (tagState (idOf tag) (addrOf tag) (qwcOf tag) s)) (refusedResult n s)
 
 unfoldable pub tagRead : ℕ → ℕ → State → StepResult
 tagRead size tag s =

@@ -9,14 +9,14 @@ use super::setters::held_by;
 use super::setters::with_path3;
 use super::setters::with_pending;
 use super::setters::with_unit;
-use fields::Counts;
-use fields::steps_alone;
+use fields::no_units;
+use fields::quadwords_alone;
 use gif::GifPath;
 ghost use mathlib.Core.Path.{_≡_};
 ghost use mathlib.Core.Bool.{false};
 ghost use mathlib.Core.List.{List};
 ghost use Prim.Native.Nat.{ℕ, _≤_};
-ghost use Rattle.fields.specs.Counts.{none};
+ghost use Rattle.fields.specs.Counts.{noUnits, ofUnit};
 ghost use Rattle.memories.specs.Lengths.{lent};
 ghost use Rattle.chain.specs.declared.TagWords.the-variants.{Nothing};
 ghost use Rattle.chain.specs.Inner.{Ready, PayloadNext, PayloadInside, Burst, burstResult};
@@ -35,7 +35,7 @@ fn give_words(
 ) -> BurstResult
     requires { ⌜ PayloadNext s at count × (PayloadInside (now main) s at count × (s .channel ≡ 2 → ⊥)) ⌝ }
     ensures { λ r. ⌜ Burst (now (main .entry)) limit (machine s (lent (now («data» .entry)) (now (code .entry)) (now (log .entry))))
-        (r .interrupt) (r .counts) (machine (r .state) (lent (now («data» .exit)) (now (code .exit)) (now (log .exit)))) ⌝ }
+        (r .interrupt) (ofUnit (r .counts)) (machine (r .state) (lent (now («data» .exit)) (now (code .exit)) (now (log .exit)))) ⌝ }
 {
     let which = unit_of(s.channel);
     let unit = held_by(which, s);
@@ -86,7 +86,7 @@ fn give_quadwords(
 ) -> BurstResult
     requires { ⌜ PayloadNext s at count × (PayloadInside (now main) s at count × (s .channel ≡ 2)) ⌝ }
     ensures { λ r. ⌜ ((mem code : List ℕ) → Burst (now (main .entry)) limit (machine s (lent mem code (now (log .entry))))
-        (r .interrupt) (r .counts) (machine (r .state) (lent mem code (now (log .exit))))) ⌝ }
+        (r .interrupt) (ofUnit (r .counts)) (machine (r .state) (lent mem code (now (log .exit))))) ⌝ }
 {
     let path3 = s.path3;
     let r = gif::take_quadwords(
@@ -100,10 +100,7 @@ fn give_quadwords(
     );
     let path = r.path;
     let rest = payload_after(at, count, 4 * r.taken);
-    let counts = Counts {
-        steps: r.taken as u64,
-        packets: r.packets,
-    };
+    let counts = quadwords_alone(r.taken as u64, r.packets);
     BurstResult {
         state: with_pending(with_path3(s, path, r.used), TagWords::Nothing, rest),
         counts,
@@ -113,9 +110,9 @@ fn give_quadwords(
 
 // No step.
 fn no_burst(s: State) -> BurstResult
-    ensures { λ r. ⌜ r ≡ burstResult s none false ⌝ }
+    ensures { λ r. ⌜ r ≡ burstResult s noUnits false ⌝ }
 {
-    let counts = steps_alone(0);
+    let counts = no_units();
     BurstResult {
         state: s,
         counts,
@@ -135,7 +132,7 @@ fn give_payload(
 ) -> BurstResult
     requires { ⌜ Ready (now main) s (lent (now «data») (now code) (now log)) × ((s .tags ≡ Nothing) × (s .payload ≡ payload)) ⌝ }
     ensures { λ r. ⌜ Burst (now (main .entry)) limit (machine s (lent (now («data» .entry)) (now (code .entry)) (now (log .entry))))
-        (r .interrupt) (r .counts) (machine (r .state) (lent (now («data» .exit)) (now (code .exit)) (now (log .exit)))) ⌝ }
+        (r .interrupt) (ofUnit (r .counts)) (machine (r .state) (lent (now («data» .exit)) (now (code .exit)) (now (log .exit)))) ⌝ }
 {
     match payload {
         Payload::Nothing => no_burst(s),
@@ -162,7 +159,7 @@ pub(crate) fn burst(
 ) -> BurstResult
     requires { ⌜ Ready (now main) s (lent (now «data») (now code) (now log)) ⌝ }
     ensures { λ r. ⌜ Burst (now (main .entry)) limit (machine s (lent (now («data» .entry)) (now (code .entry)) (now (log .entry))))
-        (r .interrupt) (r .counts) (machine (r .state) (lent (now («data» .exit)) (now (code .exit)) (now (log .exit)))) ⌝ }
+        (r .interrupt) (ofUnit (r .counts)) (machine (r .state) (lent (now («data» .exit)) (now (code .exit)) (now (log .exit)))) ⌝ }
 {
     let tags = s.tags;
     let payload = s.payload;

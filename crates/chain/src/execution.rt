@@ -8,8 +8,9 @@ use super::burst::burst;
 use super::pending::finished;
 use super::range::entry_refusal;
 use super::step::step;
+use fields::no_counts;
+use fields::of_unit;
 use fields::plus;
-use fields::steps_alone;
 ghost use mathlib.Core.Path.{_≡_};
 ghost use mathlib.Core.Bool.{false};
 ghost use Prim.Native.Nat.{_≤_};
@@ -34,7 +35,7 @@ fn advance(
     let b = burst(main, s, limit, data, code, log);
     let after = b.state;
     if b.counts.steps != 0 {
-        let counts = b.counts;
+        let counts = of_unit(b.counts);
         return AdvanceResult {
             answer: StepAnswer::Completed(b.interrupt),
             state: after,
@@ -66,7 +67,7 @@ fn steps_of(
         ≡ stepsOf (now (main .entry)) allowance state (lent (now («data» .entry)) (now (code .entry)) (now (log .entry))) ⌝ }
 {
     let mut s = state;
-    let mut counts = steps_alone(0);
+    let mut counts = no_counts();
     let answer = loop {
         if finished(s) {
             break Answer::Done;
@@ -108,7 +109,7 @@ pub fn run(
 {
     let refused = entry_refusal(main, data, code, log, state);
     if refused != 0 {
-        let counts = steps_alone(0);
+        let counts = no_counts();
         return RunResult {
             answer: Answer::Refused(refused),
             state,

@@ -64,7 +64,7 @@ pub struct StepResult {
 // What some steps leave and count for, and whether the last of them was an interrupt mark.
 pub(crate) struct BurstResult {
     pub(crate) state: State,
-    pub(crate) counts: fields::Counts,
+    pub(crate) counts: fields::UnitCounts,
     pub(crate) interrupt: bool,
 }
 

@@ -14,9 +14,12 @@ use super::tags::completed;
 use super::tags::refused;
 use super::tags::take_tag;
 use fields::long_at;
+use fields::of_unit;
+use fields::one_quadword;
 use gif::GifAnswer;
 use gif::GifPath;
 use vif::VifAnswer;
+use vif::counts_in;
 use vif::incoming_at;
 ghost use mathlib.Core.Path.{_≡_};
 ghost use mathlib.Core.List.{List};
@@ -44,23 +47,22 @@ fn give_vif(
     let which = unit_of(s.channel);
     let unit = held_by(which, s);
     let path2 = s.path2;
+    let waiting = unit.waiting;
     let next = incoming_at(main, a);
     let r = vif::take(which, unit, path2, next, data, code, log, s.used);
     let answer = r.answer;
+    let counts = of_unit(counts_in(waiting, next, answer));
     let after = r.unit;
     let path = r.path2;
     match answer {
         VifAnswer::Word(i) => completed(
             i,
-            false,
+            counts,
             with_pending(with_unit(which, s, after, path, r.used), tags, one),
         ),
-        VifAnswer::Quadword {
-            interrupt: i,
-            closed,
-        } => completed(
+        VifAnswer::Quadword { interrupt: i, .. } => completed(
             i,
-            closed,
+            counts,
             with_pending(with_unit(which, s, after, path, r.used), tags, four),
         ),
         VifAnswer::Refused(n) => refused(n, s),
@@ -88,7 +90,7 @@ fn give_gif(main: &[u8], a: u32, rest: Payload, s: State, log: &mut [u64]) -> St
     match answer {
         GifAnswer::Taken(closed) => completed(
             false,
-            closed,
+            of_unit(one_quadword(closed)),
             with_pending(with_path3(s, path, r.used), tags, rest),
         ),
         GifAnswer::Refused(n) => refused(n, s),

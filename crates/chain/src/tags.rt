@@ -6,9 +6,10 @@ use super::StepAnswer;
 use super::StepResult;
 use super::TagWords;
 use super::setters::with_tag;
-use fields::one_step;
+use fields::Counts;
+use fields::no_counts;
+use fields::one_tag;
 use fields::refusals;
-use fields::steps_alone;
 use fields::word_at;
 ghost use mathlib.Core.Path.{_≡_};
 ghost use mathlib.Core.Bool.{_||_, _&&_, not};
@@ -241,11 +242,10 @@ fn tag_state(id: u32, addr: u32, qwc: u32, s: State) -> State
     with_tag(s, next, ended, after, tags, payload)
 }
 
-// A step that was completed; `closed` says whether it closed a packet.
-pub(crate) fn completed(interrupt: bool, closed: bool, state: State) -> StepResult
-    ensures { λ r. ⌜ r ≡ completedResult interrupt closed state ⌝ }
+// A step that was completed, and what it counts for.
+pub(crate) fn completed(interrupt: bool, counts: Counts, state: State) -> StepResult
+    ensures { λ r. ⌜ r ≡ completedResult interrupt counts state ⌝ }
 {
-    let counts = one_step(closed);
     StepResult {
         answer: StepAnswer::Completed(interrupt),
         counts,
@@ -256,7 +256,7 @@ pub(crate) fn completed(interrupt: bool, closed: bool, state: State) -> StepResu
 pub(crate) fn refused(number: u32, state: State) -> StepResult
     ensures { λ r. ⌜ r ≡ refusedResult number state ⌝ }
 {
-    let counts = steps_alone(0);
+    let counts = no_counts();
     StepResult {
         answer: StepAnswer::Refused(number),
         counts,
@@ -276,7 +276,7 @@ fn read_tag(size: usize, low: u32, high: u32, s: State) -> StepResult
     let stack = s.stack;
     let refusal = tag_refusal(size, s.tadr, id, addr, spr, qwc, stack);
     if refusal == 0 {
-        completed(false, false, tag_state(id, addr, qwc, s))
+        completed(false, one_tag(id, qwc), tag_state(id, addr, qwc, s))
     } else {
         refused(refusal, s)
     }

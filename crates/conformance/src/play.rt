@@ -3,8 +3,8 @@ use super::PlayAnswer;
 use super::PlayResult;
 use chain::StartAnswer;
 use chain::State;
+use fields::no_counts;
 use fields::refusals;
-use fields::steps_alone;
 use memories::VifUnit;
 use memories::lengths_refusal;
 use sheet::BuildAnswer;
@@ -35,7 +35,7 @@ fn length_refusal(main: &[u8], data: &[u32], code: &[u8], log: &[u64], used: u64
 fn refused(number: u32, offset: usize, state: State) -> PlayResult
     ensures { λ r. ⌜ r ≡ refusedWith number offset state ⌝ }
 {
-    let counts = steps_alone(0);
+    let counts = no_counts();
     PlayResult {
         answer: PlayAnswer::Refused { number, offset },
         state,

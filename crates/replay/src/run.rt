@@ -5,6 +5,7 @@ use super::input::call_word;
 use super::sums::tell_sums;
 use super::why::why_call;
 use blocks::answer_number;
+use blocks::emit_counts;
 use blocks::shown_block;
 use cases::emit_memories;
 use cases::tell_changes;
@@ -16,7 +17,6 @@ use console::set_in_block;
 use state_block::state_in_block;
 use wire::emit;
 use wire::emit_all;
-use wire::emit_long;
 use wire::joined;
 
 fn start_number(answer: StartAnswer) -> u32 {
@@ -130,8 +130,8 @@ fn run_chain(
     let answer = r.answer;
     let left = r.state;
     let a = emit(out, s.at, answer_number(answer));
-    let n = emit_long(out, a, r.counts.steps);
-    let b = emit_long(out, n, r.counts.packets);
+    let counts = r.counts;
+    let b = emit_counts(out, a, counts);
     tell_state(out, b, case, left)
 }
 

@@ -4,6 +4,7 @@ use super::parts::fill_of;
 use super::parts::tell_head;
 use blocks::answer_number;
 use blocks::block_at;
+use blocks::emit_counts;
 use blocks::shown_block;
 use cases::emit_bytes;
 use cases::emit_memories;
@@ -11,7 +12,6 @@ use cases::fill_bytes;
 use cases::fill_memories;
 use conformance::PlayAnswer;
 use wire::emit_all;
-use wire::emit_long;
 use wire::joined;
 use wire::word_at;
 
@@ -49,8 +49,8 @@ fn play(
     let left = r.state;
     let shown = shown_block(block, left);
     let a = tell_head(out, at, play_head(answer));
-    let n = emit_long(out, a, r.counts.steps);
-    let b = emit_long(out, n, r.counts.packets);
+    let counts = r.counts;
+    let b = emit_counts(out, a, counts);
     emit_all(out, b, &shown)
 }
 

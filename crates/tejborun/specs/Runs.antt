@@ -1,9 +1,10 @@
 -- Calls on a state block: reset, start, set and run.
 use Prim.Native.Nat.{ℕ}
 use mathlib.Core.Bool.{Bool, true, false, not, _||_}
-use mathlib.Core.List.{List, [], _∷_}
+use mathlib.Core.List.{List}
 use lib.ListN.{length}
 use lib.Dec.{eqb, ltb}
+use Rattle.fields.specs.Counts.{countNumbers}
 use Rattle.fields.specs.Fields.{if}
 use Rattle.memories.specs.Lengths.{Lent}
 use Rattle.chain.specs.declared.StartAnswer.{StartAnswer}
@@ -69,12 +70,16 @@ left n m block result = record { answer = n; memories = m; block = block; result
 abbrev pub moved : Ran → Bool
 moved x = not (eqb (x .counts .steps) 0)
 
--- the steps and the packets closed
+-- how many numbers a run's counts are
+abbrev pub countsSize : ℕ
+countsSize = 12
+
+-- request 14: "Each run hands back its counts over completed steps"
 abbrev pub runLeft : Ran → List ℕ → List ℕ → Left
 runLeft x block result =
-    left (numberOf (x .answer)) (x .after .memories) (writtenBack (moved x) (x .after .state) block) (written (x .counts .steps ∷ x .counts .packets ∷ []) result)
+    left (numberOf (x .answer)) (x .after .memories) (writtenBack (moved x) (x .after .state) block) (written (countNumbers (x .counts)) result)
 
 unfoldable pub runCall : List ℕ → Lent → List ℕ → ℕ → List ℕ → Left
 runCall main m block allowance result =
-    if (wrongBlock block || ltb (length result) 2) (left short m block result)
+    if (wrongBlock block || ltb (length result) countsSize) (left short m block result)
     (runLeft (runOf main allowance (stateInBlock block .state) m) block result)

@@ -1,6 +1,6 @@
 // A sheet's chain built in main memory, started and run.
 use super::blocks::put_back;
-use super::results::put_three;
+use super::results::put_after;
 use super::runs::run_number;
 use conformance::PlayAnswer;
 use state_block::STATE_WORDS;
@@ -58,7 +58,7 @@ pub extern "C" fn tejborun_build_and_run(
     if block.len() != STATE_WORDS {
         return 60;
     }
-    if result.len() < 3 {
+    if result.len() < 13 {
         return 60;
     }
     let read = state_in_block(block);
@@ -67,11 +67,7 @@ pub extern "C" fn tejborun_build_and_run(
     let answer = r.answer;
     let state = r.state;
     put_back(block, begun(answer), state);
-    put_three(
-        result,
-        r.counts.steps,
-        play_offset(answer),
-        r.counts.packets,
-    );
+    let counts = r.counts;
+    put_after(result, play_offset(answer), counts);
     play_number(answer)
 }

@@ -1,7 +1,7 @@
 // Calls on a state block: reset, start, set and run.
 use super::blocks::put_back;
 use super::blocks::put_state;
-use super::results::put_two;
+use super::results::put_counts;
 use chain::Answer;
 use chain::StartAnswer;
 use console::SetAnswer;
@@ -117,7 +117,7 @@ pub extern "C" fn tejborun_run(
     if block.len() != STATE_WORDS {
         return 60;
     }
-    if result.len() < 2 {
+    if result.len() < 12 {
         return 60;
     }
     let read = state_in_block(block);
@@ -126,6 +126,7 @@ pub extern "C" fn tejborun_run(
     let answer = r.answer;
     let state = r.state;
     put_back(block, moved(r.counts.steps), state);
-    put_two(result, r.counts.steps, r.counts.packets);
+    let counts = r.counts;
+    put_counts(result, counts);
     run_number(answer)
 }

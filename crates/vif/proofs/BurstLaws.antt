@@ -18,9 +18,9 @@ use Rattle.gif.specs.declared.GifAnswer.the-variants.{Taken}
 use Rattle.gif.specs.declared.QuadwordsResult.{QuadwordsResult}
 use Rattle.gif.specs.Step.{gifStep}
 use Rattle.gif.specs.Feed.{Fed as GifFed, fedBy, feedOf as gifFeedOf}
-use Rattle.fields.specs.declared.Counts.{Counts}
-use Rattle.fields.specs.Counts.{none as noCounts, counts, stepsAlone, plus as plusCounts, Counted}
-use Rattle.fields.proofs.CountLaws.{one-quiet, counted-plus}
+use Rattle.fields.specs.declared.UnitCounts.{UnitCounts}
+use Rattle.fields.specs.Counts.{noUnits, oneWord, wordsAlone, quadwordsAlone, plusUnits, Counted}
+use Rattle.fields.proofs.CountLaws.{one-quiet, counted-quadwords, counted-plus}
 use Rattle.gif.proofs.FeedLaws.{Takes, none, more, feed-quadwords, feed-few, takes-packets}
 use Rattle.memories.specs.declared.VifUnit.{VifUnit}
 use Rattle.memories.specs.Units.{quadwords, instructions}
@@ -44,7 +44,7 @@ use Rattle.vif.specs.declared.Vif.{Vif}
 use Rattle.vif.specs.Setters.{withRow, withWaiting}
 use Rattle.vif.specs.Payload.{completes, orNothing, mpgStored, writeRegisters}
 use Rattle.vif.specs.Words.{incomingAt}
-use Rattle.vif.specs.Step.{leaves, wordIn, giveQuadword, directStep, mpgRefused, mpgStep, unpackStep, stepBy, vifStep}
+use Rattle.vif.specs.Step.{leaves, wordIn, nopIn, giveQuadword, directStep, mpgRefused, mpgStep, unpackStep, stepBy, vifStep}
 use Rattle.vif.specs.Feeds.{Fed, fed, aWord, aQuadword}
 use Rattle.vif.specs.Inner.{UnpackReady, MpgReady, Leads, directs, Quadwords, fedIn, Going, Bursts, takenWith}
 use Rattle.vif.proofs.RangeLaws.{memory-accepted}
@@ -67,12 +67,13 @@ waits-still : (due : ℕ) (w : Waiting) → 1 < due → orNothing due w ≡ w
 unfolding orNothing if
 waits-still due w h = rw (ne-eqb due 1 (λ e. omega arith))
 
--- a word more
-word-more : {which : VifUnit} {main : List ℕ} {a k : ℕ} {x y z : Fed} → Leads which main a k (stepsAlone k) x y
+-- a word of payload more
+word-more : {which : VifUnit} {main : List ℕ} {a k : ℕ} {x y z : Fed} → Leads which main a k (wordsAlone k) x y
     → vifStep which (y .unit) (y .path2) (incomingAt main (a + 4 * k)) (y .used) (y .memories) ≡ leaves (aWord false) (z .unit) (z .path2) (z .used) (z .memories)
-    → Leads which main a (k + 1) (stepsAlone (k + 1)) x z
-word-more {z = z} p e =
-    leads-then p (rw one-quiet at (leads-one {o = leaves (aWord false) (z .unit) (z .path2) (z .used) (z .memories)} (sym e) refl (λ q. omega arith) refl))
+    → nopIn (y .unit .waiting) (wordIn (incomingAt main (a + 4 * k))) ≡ false
+    → Leads which main a (k + 1) (wordsAlone (k + 1)) x z
+word-more {z = z} p e w =
+    leads-then p (rw (w, one-quiet) at (leads-one {o = leaves (aWord false) (z .unit) (z .path2) (z .used) (z .memories)} (sym e) refl (λ q. omega arith) refl))
 
 -- ---- UNPACK
 
@@ -110,7 +111,7 @@ module _ (which : VifUnit) (size : ℕ) (z : size ≡ quadwords which) (v : Vif)
   wordsWritten u row mem a n = takeWords size f u (writeRegisters v) (wordsFrom main a n) (written row mem)
 
   words-lead : (n a : ℕ) (u : Unpacking) (row mem : List ℕ) → UnpackReady size v f u mem → n < u .due
-      → Leads which main a n (stepsAlone n) (fed (unpacking v f row u) p used (lent mem code log))
+      → Leads which main a n (wordsAlone n) (fed (unpacking v f row u) p used (lent mem code log))
       (fed (unpacking v f (wordsWritten u row mem a n .row) (heldAfter u (wordsFrom main a n))) p used (lent (wordsWritten u row mem a n .mem) code log))
   unfolding wordsFrom takeWords heldAfter
   words-lead zero a u row mem g h = leads-none
@@ -125,7 +126,7 @@ module _ (which : VifUnit) (size : ℕ) (z : size ≡ quadwords which) (v : Vif)
 
   pub unpack-leads : {n a : ℕ} {u : Unpacking} {mem m : List ℕ} {r : Registers} {s : WordsTaken} → v .waiting ≡ UnpackDue f u → UnpackReady size v f u mem → n < u .due
       → a ≤ 1048576 → r ≡ writeRegisters v → wordsLeft s m ≡ takeWordsOf size f u r main a n (v .row) mem
-      → Leads which main a n (stepsAlone n) (fed v p used (lent mem code log)) (fed (unpacking v f (s .row) (s .rest)) p used (lent m code log))
+      → Leads which main a n (wordsAlone n) (fed v p used (lent mem code log)) (fed (unpacking v f (s .row) (s .rest)) p used (lent m code log))
   unfolding takeWordsOf wordsAcceptable takenBy if
   unpack-leads {n} {a} {u} {mem} q g h l er es =
       let e = rw (er, le-leb a 1048576 l, lt-ltb n (u .due) h, g .accepted) at es in
@@ -154,7 +155,7 @@ module _ (v : Vif) (address count : ℕ) (i : Bool) where
   storing due = withWaiting v (MpgDue address count due i)
 
   pub mpg-begins : (which : VifUnit) (main : List ℕ) (a due : ℕ) (p : Path) (used : ℕ) (m : Lent) → v .waiting ≡ MpgDue address count due i
-      → Leads which main a 0 noCounts (fed v p used m) (fed (storing (due - 0)) p used m)
+      → Leads which main a 0 noUnits (fed v p used m) (fed (storing (due - 0)) p used m)
   mpg-begins which main a due p used m h = rw (sub-zero due, ← ap (λ (w : Waiting). fed (withWaiting v w) p used m) h) leads-none
 
   module _ (which : VifUnit) {size : ℕ} (z : size ≡ instructions which) where
@@ -167,12 +168,12 @@ module _ (v : Vif) (address count : ℕ) (i : Bool) where
     pub mpg-more : {main : List ℕ} {a k due word : ℕ} {p : Path} {used : ℕ} {mem code code′ log : List ℕ} {x : Fed}
         → mpgRefused count due (incomingAt main a) ≡ false → due ≤ count + count → k + 1 < due
         → word ≡ wordAt main (a + 4 * k) → code′ ≡ mpgStored size address count (due - k) word code
-        → Leads which main a k (stepsAlone k) x (fed (storing (due - k)) p used (lent mem code log))
-        → Leads which main a (k + 1) (stepsAlone (k + 1)) x (fed (storing (due - (k + 1))) p used (lent mem code′ log))
+        → Leads which main a k (wordsAlone k) x (fed (storing (due - k)) p used (lent mem code log))
+        → Leads which main a (k + 1) (wordsAlone (k + 1)) x (fed (storing (due - (k + 1))) p used (lent mem code′ log))
     mpg-more {main} {a} {k} {due} {word} {p} {used} {mem} {code} {code′} {log} r b h e s l =
         let d : due - (k + 1) ≡ due - k - 1 = omega arith in
         rw (d, s)
-        (word-more l (mpg-step (due - k) word (omega arith) p used mem code log (incomingAt main (a + 4 * k)) (never-later main a count due k r b (omega arith)) (incoming-word main (a + 4 * k) ∙ sym e)))
+        (word-more l (mpg-step (due - k) word (omega arith) p used mem code log (incomingAt main (a + 4 * k)) (never-later main a count due k r b (omega arith)) (incoming-word main (a + 4 * k) ∙ sym e)) refl)
 
 -- ---- DIRECT and DIRECTHL
 
@@ -203,7 +204,7 @@ module _ (which : VifUnit) (main : List ℕ) (v : Vif) (mem code : List ℕ) (hl
       ∙ rw (incoming-quadword main a h) (rw (← j) (rw (e, not-last due i l, waits-still due (directs hl (due - 1) i) l)))
 
   pub direct-leads : {a due used : ℕ} {p : Path} {log : List ℕ} {x : GifFed} → Takes Two main a p used log x → ((x .taken ≡ 0 → ⊥) → a % 16 ≡ 0) → x .taken < due
-      → Leads which main a (4 * x .taken) (counts (x .taken) (x .packets)) (giving due p used log) (giving (due - x .taken) (x .path) (x .used) (x .log))
+      → Leads which main a (4 * x .taken) (quadwordsAlone (x .taken) (x .packets)) (giving due p used log) (giving (due - x .taken) (x .path) (x .used) (x .log))
   direct-leads {a} {due} none h l = rw (sub-zero due) leads-none
   direct-leads {a} {due} {used} {p} {log} (more {x = x} e t) h l =
       let z : a % 16 ≡ 0 = h (λ q. omega arith) in
@@ -234,9 +235,9 @@ quadwords-taken {main} {a} {due} {words} {steps} {n} {used} {p} {log} {log′} {
 pub burst-none : {which : VifUnit} {main : List ℕ} {limit a count : ℕ} {s : WordsResult} {m : Lent} → Going limit a count s → Bursts which main limit a count s m s m
 burst-none g = record { same = refl; stays = λ r. r; later = omega arith; going = g }
 
-pub burst-leads : {which : VifUnit} {main : List ℕ} {limit a count k used : ℕ} {n : Counts} {s t : WordsResult} {m m′ : Lent} {v : Vif} {p : Path} → Going limit a count s
+pub burst-leads : {which : VifUnit} {main : List ℕ} {limit a count k used : ℕ} {n : UnitCounts} {s t : WordsResult} {m m′ : Lent} {v : Vif} {p : Path} → Going limit a count s
     → k < count - s .words → n .steps < limit - s .counts .steps → Counted n → Leads which main (a + 4 * s .words) k n (fedIn s m) (fed v p used m′)
-    → t ≡ takenWith v p used (s .words + k) (plusCounts (s .counts) n) (s .interrupt) → Bursts which main limit a count s m t m′
+    → t ≡ takenWith v p used (s .words + k) (plusUnits (s .counts) n) (s .interrupt) → Bursts which main limit a count s m t m′
 burst-leads {which} {main} {limit} {a} {count} {k} {used} {n} {s} {t} {m} {m′} g h l x i e =
     rw e
     (record {
@@ -250,9 +251,9 @@ pub burst-quadwords : {which : VifUnit} {main : List ℕ} {limit a count due : �
     → Going limit a count s → s .unit .waiting ≡ directs hl due i
     → Quadwords main (a + 4 * s .words) due (count - s .words) (limit - s .counts .steps) (s .path2) (s .used) log r log′
     → rest ≡ directs hl (due - r .taken) i
-    → t ≡ takenWith (withWaiting (s .unit) rest) (r .path) (r .used) (s .words + 4 * r .taken) (plusCounts (s .counts) (counts (r .taken) (r .packets))) (s .interrupt)
+    → t ≡ takenWith (withWaiting (s .unit) rest) (r .path) (r .used) (s .words + 4 * r .taken) (plusUnits (s .counts) (quadwordsAlone (r .taken) (r .packets))) (s .interrupt)
     → Bursts which main limit a count s (lent mem code log) t (lent mem code log′)
 burst-quadwords {which} {s = s} mem code {log} hl i g q x w e =
-    burst-leads g (x .few-words) (x .few-steps) (record { few = x .few-packets })
+    burst-leads g (x .few-words) (x .few-steps) (counted-quadwords (x .few-packets))
     (rw (← ap (λ (w : Waiting). fed (withWaiting (s .unit) w) (s .path2) (s .used) (lent mem code log)) q) at (x .leads which (s .unit) mem code hl i))
     (rw w at e)

@@ -9,6 +9,7 @@ use lib.Dec.{eqb}
 use Rattle.fields.specs.Fields.{if}
 use Rattle.fields.specs.Refusals.{cmdUnlisted, topsMissing}
 use Rattle.fields.proofs.ChoiceLaws.{if-ind, if-ind-by, and-left, and-right, not-true}
+use Rattle.fields.specs.declared.UnitCounts.{UnitCounts}
 use Rattle.gif.specs.declared.Path.{Path}
 use Rattle.gif.specs.Range.{pathInRange}
 use Rattle.memories.specs.declared.VifUnit.the-variants.{Vif0}
@@ -28,7 +29,7 @@ use Rattle.vif.specs.Codes.{cmdOf, missingCode, codeListed, codeOf, deco
 use Rattle.vif.specs.Execute.{started, unpackRefusal, beginUnpack}
 use Rattle.vif.specs.Range.{directInRange, waitingInRange, unitInRange}
 use Rattle.vif.specs.Words.{incomingAt}
-use Rattle.vif.specs.Step.{Left, refused, wordIn, codeStep, mpgRefused, mpgStep, unpackStep, stepBy, vifStep, takeOf}
+use Rattle.vif.specs.Step.{Left, refused, wordIn, countsIn, codeStep, mpgRefused, mpgStep, unpackStep, stepBy, vifStep, takeOf}
 use Rattle.vif.specs.Feeds.{Fed}
 use Rattle.vif.specs.Feed.{FedOn, fedTo, afterWord, feedsOf, takesSteps, wordsInside, feedOf}
 use Rattle.vif.specs.Inner.{FedReady}
@@ -169,7 +170,7 @@ module _ (main : List ℕ) where
   unfolding feedsOf
   feeds-path zero a count x r = refl
   feeds-path (suc n) a count x r =
-      if-ind (λ (o : FedOn). o .after .path2 ≡ x .path2) (eqb count 0) refl (go (feeds-path n) (o .answer))
+      if-ind (λ (o : FedOn). o .after .path2 ≡ x .path2) (eqb count 0) refl (go (feeds-path n) (o .answer) (countsIn (x .unit .waiting) (incomingAt main a) (o .answer)))
     where
       o : Left
       o = vifStep Vif0 (x .unit) (x .path2) (incomingAt main a) (x .used) (x .memories)
@@ -181,12 +182,12 @@ module _ (main : List ℕ) where
       next = step-ready Vif0 (x .unit) (x .path2) (x .used) (x .memories) r (incomingAt main a) o refl
 
       go : ((a count : ℕ) (y : Fed) → FedReady Vif0 y → feedsOf Vif0 main n a count y .after .path2 ≡ y .path2)
-          → (b : VifAnswer) → afterWord (feedsOf Vif0 main n) b o a count x .after .path2 ≡ x .path2
-      go on (Word true) = same
-      go on (Word false) = on (a + 4) (count - 1) (fedTo o) next ∙ same
-      go on (Quadword true c) = same
-      go on (Quadword false c) = on (a + 16) (count - 4) (fedTo o) next ∙ same
-      go on (Refused k) = refl
+          → (b : VifAnswer) (c : UnitCounts) → afterWord (feedsOf Vif0 main n) b c o a count x .after .path2 ≡ x .path2
+      go on (Word true) c = same
+      go on (Word false) c = on (a + 4) (count - 1) (fedTo o) next ∙ same
+      go on (Quadword true d) c = same
+      go on (Quadword false d) c = on (a + 16) (count - 4) (fedTo o) next ∙ same
+      go on (Refused k) c = refl
 
   pub feed-path : (limit a count : ℕ) (x : Fed) → feedOf Vif0 main limit a count x .after .path2 ≡ x .path2
   unfolding feedOf

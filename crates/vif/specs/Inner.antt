@@ -4,8 +4,8 @@ use mathlib.Core.Bool.{Bool, true, false}
 use mathlib.Core.List.{List}
 use mathlib.Core.Path.{_≡_}
 use lib.ListN.{length}
-use Rattle.fields.specs.declared.Counts.{Counts}
-use Rattle.fields.specs.Counts.{counts, Counted}
+use Rattle.fields.specs.declared.UnitCounts.{UnitCounts}
+use Rattle.fields.specs.Counts.{quadwordsAlone, Counted}
 use Rattle.gif.specs.declared.Path.{Path}
 use Rattle.gif.specs.declared.QuadwordsResult.{QuadwordsResult}
 use Rattle.gif.specs.Log.{logRefused}
@@ -60,7 +60,7 @@ pub record StepReady (which : VifUnit) (v : Vif) (p : Path) (used : ℕ) (m : Le
   pub ranged : unitInRange which v ≡ true
 
 -- what words give, with k words before them whose steps count for c
-abbrev pub plus : ℕ → Counts → FedOn → FedOn
+abbrev pub plus : ℕ → UnitCounts → FedOn → FedOn
 plus = stepMore
 
 -- everything passes the unit's tests, between two steps
@@ -68,7 +68,7 @@ abbrev pub FedReady : VifUnit → Fed → Type 0
 FedReady which x = StepReady which (x .unit) (x .path2) (x .used) (x .memories)
 
 -- steps that count for c, with the k words from address a on, lead from x to y, whatever comes after them
-pub record Leads (which : VifUnit) (main : List ℕ) (a k : ℕ) (c : Counts) (x y : Fed) : Type 0 where
+pub record Leads (which : VifUnit) (main : List ℕ) (a k : ℕ) (c : UnitCounts) (x y : Fed) : Type 0 where
   pub goes : (l d : ℕ) → feedsOf which main (c .steps + l) a (k + d) x ≡ plus k c (feedsOf which main l (a + 4 * k) d y)
   pub stays : FedReady which x → FedReady which y
 
@@ -84,7 +84,7 @@ pub record Quadwords (main : List ℕ) (a due words steps : ℕ) (p : Path) (use
   pub few-steps : r .taken < steps
   pub few-packets : r .packets ≤ r .taken
   pub leads : (which : VifUnit) (v : Vif) (mem code : List ℕ) (hl i : Bool)
-      → Leads which main a (4 * r .taken) (counts (r .taken) (r .packets)) (fed (withWaiting v (directs hl due i)) p used (lent mem code log))
+      → Leads which main a (4 * r .taken) (quadwordsAlone (r .taken) (r .packets)) (fed (withWaiting v (directs hl due i)) p used (lent mem code log))
       (fed (withWaiting v (directs hl (due - r .taken) i)) (r .path) (r .used) (lent mem code log′))
 
 -- the unit, path 2, the entries used and the memories, with the words of s taken
@@ -120,5 +120,5 @@ pub record Gives (which : VifUnit) (main : List ℕ) (a : ℕ) (s : WordsResult)
   pub stops : (limit count : ℕ) → Going limit a count s → t .interrupt ≡ true → restOf which main limit a count s m ≡ fedOnBy t m′
   pub refuses : (limit count : ℕ) → Going limit a count s → t .counts .steps ≡ s .counts .steps → restOf which main limit a count s m ≡ fedOnBy t m′
 
-abbrev pub takenWith : Vif → Path → ℕ → ℕ → Counts → Bool → WordsResult
+abbrev pub takenWith : Vif → Path → ℕ → ℕ → UnitCounts → Bool → WordsResult
 takenWith v p used k c i = record { unit = v; path2 = p; used = used; words = k; counts = c; interrupt = i }

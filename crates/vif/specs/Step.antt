@@ -2,8 +2,8 @@
 use Prim.Native.Nat.{ℕ, _+_, _*_, _-_, _^_}
 use mathlib.Core.Bool.{Bool, true, false, not, _&&_}
 use lib.Dec.{eqb}
-use Rattle.fields.specs.declared.Counts.{Counts}
-use Rattle.fields.specs.Counts.{none, oneStep}
+use Rattle.fields.specs.declared.UnitCounts.{UnitCounts}
+use Rattle.fields.specs.Counts.{noUnits, oneWord, oneQuadword}
 use Rattle.fields.specs.Fields.{if, quadword}
 use Rattle.fields.specs.Refusals.{outOfRange, directUnaligned, mpgUnaligned}
 use Rattle.gif.specs.declared.GifPath.the-variants.{Two}
@@ -27,7 +27,7 @@ use Rattle.vif.specs.declared.Waiting.{Waiting}
 use Rattle.vif.specs.declared.Waiting.the-variants.{Nothing, MaskDue, RowDue, ColDue, MpgDue, DirectDue, DirecthlDue, UnpackDue}
 use Rattle.vif.specs.declared.Vif.{Vif}
 use Rattle.vif.specs.Setters.{withWaiting}
-use Rattle.vif.specs.Codes.{interruptOf, decodeOf}
+use Rattle.vif.specs.Codes.{cmdOf, interruptOf, decodeOf}
 use Rattle.vif.specs.Execute.{Executed, decodedStep}
 use Rattle.vif.specs.Payload.{completes, orNothing, rowWord, colWord, maskWord, mpgStored, mpgWord, unpackWritten, unpackUnit}
 use Rattle.vif.specs.Range.{unitInRange}
@@ -62,12 +62,6 @@ wordsTaken (Word i) = 1
 wordsTaken (Quadword i closed) = 4
 wordsTaken (Refused n) = 0
 
--- what the step counts for; only a quadword closes a packet
-abbrev pub countsIn : VifAnswer → Counts
-countsIn (Word i) = oneStep false
-countsIn (Quadword i closed) = oneStep closed
-countsIn (Refused n) = none
-
 -- the next word
 abbrev pub wordIn : Incoming → ℕ
 wordIn (Word0 a b c d) = a
@@ -81,6 +75,23 @@ oddWord (Word0 a b c d) = false
 oddWord (Word1 a) = true
 oddWord (Word2 a) = false
 oddWord (Word3 a) = true
+
+-- "NOPs": whether a word is decoded as that code, whatever its other bits; where a code waits, the word is payload
+abbrev pub nopIn : Waiting → ℕ → Bool
+nopIn Nothing word = eqb (cmdOf word) 0x00
+nopIn (MaskDue i) word = false
+nopIn (RowDue due i) word = false
+nopIn (ColDue due i) word = false
+nopIn (MpgDue a k due i) word = false
+nopIn (DirectDue due i) word = false
+nopIn (DirecthlDue due i) word = false
+nopIn (UnpackDue f u) word = false
+
+-- what the step counts for, by what waited, the next word and the answer: "VIF words taken (one-word steps)"; only a quadword closes a packet, and it is no word
+abbrev pub countsIn : Waiting → Incoming → VifAnswer → UnitCounts
+countsIn w n (Word i) = oneWord (nopIn w (wordIn n))
+countsIn w n (Quadword i closed) = oneQuadword closed
+countsIn w n (Refused k) = noUnits
 
 -- a refused step changes nothing
 abbrev pub refused : ℕ → Vif → Path → ℕ → Lent → Left

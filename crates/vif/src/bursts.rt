@@ -10,10 +10,11 @@ use super::registers::write_registers;
 use super::step::direct_rest;
 use super::step::directhl_rest;
 use super::words::incoming_at;
-use fields::Counts;
-use fields::plus;
-use fields::steps_alone;
+use fields::UnitCounts;
+use fields::plus_units;
+use fields::quadwords_alone;
 use fields::word_at;
+use fields::words_alone;
 use gif::GifPath;
 use gif::Path;
 use gif::QuadwordsResult;
@@ -25,7 +26,7 @@ ghost use mathlib.Core.Bool.{true, false};
 ghost use mathlib.Core.List.{List};
 ghost use Prim.Native.Nat.{ℕ, _+_, _*_, _-_, _%_, _^_, _<_, _≤_};
 ghost use lib.ListN.{length};
-ghost use Rattle.fields.specs.Counts.{counts, stepsAlone, plus as plusCounts, Counted};
+ghost use Rattle.fields.specs.Counts.{wordsAlone, quadwordsAlone, plusUnits, Counted};
 ghost use Rattle.gif.specs.declared.Path.{Path as PathT};
 ghost use Rattle.memories.specs.Units.{quadwords, instructions, dataWords, codeBytes};
 ghost use Rattle.memories.specs.Lengths.{lent};
@@ -42,7 +43,7 @@ pub(crate) fn taken(
     path2: Path,
     used: u64,
     words: u32,
-    counts: Counts,
+    counts: UnitCounts,
     interrupt: bool,
 ) -> WordsResult
     ensures { λ r. ⌜ r ≡ takenWith unit path2 used words counts interrupt ⌝ }
@@ -99,7 +100,7 @@ fn unpack_words(
 ) -> Vif
     requires { ⌜ (unit .waiting ≡ UnpackDue f u) × UnpackReady (quadwords which) unit f u (now «data») × (n < u .due) × (a + 4 * n ≤ 1048576) ⌝ }
     ensures { λ r. ⌜ ((p : PathT) (used : ℕ) (code log : List ℕ)
-        → Leads which (now (main .entry)) a n (stepsAlone n) (fed unit p used (lent (now («data» .entry)) code log))
+        → Leads which (now (main .entry)) a n (wordsAlone n) (fed unit p used (lent (now («data» .entry)) code log))
         (fed r p used (lent (now («data» .exit)) code log))) ⌝ }
 {
     let size = memories::quadwords(which);
@@ -127,7 +128,7 @@ fn mpg_words(
     requires { ⌜ (unit .waiting ≡ MpgDue address count due interrupt) × MpgReady (instructions which) address count due (now code)
         × (mpgRefused count due (incomingAt (now main) a) ≡ false) × (n < due) × (a + 4 * n ≤ 1048576) ⌝ }
     ensures { λ r. ⌜ ((p : PathT) (used : ℕ) (mem log : List ℕ)
-        → Leads which (now (main .entry)) a n (stepsAlone n) (fed unit p used (lent mem (now (code .entry)) log))
+        → Leads which (now (main .entry)) a n (wordsAlone n) (fed unit p used (lent mem (now (code .entry)) log))
         (fed r p used (lent mem (now (code .exit)) log))) ⌝ }
 {
     let size = memories::instructions(which);
@@ -172,15 +173,11 @@ fn quadwords(
 fn with_quadwords(s: WordsResult, r: QuadwordsResult, rest: Waiting) -> WordsResult
     requires { ⌜ (s .words + 4 * r .taken < 2 ^ 32) × (s .counts .steps + r .taken < 2 ^ 64) × Counted (s .counts) × (r .packets ≤ r .taken) ⌝ }
     ensures { λ t. ⌜ t
-        ≡ takenWith (withWaiting (s .unit) rest) (r .path) (r .used) (s .words + 4 * r .taken) (plusCounts (s .counts) (counts (r .taken) (r .packets))) (s .interrupt) ⌝ }
+        ≡ takenWith (withWaiting (s .unit) rest) (r .path) (r .used) (s .words + 4 * r .taken) (plusUnits (s .counts) (quadwordsAlone (r .taken) (r .packets))) (s .interrupt) ⌝ }
 {
     let unit = with_waiting(s.unit, rest);
     let words = s.words + 4 * r.taken;
-    let more = Counts {
-        steps: r.taken as u64,
-        packets: r.packets,
-    };
-    let counts = plus(s.counts, more);
+    let counts = plus_units(s.counts, quadwords_alone(r.taken as u64, r.packets));
     taken(unit, r.path, r.used, words, counts, s.interrupt)
 }
 
@@ -188,9 +185,9 @@ fn with_quadwords(s: WordsResult, r: QuadwordsResult, rest: Waiting) -> WordsRes
 fn with_words(s: WordsResult, unit: Vif, words: u32) -> WordsResult
     requires { ⌜ (s .words + words < 2 ^ 32) × (s .counts .steps + words < 2 ^ 64) × Counted (s .counts) ⌝ }
     ensures { λ r. ⌜ r
-        ≡ takenWith unit (s .path2) (s .used) (s .words + words) (plusCounts (s .counts) (stepsAlone words)) (s .interrupt) ⌝ }
+        ≡ takenWith unit (s .path2) (s .used) (s .words + words) (plusUnits (s .counts) (wordsAlone words)) (s .interrupt) ⌝ }
 {
-    let counts = plus(s.counts, steps_alone(words as u64));
+    let counts = plus_units(s.counts, words_alone(words as u64));
     taken(unit, s.path2, s.used, s.words + words, counts, s.interrupt)
 }
 

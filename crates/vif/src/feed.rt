@@ -4,21 +4,21 @@ use super::VifAnswer;
 use super::WordsResult;
 use super::bursts::burst;
 use super::bursts::taken;
+use super::counting::counts_in;
 use super::step::in_range;
 use super::step::step;
 use super::words::incoming_at;
-use fields::Counts;
+use fields::UnitCounts;
 use fields::lies_inside;
-use fields::one_step;
-use fields::plus;
-use fields::steps_alone;
+use fields::no_units;
+use fields::plus_units;
 use gif::Path;
 use memories::VifUnit;
 use memories::lengths_refusal;
 ghost use mathlib.Core.Path.{_≡_};
 ghost use mathlib.Core.Bool.{false};
 ghost use Prim.Native.Nat.{_+_, _*_, _^_, _<_, _≤_};
-ghost use Rattle.fields.specs.Counts.{none, oneStep, plus as plusCounts, Counted};
+ghost use Rattle.fields.specs.Counts.{noUnits, plusUnits, Counted};
 ghost use Rattle.memories.specs.Lengths.{lent};
 ghost use Rattle.vif.specs.Feeds.{fed};
 ghost use Rattle.vif.specs.Feed.{fedOnBy, feedsOf, wordsInside, takesSteps, feedOf};
@@ -26,17 +26,17 @@ ghost use Rattle.vif.specs.Inner.{StepReady, FedReady, fedIn, Gives, tak
 
 // Before the first word.
 fn nothing_taken(unit: Vif, path2: Path, used: u64) -> WordsResult
-    ensures { λ r. ⌜ r ≡ takenWith unit path2 used 0 none false ⌝ }
+    ensures { λ r. ⌜ r ≡ takenWith unit path2 used 0 noUnits false ⌝ }
 {
-    taken(unit, path2, used, 0, steps_alone(0), false)
+    taken(unit, path2, used, 0, no_units(), false)
 }
 
-// What steps count for with one more, by whether it closed a packet.
-fn one_more(counts: Counts, closed: bool) -> Counts
-    requires { ⌜ Counted counts × (counts .steps + 1 < 2 ^ 64) ⌝ }
-    ensures { λ r. ⌜ r ≡ plusCounts counts (oneStep closed) ⌝ }
+// What steps count for with one more, which counts for `more`.
+fn one_more(counts: UnitCounts, more: UnitCounts) -> UnitCounts
+    requires { ⌜ Counted counts × Counted more × (counts .steps + more .steps < 2 ^ 64) ⌝ }
+    ensures { λ r. ⌜ r ≡ plusUnits counts more ⌝ }
 {
-    plus(counts, one_step(closed))
+    plus_units(counts, more)
 }
 
 // One step more; one that is refused leaves all as it was.
@@ -54,22 +54,17 @@ fn give_word(
         r (lent (now («data» .exit)) (now (code .exit)) (now (log .exit))) ⌝ }
 {
     let unit = s.unit;
+    let waiting = unit.waiting;
     let path2 = s.path2;
     let next = incoming_at(main, a + 4 * s.words);
     let r = step(which, unit, path2, next, data, code, log, s.used);
     let answer = r.answer;
     let after = r.unit;
     let path = r.path2;
+    let counts = one_more(s.counts, counts_in(waiting, next, answer));
     match answer {
-        VifAnswer::Word(i) => {
-            let counts = one_more(s.counts, false);
-            taken(after, path, r.used, s.words + 1, counts, i)
-        }
-        VifAnswer::Quadword {
-            interrupt: i,
-            closed,
-        } => {
-            let counts = one_more(s.counts, closed);
+        VifAnswer::Word(i) => taken(after, path, r.used, s.words + 1, counts, i),
+        VifAnswer::Quadword { interrupt: i, .. } => {
             taken(after, path, r.used, s.words + 4, counts, i)
         }
         VifAnswer::Refused(_) => s,
@@ -103,12 +98,13 @@ fn give_words(
         if s.words >= count {
             return s;
         }
-        let b = burst(which, s, main, a, count, limit, data, code, log);
-        s = give_word(which, b, main, a, data, code, log);
+        s = burst(which, s, main, a, count, limit, data, code, log);
+        let before = s.counts.steps;
+        s = give_word(which, s, main, a, data, code, log);
         if s.interrupt {
             return s;
         }
-        if s.counts.steps == b.counts.steps {
+        if s.counts.steps == before {
             return s;
         }
     }

@@ -1,5 +1,6 @@
 // A VIF unit: codes, registers, payload, and DIRECT into the GIF's path 2. What each function means is said by the definitions of specs/.
 mod bursts;
+mod counting;
 mod decode;
 mod direct;
 mod execute;
@@ -11,6 +12,7 @@ mod registers;
 mod step;
 mod words;
 
+pub use counting::counts_in;
 pub use feed::take_words;
 pub use range::unit_in_range;
 pub use step::take;
@@ -143,6 +145,6 @@ pub struct WordsResult {
     pub path2: gif::Path,
     pub used: u64,
     pub words: u32,
-    pub counts: fields::Counts,
+    pub counts: fields::UnitCounts,
     pub interrupt: bool,
 }

@@ -41,7 +41,7 @@ ghost use Rattle.vif.specs.Payload.{completes, rowWord, colWord, mpgWord
 ghost use Rattle.vif.specs.Step.{answers, left, wordIn, codeStep, mpgStep, unpackStep, vifStep, takeOf};
 ghost use Rattle.vif.specs.Inner.{CodeReady, UnpackReady, MpgReady, StepReady};
 
-fn word_in(next: Incoming) -> u32
+pub(crate) fn word_in(next: Incoming) -> u32
     ensures { λ r. ⌜ r ≡ wordIn next ⌝ }
 {
     match next {

@@ -2,7 +2,7 @@ use mathlib.Core.Path.{sym, _∙_}
 use native.Mathlib.Omega.{arith}
 use borrow.Author.Needs.{needs}
 use Rattle.vif.proofs.RangeLaws.{mpg-due, mpg-ready}
-use Rattle.fields.proofs.CountLaws.{counted-alone}
+use Rattle.fields.proofs.CountLaws.{counted-words}
 use Rattle.vif.proofs.BurstLaws.{burst-none, burst-leads}
 use Rattle.vif.proofs.bursts.mpg_burst.Statement.{statement}
 use Rattle.vif.proofs.bursts.mpg_burst.Tie as tie
@@ -48,7 +48,7 @@ words c =
     let counted = c .before .before .before .before .before in
     let start = counted .before .before .before .before .before .before .before .before .before .before .before .before .before in
     let n = counted .at-once .ensures in
-    burst-leads (start .pre .2) (n .1) (n .2) (counted-alone _) (c .before .before .before .mpg-words .ensures _ _ mem log) (c .with-words .ensures)
+    burst-leads (start .pre .2) (n .1) (n .2) (counted-words _) (c .before .before .before .mpg-words .ensures _ _ mem log) (c .with-words .ensures)
 
 pub mpg-burst-spec : {M : Type 1} → statement M
 mpg-burst-spec =
@@ -61,7 +61,7 @@ mpg-burst-spec =
     (λ c κs. search needs)
     mpg-refused-requires
     (λ c. λ mem log. burst-none (c .before .before .before .before .before .before .before .before .before .before .pre .2))
-    (λ c. search needs)
+    (λ c. let g = c .before .before .before .before .before .before .before .before .before .before .before .pre .2 in omega arith)
     (λ c. let g = c .before .before .before .before .before .before .before .before .before .before .before .before .pre .2 in omega arith)
     at-once-requires
     mpg-words-requires

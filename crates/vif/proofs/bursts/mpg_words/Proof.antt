@@ -4,7 +4,7 @@ use Prim.Native.Nat.{ℕ, _-_, _≤_}
 use native.Mathlib.Omega.{arith}
 use borrow.Author.Needs.{needs}
 use lib.ListN.{length}
-use Rattle.fields.specs.Counts.{stepsAlone}
+use Rattle.fields.specs.Counts.{wordsAlone}
 use Rattle.gif.specs.declared.Path.{Path}
 use Rattle.memories.specs.declared.VifUnit.{VifUnit}
 use Rattle.memories.specs.Units.{instructions}
@@ -22,7 +22,7 @@ Inv-loop unit address count due interrupt main a n code₀ size k₀ code k =
       few : k ≤ n;
       leads :
           (which : VifUnit) → size ≡ instructions which → (p : Path) (used : ℕ) (mem log : List ℕ)
-          → Leads which main a k (stepsAlone k) (fed unit p used (lent mem code₀ log)) (fed (storing unit address count interrupt (due - k)) p used (lent mem code log));
+          → Leads which main a k (wordsAlone k) (fed unit p used (lent mem code₀ log)) (fed (storing unit address count interrupt (due - k)) p used (lent mem code log));
     }
 
 abbrev μ-loop : tie.MeasureT-loop

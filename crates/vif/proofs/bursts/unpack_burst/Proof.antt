@@ -1,6 +1,6 @@
 use native.Mathlib.Omega.{arith}
 use borrow.Author.Needs.{needs}
-use Rattle.fields.proofs.CountLaws.{counted-alone}
+use Rattle.fields.proofs.CountLaws.{counted-words}
 use Rattle.vif.proofs.BurstLaws.{burst-leads}
 use Rattle.vif.proofs.bursts.unpack_burst.Statement.{statement}
 use Rattle.vif.proofs.bursts.unpack_burst.Tie as tie
@@ -19,7 +19,7 @@ returns c =
     λ code log.
     let counted = c .before .before .before .before .before .before in
     let n = counted .at-once .ensures in
-    burst-leads (counted .before .before .before .before .before .before .pre .2) (n .1) (n .2) (counted-alone _) (c .before .before .before .unpack-words .ensures _ _ code log) (c .with-words .ensures)
+    burst-leads (counted .before .before .before .before .before .before .pre .2) (n .1) (n .2) (counted-words _) (c .before .before .before .unpack-words .ensures _ _ code log) (c .with-words .ensures)
 
 pub unpack-burst-spec : {M : Type 1} → statement M
 unpack-burst-spec =

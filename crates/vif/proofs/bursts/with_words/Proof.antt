@@ -1,6 +1,6 @@
 use mathlib.Core.Path.{_∙_}
 use borrow.Author.Needs.{needs}
-use Rattle.fields.proofs.CountLaws.{counted-alone, plus-fits}
+use Rattle.fields.proofs.CountLaws.{counted-words, plus-units-fits}
 use Rattle.vif.proofs.bursts.with_words.Statement.{statement}
 use Rattle.vif.proofs.bursts.with_words.Tie as tie
 
@@ -10,7 +10,7 @@ returns c =
     let alone = added .before in
     let start = alone .before in
     c .taken .ensures
-    ∙ rw (added .plus .ensures, alone .steps-alone .ensures, plus-fits (start .pre .2) (counted-alone (start .args .words)) (start .pre .1))
+    ∙ rw (added .plus-units .ensures, alone .words-alone .ensures, plus-units-fits (start .pre .2) (counted-words (start .args .words)) (start .pre .1))
 
 pub with-words-spec : {M : Type 1} → statement M
 with-words-spec =

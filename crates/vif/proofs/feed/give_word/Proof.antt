@@ -1,37 +1,46 @@
-use mathlib.Core.Path.{refl}
+use mathlib.Core.Path.{refl, _∙_}
+use Prim.Native.Nat.{_≤_}
 use native.Mathlib.Omega.{arith}
 use borrow.Author.Needs.{needs}
-use Rattle.vif.proofs.FeedLaws.{gives-taken, gives-refused}
+use Rattle.vif.proofs.FeedLaws.{taken-most, taken-counted, gives-taken, gives-refused}
 use Rattle.vif.proofs.feed.give_word.Statement.{statement}
 use Rattle.vif.proofs.feed.give_word.Tie as tie
 
 one-more-requires : tie.Need-one-more-requires
-one-more-requires c κs = let p = c .before .before .before .before .before .before .before .before .before .before .before .before .before .before .before .before .before .before .before .before .before .before .before .pre in (p .3, p .2)
-
-one-more-requires-2 : tie.Need-one-more-requires-2
-one-more-requires-2 c κs = let p = c .before .before .before .before .before .before .before .before .before .before .before .before .before .before .before .before .before .before .before .before .before .before .before .pre in (p .3, p .2)
+one-more-requires c κs =
+    let stepped = c .before .before .before .before .before .before .before .before .before in
+    let p = stepped .before .before .before .before .before .before .before .before .before .before .before .before .pre in
+    let e = c .counts-in .ensures in
+    let most : c .counts-in .result .steps ≤ 1 = rw e (taken-most _ _ (stepped .step .result .answer)) in
+    (p .3, rw e (taken-counted _ _ (stepped .step .result .answer)), omega arith)
 
 word-taken : tie.Need-returns
 word-taken c =
-    let counted = c .before .before in
-    let told = counted .before .before in
-    let stepped = told .before .before .before .before .before .before .before .before .before .before in
+    let told = c .before .before .before in
+    let more = told .before .before in
+    let counting = more .before in
+    let stepped = counting .before .before .before .before .before .before .before .before .before in
     let came = stepped .before .before .before .before in
     let start = came .before .before .before .before .before .before .before .before in
-    gives-taken _ _ _ _ _ (start .pre .0) (came .incoming-at .ensures) (stepped .step .ensures) (told .answer .given .1) refl refl (omega arith) (start .pre .3) (counted .one-more .ensures) (c .taken .ensures)
+    gives-taken _ _ _ _ _ (start .pre .0) (came .incoming-at .ensures) (stepped .step .ensures) (told .answer .given .1) refl refl (omega arith) (start .pre .3)
+    (more .one-more .ensures ∙ rw (counting .counts-in .ensures)) (c .taken .ensures)
 
 quadword-taken : tie.Need-returns-2
 quadword-taken c =
-    let counted = c .before .before in
-    let told = counted .before .before in
-    let stepped = told .before .before .before .before .before .before .before .before .before .before in
+    let told = c .before .before .before in
+    let more = told .before .before in
+    let counting = more .before in
+    let stepped = counting .before .before .before .before .before .before .before .before .before in
     let came = stepped .before .before .before .before in
     let start = came .before .before .before .before .before .before .before .before in
-    gives-taken _ _ _ _ _ (start .pre .0) (came .incoming-at .ensures) (stepped .step .ensures) (told .answer2 .given .1) refl refl (omega arith) (start .pre .3) (counted .one-more2 .ensures) (c .taken2 .ensures)
+    gives-taken _ _ _ _ _ (start .pre .0) (came .incoming-at .ensures) (stepped .step .ensures) (told .answer2 .given .1) refl refl (omega arith) (start .pre .3)
+    (more .one-more .ensures ∙ rw (counting .counts-in .ensures)) (c .taken2 .ensures)
 
 refused : tie.Need-returns-3
 refused c =
-    let stepped = c .before .before .before .before .before .before .before .before .before .before in
+    let more = c .before .before in
+    let counting = more .before in
+    let stepped = counting .before .before .before .before .before .before .before .before .before in
     let came = stepped .before .before .before .before in
     let start = came .before .before .before .before .before .before .before .before in
     gives-refused _ _ _ _ _ (start .pre .0) (came .incoming-at .ensures) (stepped .step .ensures) (c .enum-told .given .1) (start .pre .3)
@@ -44,22 +53,22 @@ give-word-spec =
     (λ c. search needs)
     (λ c κs. search needs)
     (λ c κs. search needs)
-    (λ c. search needs)
+    (λ c κs. search needs)
     one-more-requires
-    (λ c. let p = c .before .before .before .before .before .before .before .before .before .before .before .before .before .before .before .before .before .before .before .before .before .before .before .before .before .pre in omega arith)
+    (λ c. search needs)
+    (λ c. let p = c .before .before .before .before .before .before .before .before .before .before .before .before .before .before .before .before .before .before .before .before .before .before .before .before .before .before .pre in omega arith)
     (λ c κs. search needs)
     (λ c. search needs)
-    one-more-requires-2
-    (λ c. let p = c .before .before .before .before .before .before .before .before .before .before .before .before .before .before .before .before .before .before .before .before .before .before .before .before .before .pre in omega arith)
+    (λ c. let p = c .before .before .before .before .before .before .before .before .before .before .before .before .before .before .before .before .before .before .before .before .before .before .before .before .before .before .pre in omega arith)
     (λ c κs. search needs)
     (λ c. search needs)
-    (λ c. c .before .before .before .before .before .before .before .before .before .before .before .before .before .before .step .kept .1 .1 .1 .1 .0)
-    (λ c. c .before .before .before .before .before .before .before .before .before .before .before .before .before .before .step .kept .1 .1 .1 .1 .1 .0)
-    (λ c. search needs)
+    (λ c. c .before .before .before .before .before .before .before .before .before .before .before .before .before .before .before .step .kept .1 .1 .1 .1 .0)
+    (λ c. c .before .before .before .before .before .before .before .before .before .before .before .before .before .before .before .step .kept .1 .1 .1 .1 .1 .0)
+    (λ c. c .before .before .before .before .before .before .before .before .before .before .before .before .before .before .before .step .kept .1 .1 .1 .1 .1 .1 .0)
     word-taken
-    (λ c. c .before .before .before .before .before .before .before .before .before .before .before .before .before .before .step .kept .1 .1 .1 .1 .0)
-    (λ c. c .before .before .before .before .before .before .before .before .before .before .before .before .before .before .step .kept .1 .1 .1 .1 .1 .0)
-    (λ c. search needs)
+    (λ c. c .before .before .before .before .before .before .before .before .before .before .before .before .before .before .before .step .kept .1 .1 .1 .1 .0)
+    (λ c. c .before .before .before .before .before .before .before .before .before .before .before .before .before .before .before .step .kept .1 .1 .1 .1 .1 .0)
+    (λ c. c .before .before .before .before .before .before .before .before .before .before .before .before .before .before .before .step .kept .1 .1 .1 .1 .1 .1 .0)
     quadword-taken
     (λ c. search needs)
     (λ c. search needs)

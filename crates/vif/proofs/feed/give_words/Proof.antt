@@ -77,7 +77,7 @@ interrupted c =
 
 refused : tie.Need-returns-4 Inv-loop μ-loop
 refused c =
-    let gave = c .before .before .before .before .before .before .before .before .before .before in
+    let gave = c .before .before .before .before .before .before .before .before .before in
     let burst = gave .before .before .before .before .before .before .before .before .before .before in
     let turn = burst .before .before .before .before .before .before .before .before in
     let u = burst .burst .ensures in
@@ -85,7 +85,7 @@ refused c =
 
 loop-less : tie.Need-loop-less Inv-loop μ-loop
 loop-less c =
-    let gave = c .before .before .before .before .before .before .before .before .before .before in
+    let gave = c .before .before .before .before .before .before .before .before .before in
     let burst = gave .before .before .before .before .before .before .before .before .before .before in
     let turn = burst .before .before .before .before .before .before in
     let u = burst .burst .ensures in
@@ -96,12 +96,12 @@ loop-less c =
 
 loop-again : tie.Need-loop-again Inv-loop μ-loop
 loop-again c =
-    let gave = c .before .before .before .before .before .before .before .before .before .before in
+    let gave = c .before .before .before .before .before .before .before .before .before in
     let burst = gave .before .before .before .before .before .before .before .before .before .before in
     let turn = burst .before .before .before .before .before .before .before .before in
     let u = burst .burst .ensures in
     let g = gave .give-word .ensures in
-    let quiet = c .before .before .before .if3 .left in
+    let quiet = c .before .before .if3 .left in
     record {
       ready = g .ready;
       lengths = (gave .give-word .kept .1 .1 .1 .1 .0 ∙ burst .burst .kept .1 .1 .1 .1 .1 .1 .0 ∙ turn .loop .inv .lengths .0, gave .give-word .kept .1 .1 .1 .1 .1 .0 ∙ burst .burst .kept .1 .1 .1 .1 .1 .1 .1 .0 ∙ turn .loop .inv .lengths .1, gave .give-word .kept .1 .1 .1 .1 .1 .1 .0 ∙ burst .burst .kept .1 .1 .1 .1 .1 .1 .1 .1 .0 ∙ turn .loop .inv .lengths .2);
@@ -145,17 +145,17 @@ give-words-spec =
     gave .give-word .kept .1 .1 .1 .1 .1 .1 .0 ∙ burst .burst .kept .1 .1 .1 .1 .1 .1 .1 .1 .0 ∙ turn .loop .inv .lengths .2)
     interrupted
     (λ c.
-    let gave = c .before .before .before .before .before .before .before .before .before .before in
+    let gave = c .before .before .before .before .before .before .before .before .before in
     let burst = gave .before .before .before .before .before .before .before .before .before .before in
     let turn = burst .before .before .before .before .before .before .before .before in
     gave .give-word .kept .1 .1 .1 .1 .0 ∙ burst .burst .kept .1 .1 .1 .1 .1 .1 .0 ∙ turn .loop .inv .lengths .0)
     (λ c.
-    let gave = c .before .before .before .before .before .before .before .before .before .before in
+    let gave = c .before .before .before .before .before .before .before .before .before in
     let burst = gave .before .before .before .before .before .before .before .before .before .before in
     let turn = burst .before .before .before .before .before .before .before .before in
     gave .give-word .kept .1 .1 .1 .1 .1 .0 ∙ burst .burst .kept .1 .1 .1 .1 .1 .1 .1 .0 ∙ turn .loop .inv .lengths .1)
     (λ c.
-    let gave = c .before .before .before .before .before .before .before .before .before .before in
+    let gave = c .before .before .before .before .before .before .before .before .before in
     let burst = gave .before .before .before .before .before .before .before .before .before .before in
     let turn = burst .before .before .before .before .before .before .before .before in
     gave .give-word .kept .1 .1 .1 .1 .1 .1 .0 ∙ burst .burst .kept .1 .1 .1 .1 .1 .1 .1 .1 .0 ∙ turn .loop .inv .lengths .2)
