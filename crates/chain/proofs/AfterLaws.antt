@@ -7,8 +7,8 @@ use native.Mathlib.Omega.{arith}
 use borrow.Author.Tests.{leb-true, leb-false, le-leb, ltb-false, lt-ltb, eqb-true, eqb-false, eq-eqb, ne-eqb, not-false}
 use lib.ListN.{length}
 use lib.Dec.{eqb, leb, ltb}
-use Rattle.fields.specs.Counts.{oneStep, Counted}
-use Rattle.fields.proofs.CountLaws.{counted-none, counted-one}
+use Rattle.fields.specs.declared.Counts.{Counts}
+use Rattle.fields.specs.declared.UnitCounts.{UnitCounts}
 use Rattle.fields.specs.Fields.{if}
 use Rattle.fields.specs.Refusals.{tadrOutside, addrUnaligned, scratchpadSet, stackFull, payloadOutside}
 use Rattle.fields.proofs.FieldLaws.{bits-below}
@@ -295,10 +295,10 @@ module _ {main : List ℕ} {s : State} {m : Lent} (r : Ready main s m) where
             payload-in = w .payload-within;
           })
 
-      go : (b : VifAnswer) → Stays main (afterVif (fedUnit s) b o t p s m)
-      go (Word i) = record { stays = λ j e. again (p 1) one }
-      go (Quadword i c) = record { stays = λ j e. again (p 4) four }
-      go (VifRefused n) = refused-stays main n s m
+      go : (b : VifAnswer) (c : UnitCounts) → Stays main (afterVif (fedUnit s) b c o t p s m)
+      go (Word i) c = record { stays = λ j e. again (p 1) one }
+      go (Quadword i closed) c = record { stays = λ j e. again (p 4) four }
+      go (VifRefused n) c = refused-stays main n s m
 
   -- tag words: word 3 follows word 2
   tags-pending : (a : ℕ) → s .tags ≡ From a → Pending (tagsAfter a) (s .payload)
@@ -413,31 +413,30 @@ module _ {main : List ℕ} {s : State} {m : Lent} (r : Ready main s m) where
 record Same (s : State) (m : Lent) (x : Stepped) : Type 0 where
   same : (n : ℕ) → x .answer ≡ Refused n → x ≡ refusedStep n s m
   one : (i : Bool) → x .answer ≡ Completed i → x .counts .steps ≡ 1
-  few : Counted (x .counts)
 
 module _ (main : List ℕ) (s : State) (m : Lent) where
-  completed-same : (i closed : Bool) (t : State) (l : Lent) → Same s m (stepped (Completed i) (oneStep closed) t l)
-  completed-same i closed t l = record { same = λ n e. absurd (no-completed (sym e)); one = λ j e. refl; few = counted-one closed }
+  completed-same : (i : Bool) (c : Counts) (t : State) (l : Lent) → c .steps ≡ 1 → Same s m (stepped (Completed i) c t l)
+  completed-same i c t l h = record { same = λ n e. absurd (no-completed (sym e)); one = λ j e. h }
 
   refused-same : (k : ℕ) → Same s m (refusedStep k s m)
   refused-same k =
       record {
         same = λ n e. let q : k ≡ n = cc in ap (λ (j : ℕ). refusedStep j s m) q;
         one = λ i e. absurd (no-completed e);
-        few = counted-none;
       }
 
   tag-same : Same s m (steppedBy (tagStep main s) m)
   unfolding tagRead
-  tag-same = if-ind (λ (x : StepResult). Same s m (steppedBy x m)) _ (completed-same false false _ m) (refused-same _)
+  tag-same = if-ind (λ (x : StepResult). Same s m (steppedBy x m)) _ (completed-same false _ _ m refl) (refused-same _)
 
   vif-given-same : (a : ℕ) (t : TagWords) (p : ℕ → Payload) → Same s m (vifGiven main a t p s m)
   unfolding vifGiven
   vif-given-same a t p = go (vifTook (fedUnit s) main a s m .answer)
     where
-      go : (b : VifAnswer) → Same s m (afterVif (fedUnit s) b (vifTook (fedUnit s) main a s m) t p s m)
-      go (Word i) = completed-same i false _ _
-      go (Quadword i c) = completed-same i c _ _
+      go : (b : VifAnswer)
+          → Same s m (afterVif (fedUnit s) b (countsIn (heldBy (fedUnit s) s .waiting) (incomingAt main a) b) (vifTook (fedUnit s) main a s m) t p s m)
+      go (Word i) = completed-same i _ _ _ refl
+      go (Quadword i closed) = completed-same i _ _ _ refl
       go (VifRefused n) = refused-same n
 
   gif-given-same : (a : ℕ) (p : Payload) → Same s m (gifGiven main a p s m)
@@ -445,7 +444,7 @@ module _ (main : List ℕ) (s : State) (m : Lent) where
   gif-given-same a p = go (gifStep Three (s .path3) (quadwordAt main a) (s .used) (m .log) .answer)
     where
       go : (b : GifAnswer) → Same s m (afterGif b (gifStep Three (s .path3) (quadwordAt main a) (s .used) (m .log)) p s m)
-      go (Taken c) = completed-same false c _ _
+      go (Taken closed) = completed-same false _ _ _ refl
       go (GifRefused n) = refused-same n
 
   payload-same : (p : Payload) → Same s m (payloadOrTag p main s m)
@@ -468,7 +467,3 @@ module _ (main : List ℕ) (s : State) (m : Lent) where
   pub step-one : (x : Stepped) → x ≡ stepOf main s m → (i : Bool) → x .answer ≡ Completed i → x .counts .steps ≡ 1
   unfolding stepOf
   step-one x e i q = rw e (pending-same (s .tags) (s .payload) .one i (ap (λ (y : Stepped). y .answer) (sym e) ∙ q))
-
-  pub step-counted : (x : Stepped) → x ≡ stepOf main s m → Counted (x .counts)
-  unfolding stepOf
-  step-counted x e = rw e (pending-same (s .tags) (s .payload) .few)

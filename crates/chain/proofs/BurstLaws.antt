@@ -9,8 +9,9 @@ use native.Mathlib.Omega.{arith}
 use borrow.Author.Tests.{eqb-false, leb-true, leb-false, le-leb, lt-leb, ne-eqb}
 use lib.Dec.{eqb, leb}
 use Rattle.fields.specs.declared.Counts.{Counts}
-use Rattle.fields.specs.Counts.{none, counts, plus, Counted}
-use Rattle.fields.proofs.CountLaws.{plus-none, counted-none, counted-plus}
+use Rattle.fields.specs.declared.UnitCounts.{UnitCounts}
+use Rattle.fields.specs.Counts.{noUnits, quadwordsAlone, ofUnit, none, plus, SumsFit}
+use Rattle.fields.proofs.CountLaws.{plus-none, fit-part}
 use Rattle.fields.specs.Fields.{if}
 use Rattle.fields.proofs.ChoiceLaws.{if-ind, if-ind-by, and-false}
 use Rattle.fields.specs.Memory.{quadwordAt}
@@ -29,7 +30,7 @@ use Rattle.vif.specs.declared.Vif.{Vif}
 use Rattle.vif.specs.declared.VifAnswer.{VifAnswer}
 use Rattle.vif.specs.declared.VifAnswer.the-variants.{Word, Quadword, Refused as VifRefused}
 use Rattle.vif.specs.declared.WordsResult.{WordsResult}
-use Rattle.vif.specs.Step.{Left as VifLeft, vifStep}
+use Rattle.vif.specs.Step.{Left as VifLeft, countsIn, vifStep}
 use Rattle.vif.specs.Words.{incomingAt}
 use Rattle.vif.specs.Feeds.{Fed, fed}
 use Rattle.vif.specs.Feed.{FedOn, fedOn, fedOnBy, fedTo, stepMore, afterWord, feedsOf, feedOf}
@@ -44,10 +45,10 @@ use Rattle.chain.specs.declared.State.{State}
 use Rattle.chain.specs.Setters.{pickUnit, withPending, withUnit, withPath3}
 use Rattle.chain.specs.Pending.{noTags, payloadAfter}
 use Rattle.chain.specs.Inner.{Ready, PayloadInside, PayloadNext, Burst, Advance}
-use Rattle.chain.specs.Step.{Machine, machine, Stepped, steppedBy, fedUnit, heldBy, afterVif, givenVif, vifGiven, afterGif, givenGif, gifGiven, payloadStep, stepOf}
+use Rattle.chain.specs.Step.{Machine, machine, Stepped, stepped, steppedBy, fedUnit, heldBy, afterVif, vifGiven, afterGif, givenGif, gifGiven, payloadStep, stepOf}
 use Rattle.chain.specs.Run.{Ran, ran, done, counted, stepsOf}
 use Rattle.chain.specs.Stops.{stepFrom, Reaches, here, step}
-use Rattle.chain.proofs.AfterLaws.{no-completed, step-same, step-one, step-counted}
+use Rattle.chain.proofs.AfterLaws.{no-completed, step-same, step-one}
 use Rattle.chain.proofs.RunLaws.{counted-twice, run-goes, run-interrupts, run-refuses}
 use Rattle.chain.proofs.Theorems.{run-from}
 
@@ -59,15 +60,15 @@ pub step-by : {main : List ℕ} {c : Counts} {x z : Machine} {o : Stepped} → d
 step-by {main} {c} {x} {z} d e q r = rw (← e) (step {c = c} {x = x} {z = z} d (rw e q) (rw e r))
 
 -- steps of which none is an interrupt mark
-burst-of : {main : List ℕ} {n : ℕ} {c : Counts} {x y : Machine} → c .steps ≤ n → Counted c → Reaches main c x y → Burst main n x false c y
-burst-of l w r = record { few = l; counted = w; some = λ h. absurd (differ h); goes = λ h. r; stops = λ h. absurd (differ h) }
+burst-of : {main : List ℕ} {n : ℕ} {c : Counts} {x y : Machine} → c .steps ≤ n → Reaches main c x y → Burst main n x false c y
+burst-of l r = record { few = l; some = λ h. absurd (differ h); goes = λ h. r; stops = λ h. absurd (differ h) }
   where
     differ : false ≡ true → ⊥
     differ h = let z : _≡_ {A = ℕ} 0 1 = cc in omega arith
 
 -- no step
 pub burst-none : (main : List ℕ) (n : ℕ) (x : Machine) → Burst main n x false none x
-burst-none main n x = burst-of (omega arith) counted-none here
+burst-none main n x = burst-of (omega arith) here
 
 module _ (main : List ℕ) (n : ℕ) (x : Machine) (d : done (x .state) ≡ false) {o : Stepped} (e : stepFrom main x ≡ o) where
   -- one, that is an interrupt mark
@@ -76,7 +77,6 @@ module _ (main : List ℕ) (n : ℕ) (x : Machine) (d : done (x .state) ≡ fals
       let one = step-one main (x .state) (x .memories) o (sym e) true q in
       record {
         few = omega arith;
-        counted = step-counted main (x .state) (x .memories) o (sym e);
         some = λ h. omega arith;
         goes = λ h. absurd (let z : _≡_ {A = ℕ} 0 1 = cc in omega arith);
         stops = λ h. run-interrupts main (x .state) (x .memories) (suc n) n refl d (sym e) q;
@@ -89,7 +89,6 @@ module _ (main : List ℕ) (n : ℕ) (x : Machine) (d : done (x .state) ≡ fals
       let one = step-one main (x .state) (x .memories) o (sym e) false q in
       record {
         few = omega arith;
-        counted = counted-plus (step-counted main (x .state) (x .memories) o (sym e)) (b .counted);
         some = λ h. omega arith;
         goes = λ h. step-by d e q (b .goes h);
         stops = λ h. run-goes main (x .state) (x .memories) (suc n) n refl d (sym e) q ∙ ap (counted (o .counts)) (b .stops h);
@@ -105,7 +104,6 @@ module _ {main : List ℕ} {n : ℕ} {x : Machine} {i : Bool} {c : Counts} {y : 
   advance-burst z =
       record {
         few = b .few;
-        counted = b .counted;
         some = λ q. omega arith;
         goes = λ q. b .goes (same-told q);
         interrupts = λ q. b .stops (same-told q);
@@ -141,7 +139,6 @@ module _ (main : List ℕ) (n : ℕ) (s : State) (m : Lent) (d : done s ≡ fals
       let f = one-most (o .answer) refl in
       record {
         few = omega arith;
-        counted = step-counted main s m o e;
         some = λ q. let one = step-one main s m o e false q in omega arith;
         goes = λ q. rw (plus-none (o .counts)) at (step-by d (sym e) q here);
         interrupts = λ q. run-interrupts main s m n (n - 1) left d e q;
@@ -171,6 +168,16 @@ module _ (main : List ℕ) (s : State) (m : Lent) (c : Counts) (allowance : ℕ)
 
   pub ends-refused : {k : ℕ} → a ≡ Refused k → ran (AnswerRefused k) (y .state) (plus c j) (y .memories) ≡ w
   ends-refused {k} h = sym (ap (counted c) (b .refuses k h)) ∙ e
+
+  -- where the sums of the whole run fit, those up to here do
+  pub sums-so-far : c .steps < allowance → SumsFit (w .counts) → SumsFit (plus c j)
+  sums-so-far l f = go a refl
+    where
+      go : (o : StepAnswer) → a ≡ o → SumsFit (plus c j)
+      go (Completed true) h = rw (← ends-interrupt h) at f
+      go (Completed false) h =
+          fit-part (plus c j) (stepsOf main (allowance - (c .steps + j .steps)) (y .state) (y .memories) .counts) (rw (← goes-on l h) at f)
+      go (Refused k) h = rw (← ends-refused h) at f
 
 -- ---- the payload after some of its words, and then some more
 
@@ -231,80 +238,89 @@ givenWord which main a x = vifStep which (x .unit) (x .path2) (incomingAt main a
 record FewWords (count : ℕ) (r : FedOn) : Type 0 where
   few-words : r .words ≤ 4 * count
 
-no-words : (count : ℕ) (x : Fed) → FewWords count (fedOn x 0 none false)
+no-words : (count : ℕ) (x : Fed) → FewWords count (fedOn x 0 noUnits false)
 no-words count x = record { few-words = omega arith }
 
 module _ (which : VifUnit) (main : List ℕ) where
   answer-few : (f : ℕ → ℕ → Fed → FedOn) → ((a count : ℕ) (x : Fed) → FewWords count (f a count x))
-      → (b : VifAnswer) (o : VifLeft) (a count : ℕ) (x : Fed) → (count ≡ 0 → ⊥) → FewWords count (afterWord f b o a count x)
-  answer-few f h (Word true) o a count x z = record { few-words = omega arith }
-  answer-few f h (Word false) o a count x z = let i = h (a + 4) (count - 1) (fedTo o) .few-words in record { few-words = omega arith }
-  answer-few f h (Quadword true c) o a count x z = record { few-words = omega arith }
-  answer-few f h (Quadword false c) o a count x z = let i = h (a + 16) (count - 4) (fedTo o) .few-words in record { few-words = omega arith }
-  answer-few f h (VifRefused c) o a count x z = no-words count x
+      → (b : VifAnswer) (c : UnitCounts) (o : VifLeft) (a count : ℕ) (x : Fed) → (count ≡ 0 → ⊥) → FewWords count (afterWord f b c o a count x)
+  answer-few f h (Word true) c o a count x z = record { few-words = omega arith }
+  answer-few f h (Word false) c o a count x z = let i = h (a + 4) (count - 1) (fedTo o) .few-words in record { few-words = omega arith }
+  answer-few f h (Quadword true d) c o a count x z = record { few-words = omega arith }
+  answer-few f h (Quadword false d) c o a count x z = let i = h (a + 16) (count - 4) (fedTo o) .few-words in record { few-words = omega arith }
+  answer-few f h (VifRefused k) c o a count x z = no-words count x
 
   feeds-few : (n a count : ℕ) (x : Fed) → FewWords count (feedsOf which main n a count x)
   unfolding feedsOf
   feeds-few zero a count x = no-words count x
   feeds-few (suc n) a count x =
       if-ind-by (FewWords count) (eqb count 0) (λ e. no-words count x)
-      (λ e. answer-few (feedsOf which main n) (feeds-few n) (givenWord which main a x .answer) (givenWord which main a x) a count x (eqb-false count 0 e))
+      (λ e. answer-few (feedsOf which main n) (feeds-few n) (givenWord which main a x .answer) _ (givenWord which main a x) a count x (eqb-false count 0 e))
 
   pub words-few : (n a count : ℕ) (x : Fed) {r : FedOn} → r ≡ feedOf which main n a count x → r .words ≤ 4 * count
   unfolding feedOf
   words-few n a count x e = rw e (if-ind (FewWords count) _ (feeds-few n a count x) (no-words count x) .few-words)
 
 module _ (main : List ℕ) (s : State) (channel : s .channel ≡ 2 → ⊥) where
+  -- what the step with the word at an address counts for
+  abbrev wordCounts : ℕ → Fed → VifAnswer → UnitCounts
+  wordCounts a x b = countsIn (x .unit .waiting) (incomingAt main a) b
+
   -- one step
   pub fed-step : (x : Fed) (a n : ℕ) → (n ≡ 0 → ⊥)
-      → stepFrom main (feeding s x (Words a n)) ≡ givenVif (fedUnit s) (givenWord (fedUnit s) main a x) NoTagWords (payloadAfter a n) (feeding s x (Words a n) .state) (x .memories)
+      → stepFrom main (feeding s x (Words a n))
+      ≡ afterVif (fedUnit s) (givenWord (fedUnit s) main a x .answer) (wordCounts a x (givenWord (fedUnit s) main a x .answer)) (givenWord (fedUnit s) main a x)
+      NoTagWords (payloadAfter a n) (feeding s x (Words a n) .state) (x .memories)
   unfolding stepOf payloadStep vifGiven if
   fed-step x a n z = rw (ne-eqb n 0 z, ne-eqb (s .channel) 2 channel, picked (fedUnit s) (x .unit) (s .vif0) (s .vif1))
 
   -- the burst that words given to VIF1 are
   record FedBurst (n a count : ℕ) (x : Fed) (r : FedOn) : Type 0 where
-    fed-burst : Burst main n (feeding s x (payloadAfter a count 0)) (r .interrupt) (r .counts) (feeding s (r .after) (payloadAfter a count (r .words)))
+    fed-burst : Burst main n (feeding s x (payloadAfter a count 0)) (r .interrupt) (ofUnit (r .counts)) (feeding s (r .after) (payloadAfter a count (r .words)))
 
-  none-fed : (n a count : ℕ) (x : Fed) → FedBurst n a count x (fedOn x 0 none false)
+  none-fed : (n a count : ℕ) (x : Fed) → FedBurst n a count x (fedOn x 0 noUnits false)
   none-fed n a count x = record { fed-burst = burst-none main n _ }
 
   -- a word or quadword, by the answer to it
   word-fed : (n a count : ℕ) (x : Fed) → (count ≡ 0 → ⊥) → (b : VifAnswer) → givenWord (fedUnit s) main a x .answer ≡ b
       → ((a′ count′ : ℕ) (y : Fed) → FedBurst n a′ count′ y (feedsOf (fedUnit s) main n a′ count′ y))
-      → FedBurst (suc n) a count x (afterWord (feedsOf (fedUnit s) main n) b (givenWord (fedUnit s) main a x) a count x)
+      → FedBurst (suc n) a count x (afterWord (feedsOf (fedUnit s) main n) b (wordCounts a x b) (givenWord (fedUnit s) main a x) a count x)
   word-fed n a count x z b q f = go b q
     where
       o : VifLeft
       o = givenWord (fedUnit s) main a x
 
       -- the step, where the answer is known
-      at-word : (b : VifAnswer) → o .answer ≡ b → stepFrom main (feeding s x (payloadAfter a count 0)) ≡ afterVif (fedUnit s) b o NoTagWords (payloadAfter a count) (feeding s x (Words a count) .state) (x .memories)
+      at-word : (b : VifAnswer) → o .answer ≡ b
+          → stepFrom main (feeding s x (payloadAfter a count 0))
+          ≡ afterVif (fedUnit s) b (wordCounts a x b) o NoTagWords (payloadAfter a count) (feeding s x (Words a count) .state) (x .memories)
       at-word b q = rw (payload-whole a count z) (fed-step x a count z ∙ rw q)
 
       going : done (feeding s x (payloadAfter a count 0) .state) ≡ false
       going = pending-going _ a count (payload-whole a count z) z
 
-      stop-after : (k : ℕ) {y : Stepped} → stepFrom main (feeding s x (payloadAfter a count 0)) ≡ y → y .answer ≡ Completed true
-          → y .after ≡ feeding s (fedTo o) (payloadAfter a count k) → FedBurst (suc n) a count x (fedOn (fedTo o) k (y .counts) true)
-      stop-after k e h w = record { fed-burst = rw (← w) (burst-stops main n _ going e h) }
+      module _ (k : ℕ) (c : UnitCounts) {t : Machine} (w : t ≡ feeding s (fedTo o) (payloadAfter a count k)) where
+        stop-after : stepFrom main (feeding s x (payloadAfter a count 0)) ≡ stepped (Completed true) (ofUnit c) (t .state) (t .memories)
+            → FedBurst (suc n) a count x (fedOn (fedTo o) k c true)
+        stop-after e = record { fed-burst = rw (← w) (burst-stops main n _ going e refl) }
 
-      go-after : (k : ℕ) {y : Stepped} → stepFrom main (feeding s x (payloadAfter a count 0)) ≡ y → y .answer ≡ Completed false
-          → y .after ≡ feeding s (fedTo o) (payloadAfter a count k) → FedBurst (suc n) a count x (stepMore k (y .counts) (feedsOf (fedUnit s) main n (a + 4 * k) (count - k) (fedTo o)))
-      go-after k {y} e h w =
-          let r = feedsOf (fedUnit s) main n (a + 4 * k) (count - k) (fedTo o) in
-          let i = f (a + 4 * k) (count - k) (fedTo o) .fed-burst in
-          let p = payload-more a count k 0 ∙ ap (payloadAfter a count) (add-zero k) in
-          record { fed-burst = burst-goes main n _ going e h (rw (w, ← payload-more a count k (r .words), ← p) i) }
+        go-after : stepFrom main (feeding s x (payloadAfter a count 0)) ≡ stepped (Completed false) (ofUnit c) (t .state) (t .memories)
+            → FedBurst (suc n) a count x (stepMore k c (feedsOf (fedUnit s) main n (a + 4 * k) (count - k) (fedTo o)))
+        go-after e =
+            let r = feedsOf (fedUnit s) main n (a + 4 * k) (count - k) (fedTo o) in
+            let i = f (a + 4 * k) (count - k) (fedTo o) .fed-burst in
+            let p = payload-more a count k 0 ∙ ap (payloadAfter a count) (add-zero k) in
+            record { fed-burst = burst-goes main n _ going e refl (rw (w, ← payload-more a count k (r .words), ← p) i) }
 
       again : (k : ℕ) → machine (withPending (withUnit (fedUnit s) (feeding s x (Words a count) .state) (o .unit) (o .path2) (o .used)) NoTagWords (payloadAfter a count k)) (o .memories)
           ≡ feeding s (fedTo o) (payloadAfter a count k)
       again k = ap (λ (t : State). machine t (o .memories)) (set-again (fedUnit s) s x (fedTo o) (Words a count) (payloadAfter a count k))
 
-      go : (b : VifAnswer) → o .answer ≡ b → FedBurst (suc n) a count x (afterWord (feedsOf (fedUnit s) main n) b o a count x)
-      go (Word true) q = stop-after 1 (at-word (Word true) q) refl (again 1)
-      go (Word false) q = go-after 1 (at-word (Word false) q) refl (again 1)
-      go (Quadword true c) q = stop-after 4 (at-word (Quadword true c) q) refl (again 4)
-      go (Quadword false c) q = go-after 4 (at-word (Quadword false c) q) refl (again 4)
+      go : (b : VifAnswer) → o .answer ≡ b → FedBurst (suc n) a count x (afterWord (feedsOf (fedUnit s) main n) b (wordCounts a x b) o a count x)
+      go (Word true) q = stop-after 1 _ (again 1) (at-word (Word true) q)
+      go (Word false) q = go-after 1 _ (again 1) (at-word (Word false) q)
+      go (Quadword true c) q = stop-after 4 _ (again 4) (at-word (Quadword true c) q)
+      go (Quadword false c) q = go-after 4 _ (again 4) (at-word (Quadword false c) q)
       go (VifRefused c) q = none-fed (suc n) a count x
 
   words-fed : (n a count : ℕ) (x : Fed) → FedBurst n a count x (feedsOf (fedUnit s) main n a count x)
@@ -316,7 +332,7 @@ module _ (main : List ℕ) (s : State) (channel : s .channel ≡ 2 → ⊥) wher
 
   -- whatever was tested
   pub words-burst : (n a count : ℕ) (x : Fed) {r : FedOn} → r ≡ feedOf (fedUnit s) main n a count x
-      → Burst main n (feeding s x (payloadAfter a count 0)) (r .interrupt) (r .counts) (feeding s (r .after) (payloadAfter a count (r .words)))
+      → Burst main n (feeding s x (payloadAfter a count 0)) (r .interrupt) (ofUnit (r .counts)) (feeding s (r .after) (payloadAfter a count (r .words)))
   unfolding feedOf
   words-burst n a count x e = rw e (if-ind (FedBurst n a count x) _ (words-fed n a count x) (none-fed n a count x) .fed-burst)
 
@@ -331,7 +347,7 @@ module _ {s : State} {a count : ℕ} (p : PayloadNext s a count) where
       (e : fedOnBy v m′ ≡ feedOf which main n a count (fed u (s .path2) (s .used) m)) where
     pub words-given : (s .channel ≡ 2 → ⊥) → {t : State}
         → t ≡ withPending (withUnit which s (v .unit) (v .path2) (v .used)) NoTagWords (payloadAfter a count (v .words))
-        → Burst main n (machine s m) (v .interrupt) (v .counts) (machine t m′)
+        → Burst main n (machine s m) (v .interrupt) (ofUnit (v .counts)) (machine t m′)
     words-given c q = rw (q, ew, as-feeding m) (words-burst main s c n a count _ (rw (eu, ew) at e))
 
     pub words-fit : PayloadInside main s a count → a + 4 * v .words < 2 ^ 32
@@ -359,7 +375,7 @@ module _ (main : List ℕ) (s : State) (m : Lent) (channel : s .channel ≡ 2) w
 
   -- the burst that quadwords given to path 3 are
   record DrawnBurst (n a count : ℕ) (p : Path) (used : ℕ) (log : List ℕ) (r : GifFed) : Type 0 where
-    drawn-burst : Burst main n (drawing s m (gifFed p used log 0 0 0) (payloadAfter a count 0)) false (counts (r .taken) (r .packets)) (drawing s m r (payloadAfter a count (4 * r .taken)))
+    drawn-burst : Burst main n (drawing s m (gifFed p used log 0 0 0) (payloadAfter a count 0)) false (ofUnit (quadwordsAlone (r .taken) (r .packets))) (drawing s m r (payloadAfter a count (4 * r .taken)))
 
   none-drawn : (n a count : ℕ) (p : Path) (used : ℕ) (log : List ℕ) (g : ℕ) → DrawnBurst n a count p used log (gifFed p used log 0 0 g)
   none-drawn n a count p used log g = record { drawn-burst = burst-none main n _ }
@@ -394,7 +410,7 @@ module _ (main : List ℕ) (s : State) (m : Lent) (channel : s .channel ≡ 2) w
 
   -- whatever was tested
   pub quadwords-burst : (n a count : ℕ) (p : Path) (used : ℕ) (log : List ℕ) → 4 * n ≤ count → {r : GifFed} → r ≡ gifFeedOf Three main a n p used log
-      → Burst main n (drawing s m (gifFed p used log 0 0 0) (payloadAfter a count 0)) false (counts (r .taken) (r .packets)) (drawing s m r (payloadAfter a count (4 * r .taken)))
+      → Burst main n (drawing s m (gifFed p used log 0 0 0) (payloadAfter a count 0)) false (ofUnit (quadwordsAlone (r .taken) (r .packets))) (drawing s m r (payloadAfter a count (4 * r .taken)))
   unfolding gifFeedOf
   quadwords-burst n a count p used log l e =
       rw e (if-ind (DrawnBurst n a count p used log) _ (quadwords-drawn n a count p used log l) (none-drawn n a count p used log _) .drawn-burst)
@@ -407,12 +423,12 @@ module _ {s : State} {a count : ℕ} (p : PayloadNext s a count) where
   pub quadwords-given : (main mem code log : List ℕ) (n : ℕ) {limit : ℕ} {log′ : List ℕ} {v : QuadwordsResult} → fedBy v log′ ≡ gifFeedOf Three main a n (s .path3) (s .used) log
       → s .channel ≡ 2 → (n ≤ count / 4) × (n ≤ limit)
       → {t : State} → t ≡ withPending (withPath3 s (v .path) (v .used)) NoTagWords (payloadAfter a count (4 * v .taken))
-      → Burst main limit (machine s (lent mem code log)) false (counts (v .taken) (v .packets)) (machine t (lent mem code log′))
+      → Burst main limit (machine s (lent mem code log)) false (ofUnit (quadwordsAlone (v .taken) (v .packets))) (machine t (lent mem code log′))
   quadwords-given main mem code log n e c l q =
       rw (q, as-drawing (lent mem code log))
       (let b = quadwords-burst main s (lent mem code log) c n a count (s .path3) (s .used) log (omega arith) e in
       let f = b .few in
-      burst-of (omega arith) (b .counted) (b .goes refl))
+      burst-of (omega arith) (b .goes refl))
 
 -- they end where the payload does
 pub quadwords-fit : {main : List ℕ} {s : State} {a count : ℕ} → PayloadInside main s a count → (n : ℕ) (log : List ℕ) {log′ : List ℕ} {v : QuadwordsResult}

@@ -5,6 +5,7 @@ pub mod StepLaws
 pub mod AfterLaws
 pub mod RunLaws
 pub mod Theorems
+pub mod CountLaws
 pub mod ResumeLaws
 pub mod BurstLaws
 pub mod UnitLaws

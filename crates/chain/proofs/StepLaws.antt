@@ -3,6 +3,7 @@ use mathlib.Core.Path.{_≡_, refl, sym, ap, _∙_}
 use mathlib.Core.List.{List}
 use Prim.Native.Nat.{ℕ, _+_}
 use native.Mathlib.Omega.{arith}
+use Rattle.fields.specs.declared.UnitCounts.{UnitCounts}
 use Rattle.fields.specs.Fields.{if, quadword}
 use Rattle.gif.specs.declared.GifPath.the-variants.{Three}
 use Rattle.gif.specs.declared.GifAnswer.{GifAnswer}
@@ -18,7 +19,7 @@ use Rattle.vif.specs.declared.Vif.{Vif}
 use Rattle.vif.specs.declared.VifAnswer.{VifAnswer}
 use Rattle.vif.specs.declared.VifAnswer.the-variants.{Word, Quadword, Refused as VifRefused}
 use Rattle.vif.specs.declared.VifResult.{VifResult}
-use Rattle.vif.specs.Step.{Left as VifLeft, left as vifLeft, takeOf as vifTakeOf}
+use Rattle.vif.specs.Step.{Left as VifLeft, left as vifLeft, countsIn, takeOf as vifTakeOf}
 use Rattle.vif.proofs.StepLaws.{vif-tested}
 use Rattle.vif.proofs.KeepLaws.{step-kept}
 use Rattle.chain.specs.declared.TagWords.{TagWords}
@@ -34,9 +35,9 @@ use Rattle.chain.specs.Step.{Stepped, refusedStep, steppedBy, fedUnit, h
 use Rattle.chain.proofs.ReadyLaws.{unit-ready, facts-of}
 
 -- what holds at the case that an arm knows holds at the value itself
-pub by-vif : {a b : VifAnswer} → a ≡ b → (which : VifUnit) (o : VifLeft) (t : TagWords) (p : ℕ → Payload) (s : State) (m : Lent) {x : Stepped}
-    → x ≡ afterVif which b o t p s m → x ≡ afterVif which a o t p s m
-by-vif q which o t p s m h = rw q h
+pub by-vif : {a b : VifAnswer} → a ≡ b → (which : VifUnit) (c : UnitCounts) (o : VifLeft) (t : TagWords) (p : ℕ → Payload) (s : State) (m : Lent) {x : Stepped}
+    → x ≡ afterVif which b c o t p s m → x ≡ afterVif which a c o t p s m
+by-vif q which c o t p s m h = rw q h
 
 pub by-gif : {a b : GifAnswer} → a ≡ b → (o : GifLeft) (p : Payload) (s : State) (m : Lent) {x : Stepped} → x ≡ afterGif b o p s m
     → x ≡ afterGif a o p s m
@@ -53,12 +54,13 @@ by-tags e p main s m h = rw e h
 pub same-pending : (main : List ℕ) (a : ℕ) (t : TagWords) (p : ℕ → Payload) (s : State) (m : Lent)
     → vifGiven main a t (byTaken (p 1) (p 4)) s m ≡ vifGiven main a t p s m
 unfolding vifGiven if
-same-pending main a t p s m = go (vifTook (fedUnit s) main a s m .answer)
+same-pending main a t p s m = go (vifTook (fedUnit s) main a s m .answer) _
   where
-    go : (b : VifAnswer) → afterVif (fedUnit s) b (vifTook (fedUnit s) main a s m) t (byTaken (p 1) (p 4)) s m ≡ afterVif (fedUnit s) b (vifTook (fedUnit s) main a s m) t p s m
-    go (Word i) = refl
-    go (Quadword i c) = refl
-    go (VifRefused n) = refl
+    go : (b : VifAnswer) (c : UnitCounts)
+        → afterVif (fedUnit s) b c (vifTook (fedUnit s) main a s m) t (byTaken (p 1) (p 4)) s m ≡ afterVif (fedUnit s) b c (vifTook (fedUnit s) main a s m) t p s m
+    go (Word i) c = refl
+    go (Quadword i closed) c = refl
+    go (VifRefused n) c = refl
 
 -- a word that the channel's unit tested
 module _ {main : List ℕ} {s : State} {m : Lent} (r : Ready main s m) (a : ℕ) (t : TagWords) (p : ℕ → Payload) {n : Incoming} (en : n ≡ incomingAt main a)
@@ -68,9 +70,11 @@ module _ {main : List ℕ} {s : State} {m : Lent} (r : Ready main s m) (a : ℕ)
   taken-as =
       rw (en, eu, ew) at e ∙ vif-tested (fedUnit s) (heldBy (fedUnit s) s) (s .path2) (incomingAt main a) (s .used) m (unit-ready r)
 
-  pub vif-gave : {x : Stepped} → x ≡ givenVif which (vifLeft v m′) t p s m → x ≡ vifGiven main a t p s m
+  -- c is what the step counts for
+  pub vif-gave : {c : UnitCounts} → c ≡ countsIn (u .waiting) n (v .answer) → {x : Stepped} → x ≡ afterVif which (v .answer) c (vifLeft v m′) t p s m
+      → x ≡ vifGiven main a t p s m
   unfolding vifGiven
-  vif-gave h = h ∙ rw ew (ap (λ (o : VifLeft). givenVif (fedUnit s) o t p s m) taken-as)
+  vif-gave ec h = h ∙ rw (ec, eu, en, ew) (ap (λ (o : VifLeft). givenVif (fedUnit s) (incomingAt main a) o t p s m) taken-as)
 
   -- a refused word left the memories as they were
   pub vif-same : {k : ℕ} → v .answer ≡ VifRefused k → m′ ≡ m
@@ -80,7 +84,7 @@ module _ {main : List ℕ} {s : State} {m : Lent} (r : Ready main s m) (a : ℕ)
 
   -- and the step is refused
   pub vif-refuses : {k : ℕ} → v .answer ≡ VifRefused k → {x : StepResult} → x ≡ refusedResult k s → steppedBy x m′ ≡ vifGiven main a t p s m
-  vif-refuses {k} q er = vif-gave (by-vif q which (vifLeft v m′) t p s m (rw er (ap (λ (x : Lent). refusedStep k s x) (vif-same q))))
+  vif-refuses {k} q er = vif-gave refl (by-vif q which _ (vifLeft v m′) t p s m (rw er (ap (λ (x : Lent). refusedStep k s x) (vif-same q))))
 
 -- a quadword that the GIF tested
 module _ {main : List ℕ} {s : State} {log : List ℕ} {a : ℕ} (r : QuadwordReady main a s log) (p : Payload) (mem code : List ℕ) {x y : ℕ} (ex : x ≡ longAt main a)

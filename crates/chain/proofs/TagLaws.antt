@@ -7,6 +7,7 @@ use native.Mathlib.Omega.{arith}
 use borrow.Author.Tests.{eq-eqb, ne-eqb}
 use lib.Dec.{eqb}
 use lib.Pow.{pow-pos}
+use Rattle.fields.specs.Counts.{oneTag}
 use Rattle.fields.specs.Fields.{if, bits}
 use Rattle.fields.proofs.ChoiceLaws.{if-ind}
 use Rattle.fields.proofs.FieldLaws.{field-low, field-up}
@@ -47,7 +48,8 @@ module _ (low high : ℕ) (l : low < 2 ^ 32) (h : high < 2 ^ 32) where
 
   module _ (size : ℕ) (s : State) {n : ℕ} {r : StepResult}
       (e : n ≡ tagRefusal size (s .tadr) (low / 268435456 % 8) (high % 2147483648) (eqb (high / 2147483648) 1) (low % 65536) (s .stack)) where
-    pub tag-taken : n ≡ 0 → r ≡ completedResult false false (tagState (low / 268435456 % 8) (high % 2147483648) (low % 65536) s)
+    pub tag-taken : n ≡ 0
+        → r ≡ completedResult false (oneTag (low / 268435456 % 8) (low % 65536)) (tagState (low / 268435456 % 8) (high % 2147483648) (low % 65536) s)
         → r ≡ tagRead size (low + high * 2 ^ 32) s
     unfolding tagRead if
     tag-taken z q = rw (qwc-at, id-at, addr-at, spr-at, ← e, eq-eqb n 0 z) q

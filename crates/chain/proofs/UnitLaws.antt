@@ -8,6 +8,7 @@ use lib.Dec.{eqb}
 use Rattle.fields.specs.Fields.{if}
 use Rattle.fields.specs.Memory.{quadwordAt}
 use Rattle.fields.proofs.ChoiceLaws.{if-ind}
+use Rattle.fields.specs.declared.UnitCounts.{UnitCounts}
 use Rattle.gif.specs.declared.GifPath.the-variants.{Three}
 use Rattle.gif.specs.declared.GifAnswer.{GifAnswer}
 use Rattle.gif.specs.declared.GifAnswer.the-variants.{Taken, Refused as GifRefused}
@@ -59,12 +60,12 @@ module _ (main : List ℕ) (s : State) (m : Lent) (r : Ready main s m) (c : s .c
 
   word-leaves : (a : ℕ) (t : TagWords) (p : ℕ → Payload) → OthersKept s (vifGiven main a t p s m)
   unfolding vifGiven
-  word-leaves a t p = rw (channel-vif0 (s .channel) c) (go (vifTook Vif0 main a s m .answer))
+  word-leaves a t p = rw (channel-vif0 (s .channel) c) (go (vifTook Vif0 main a s m .answer) _)
     where
-      go : (b : VifAnswer) → OthersKept s (afterVif Vif0 b (vifTook Vif0 main a s m) t p s m)
-      go (Word i) = record { vif1 = refl; path2 = no-path a; path3 = refl }
-      go (Quadword i d) = record { vif1 = refl; path2 = no-path a; path3 = refl }
-      go (VifRefused n) = record { vif1 = refl; path2 = refl; path3 = refl }
+      go : (b : VifAnswer) (k : UnitCounts) → OthersKept s (afterVif Vif0 b k (vifTook Vif0 main a s m) t p s m)
+      go (Word i) k = record { vif1 = refl; path2 = no-path a; path3 = refl }
+      go (Quadword i d) k = record { vif1 = refl; path2 = no-path a; path3 = refl }
+      go (VifRefused n) k = record { vif1 = refl; path2 = refl; path3 = refl }
 
   given-leaves : (at n : ℕ) → OthersKept s (payloadStep main at n s m)
   unfolding payloadStep if
@@ -95,12 +96,12 @@ module _ (main : List ℕ) (s : State) (m : Lent) (c : s .channel ≡ 0 → ⊥)
 
   word-keeps : (a : ℕ) (t : TagWords) (p : ℕ → Payload) → Vif0Kept (vifGiven main a t p s m)
   unfolding vifGiven
-  word-keeps a t p = rw (channel-vif1 (s .channel) c) (go (vifTook Vif1 main a s m .answer))
+  word-keeps a t p = rw (channel-vif1 (s .channel) c) (go (vifTook Vif1 main a s m .answer) _)
     where
-      go : (b : VifAnswer) → Vif0Kept (afterVif Vif1 b (vifTook Vif1 main a s m) t p s m)
-      go (Word i) = refl
-      go (Quadword i d) = refl
-      go (VifRefused n) = refl
+      go : (b : VifAnswer) (k : UnitCounts) → Vif0Kept (afterVif Vif1 b k (vifTook Vif1 main a s m) t p s m)
+      go (Word i) k = refl
+      go (Quadword i d) k = refl
+      go (VifRefused n) k = refl
 
   quadword-keeps : (a : ℕ) (p : Payload) → Vif0Kept (gifGiven main a p s m)
   unfolding gifGiven

@@ -19,6 +19,11 @@ abbrev pub noPayload : Payload → Bool
 noPayload NoPayload = true
 noPayload (Words at n) = eqb n 0
 
+-- the payload words pending
+abbrev pub payloadPending : Payload → ℕ
+payloadPending NoPayload = 0
+payloadPending (Words at n) = n
+
 abbrev pub nothingPending : State → Bool
 nothingPending s = noTags (s .tags) && noPayload (s .payload)
 

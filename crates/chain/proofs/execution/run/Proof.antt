@@ -4,7 +4,7 @@ use Rattle.chain.proofs.execution.run.Statement.{statement}
 use Rattle.chain.proofs.execution.run.Tie as tie
 
 refused : tie.Need-returns
-refused c = let tested = c .before in rw (c .steps-alone .ensures) (run-refused _ _ _ _ (tested .before .entry-refusal .ensures) (tested .if1 .taken))
+refused c = let tested = c .before in rw (c .no-counts .ensures) (run-refused _ _ _ _ (tested .before .entry-refusal .ensures) (tested .if1 .taken))
 
 ran : tie.Need-returns-2
 ran c =
