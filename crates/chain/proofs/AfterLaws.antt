@@ -27,7 +27,7 @@ use Rattle.vif.specs.declared.Vif.{Vif}
 use Rattle.vif.specs.declared.VifAnswer.{VifAnswer}
 use Rattle.vif.specs.declared.VifAnswer.the-variants.{Word, Quadword, Refused as VifRefused}
 use Rattle.vif.specs.Range.{unitInRange}
-use Rattle.vif.specs.Step.{Left as VifLeft}
+use Rattle.vif.specs.Step.{Left as VifLeft, countsIn}
 use Rattle.vif.proofs.KeepLaws.{log-stays}
 use Rattle.vif.proofs.RangeKept.{step-ready}
 use Rattle.chain.specs.declared.Stack.{Stack}
@@ -268,7 +268,7 @@ module _ {main : List ℕ} {s : State} {m : Lent} (r : Ready main s m) where
 
   vif-stays : (a : ℕ) (t : TagWords) (p : ℕ → Payload) → Pending t (p 1) → Pending t (p 4) → Stays main (vifGiven main a t p s m)
   unfolding vifGiven
-  vif-stays a t p one four = go (vifTook (fedUnit s) main a s m .answer)
+  vif-stays a t p one four = go (vifTook (fedUnit s) main a s m .answer) _
     where
       o : VifLeft
       o = vifTook (fedUnit s) main a s m

@@ -10,8 +10,8 @@ use borrow.Author.Tests.{eqb-false, leb-true, leb-false, le-leb, lt-leb, ne-eqb}
 use lib.Dec.{eqb, leb}
 use Rattle.fields.specs.declared.Counts.{Counts}
 use Rattle.fields.specs.declared.UnitCounts.{UnitCounts}
-use Rattle.fields.specs.Counts.{noUnits, quadwordsAlone, ofUnit, none, plus, SumsFit}
-use Rattle.fields.proofs.CountLaws.{plus-none, fit-part}
+use Rattle.fields.specs.Counts.{noUnits, quadwordsAlone, ofUnit, none, plus, plusModulo, SumsFit}
+use Rattle.fields.proofs.CountLaws.{plus-none, fit-part, plus-fits}
 use Rattle.fields.specs.Fields.{if}
 use Rattle.fields.proofs.ChoiceLaws.{if-ind, if-ind-by, and-false}
 use Rattle.fields.specs.Memory.{quadwordAt}
@@ -179,6 +179,10 @@ module _ (main : List ℕ) (s : State) (m : Lent) (c : Counts) (allowance : ℕ)
           fit-part (plus c j) (stepsOf main (allowance - (c .steps + j .steps)) (y .state) (y .memories) .counts) (rw (← goes-on l h) at f)
       go (Refused k) h = rw (← ends-refused h) at f
 
+  -- and the program's sum is exact
+  pub summed : SumsFit (w .counts) → c .steps < allowance → {z : Counts} → z ≡ plusModulo c j → z ≡ plus c j
+  summed f l q = q ∙ plus-fits c j (sums-so-far l f)
+
 -- ---- the payload after some of its words, and then some more
 
 pub payload-more : (a n k w : ℕ) → payloadAfter (a + 4 * k) (n - k) w ≡ payloadAfter a n (k + w)
@@ -299,18 +303,19 @@ module _ (main : List ℕ) (s : State) (channel : s .channel ≡ 2 → ⊥) wher
       going : done (feeding s x (payloadAfter a count 0) .state) ≡ false
       going = pending-going _ a count (payload-whole a count z) z
 
-      module _ (k : ℕ) (c : UnitCounts) {t : Machine} (w : t ≡ feeding s (fedTo o) (payloadAfter a count k)) where
-        stop-after : stepFrom main (feeding s x (payloadAfter a count 0)) ≡ stepped (Completed true) (ofUnit c) (t .state) (t .memories)
-            → FedBurst (suc n) a count x (fedOn (fedTo o) k c true)
-        stop-after e = record { fed-burst = rw (← w) (burst-stops main n _ going e refl) }
+      stop-after : (k : ℕ) (c : UnitCounts) {t : Machine} → t ≡ feeding s (fedTo o) (payloadAfter a count k)
+          → stepFrom main (feeding s x (payloadAfter a count 0)) ≡ stepped (Completed true) (ofUnit c) (t .state) (t .memories)
+          → FedBurst (suc n) a count x (fedOn (fedTo o) k c true)
+      stop-after k c w e = record { fed-burst = rw (← w) (burst-stops main n _ going e refl) }
 
-        go-after : stepFrom main (feeding s x (payloadAfter a count 0)) ≡ stepped (Completed false) (ofUnit c) (t .state) (t .memories)
-            → FedBurst (suc n) a count x (stepMore k c (feedsOf (fedUnit s) main n (a + 4 * k) (count - k) (fedTo o)))
-        go-after e =
-            let r = feedsOf (fedUnit s) main n (a + 4 * k) (count - k) (fedTo o) in
-            let i = f (a + 4 * k) (count - k) (fedTo o) .fed-burst in
-            let p = payload-more a count k 0 ∙ ap (payloadAfter a count) (add-zero k) in
-            record { fed-burst = burst-goes main n _ going e refl (rw (w, ← payload-more a count k (r .words), ← p) i) }
+      go-after : (k : ℕ) (c : UnitCounts) {t : Machine} → t ≡ feeding s (fedTo o) (payloadAfter a count k)
+          → stepFrom main (feeding s x (payloadAfter a count 0)) ≡ stepped (Completed false) (ofUnit c) (t .state) (t .memories)
+          → FedBurst (suc n) a count x (stepMore k c (feedsOf (fedUnit s) main n (a + 4 * k) (count - k) (fedTo o)))
+      go-after k c w e =
+          let r = feedsOf (fedUnit s) main n (a + 4 * k) (count - k) (fedTo o) in
+          let i = f (a + 4 * k) (count - k) (fedTo o) .fed-burst in
+          let p = payload-more a count k 0 ∙ ap (payloadAfter a count) (add-zero k) in
+          record { fed-burst = burst-goes main n _ going e {c = ofUnit (r .counts)} refl (rw (w, ← payload-more a count k (r .words), ← p) i) }
 
       again : (k : ℕ) → machine (withPending (withUnit (fedUnit s) (feeding s x (Words a count) .state) (o .unit) (o .path2) (o .used)) NoTagWords (payloadAfter a count k)) (o .memories)
           ≡ feeding s (fedTo o) (payloadAfter a count k)
@@ -394,7 +399,7 @@ module _ (main : List ℕ) (s : State) (m : Lent) (channel : s .channel ≡ 2) w
       record {
         drawn-burst =
             rw (payload-whole a count z, e, ← payload-more a count 4 (4 * r .taken), ← one-add (r .taken))
-            (burst-goes main n x (pending-going _ a count refl z) j refl
+            (burst-goes main n x (pending-going _ a count refl z) j {c = ofUnit (quadwordsAlone (r .taken) (r .packets))} refl
             (rw (← payload-more a count 4 0) (i (o .path) (o .used) (o .log) .drawn-burst)));
       }
   quadword-drawn n a count p used log f z i (GifRefused c) q = none-drawn (suc n) a count p used log c

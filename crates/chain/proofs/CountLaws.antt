@@ -138,7 +138,7 @@ module _ (main : List ℕ) (s : State) (m : Lent) where
   unfolding vifGiven
   vif-paid n a t p one four = go (vifTook (fedUnit s) main a s m .answer)
     where
-      abbrev counting : VifAnswer → UnitCounts
+      counting : VifAnswer → UnitCounts
       counting b = countsIn (heldBy (fedUnit s) s .waiting) (incomingAt main a) b
 
       few : (b : VifAnswer) → Counted (counting b)

@@ -22,12 +22,14 @@ payload-after-requires c κs =
 returns : tie.Need-returns
 returns c =
     λ mem code.
-    let paid = c .before .before .before in
+    let counts = c .before .before in
+    let paid = counts .before .before in
     let took = paid .before .before .before .before .before in
     let counted = took .before .before in
     let start = counted .before .before .before .before in
-    quadwords-given (start .pre .0) _ mem code _ _ (took .take-quadwords .ensures) (start .pre .1 .1) (counted .smaller .ensures)
-    (c .with-pending .ensures ∙ rw (c .before .with-path3 .ensures, paid .payload-after .ensures))
+    rw (counts .quadwords-alone .ensures)
+    (quadwords-given (start .pre .0) _ mem code _ _ (took .take-quadwords .ensures) (start .pre .1 .1) (counted .smaller .ensures)
+    (c .with-pending .ensures ∙ rw (c .before .with-path3 .ensures, paid .payload-after .ensures)))
 
 pub give-quadwords-spec : {M : Type 1} → statement M
 give-quadwords-spec =
@@ -38,6 +40,7 @@ give-quadwords-spec =
     mul-payload-after
     payload-after-requires
     (λ c. search needs)
+    (λ c κs. search needs)
     (λ c κs. search needs)
     (λ c κs. search needs)
     (λ c. search needs)

@@ -4,7 +4,9 @@ use Rattle.chain.proofs.execution.advance.Statement.{statement}
 use Rattle.chain.proofs.execution.advance.Tie as tie
 
 many : tie.Need-returns
-many c = let some = c .before in advance-burst (some .before .before .before .before .before .before .before .before .before .burst .ensures) (some .if1 .taken)
+many c =
+    let some = c .before in
+    rw (c .of-unit .ensures) (advance-burst (some .before .before .before .before .before .before .before .before .before .burst .ensures) (some .if1 .taken))
 
 step-requires : tie.Need-step-requires
 step-requires c κs =
@@ -24,6 +26,7 @@ pub advance-spec : {M : Type 1} → statement M
 advance-spec =
     tie.close
     (tie.spec
+    (λ c κs. search needs)
     (λ c κs. search needs)
     (λ c. search needs)
     (λ c. search needs)

@@ -3,15 +3,14 @@ use mathlib.Core.Path.{_≡_, refl, sym, ap, _∙_}
 use Prim.Native.Nat.{_-_, _≤_}
 use native.Mathlib.Omega.{arith}
 use lib.ListN.{length}
-use Rattle.fields.specs.Counts.{Counted}
-use Rattle.fields.proofs.CountLaws.{counted-none, counted-plus, plus-fits}
 use Rattle.memories.specs.Lengths.{lent}
 use Rattle.chain.specs.declared.StepAnswer.the-variants.{Completed}
 use Rattle.chain.specs.Inner.{Ready}
 use Rattle.chain.specs.Run.{counted, stepsOf}
 use Rattle.chain.proofs.RunLaws.{ends-done, ends-out, steps-begin}
 use Rattle.chain.proofs.Theorems.{ready-along}
-use Rattle.chain.proofs.BurstLaws.{goes-on, ends-interrupt, ends-refused}
+use Rattle.chain.proofs.CountLaws.{run-fits}
+use Rattle.chain.proofs.BurstLaws.{goes-on, ends-interrupt, ends-refused, summed}
 use Rattle.chain.proofs.execution.steps_of.Statement.{statement}
 use Rattle.chain.proofs.execution.steps_of.Tie as tie
 
@@ -21,7 +20,6 @@ Inv-loop main data₀ code₀ log₀ allowance s₀ counts₀ «data» code log 
       ready : Ready main s (lent «data» code log);
       lengths : (length «data» ≡ length data₀) × (length code ≡ length code₀) × (length log ≡ length log₀);
       few : counts .steps ≤ allowance;
-      packets : Counted counts;
       same : counted counts (stepsOf main (allowance - counts .steps) s (lent «data» code log)) ≡ stepsOf main allowance s₀ (lent data₀ code₀ log₀);
     }
 
@@ -30,12 +28,11 @@ abbrev μ-loop : tie.MeasureT-loop
 
 loop-holds : tie.Need-loop-holds Inv-loop μ-loop
 loop-holds c =
-    let z = c .steps-alone .ensures in
+    let z = c .no-counts .ensures in
     record {
       ready = c .before .before .before .before .before .pre;
       lengths = (refl, refl, refl);
       few = rw z (omega arith);
-      packets = rw z counted-none;
       same = steps-begin _ _ _ _ z;
     }
 
@@ -55,9 +52,10 @@ loop-less c =
     let i = turn .loop .inv in
     let a = advanced .advance .ensures in
     let l = left .if2 .left in
-    let most = turn .before .before .before .before .before .before .fits .allowance in
+    let start = turn .before .before .before .before .before .before in
     let few = a .few in
-    let e = added .plus .ensures ∙ plus-fits (i .packets) (a .counted) (omega arith) in
+    let most = start .fits .allowance in
+    let e = summed _ _ _ _ _ (i .same) a (run-fits (start .pre) (start .args .allowance) (omega arith)) l (added .plus .ensures) in
     let f = a .some (c .before .before .outcome .given .1 ∙ ap Completed (c .if3 .left)) in
     rw e (omega arith)
 
@@ -71,15 +69,15 @@ loop-again c =
     let a = advanced .advance .ensures in
     let k = advanced .advance .kept in
     let l = left .if2 .left in
-    let most = turn .before .before .before .before .before .before .fits .allowance in
+    let start = turn .before .before .before .before .before .before in
     let few = a .few in
-    let e = added .plus .ensures ∙ plus-fits (i .packets) (a .counted) (omega arith) in
+    let most = start .fits .allowance in
+    let e = summed _ _ _ _ _ (i .same) a (run-fits (start .pre) (start .args .allowance) (omega arith)) l (added .plus .ensures) in
     let q = c .before .before .outcome .given .1 ∙ ap Completed (c .if3 .left) in
     record {
       ready = ready-along (a .goes q) (i .ready);
       lengths = (k .1 .1 .1 .0 ∙ i .lengths .0, k .1 .1 .1 .1 .0 ∙ i .lengths .1, k .1 .1 .1 .1 .1 .0 ∙ i .lengths .2);
       few = rw e (omega arith);
-      packets = rw e (counted-plus (i .packets) (a .counted));
       same = rw e (goes-on _ _ _ _ _ (i .same) a l q);
     }
 
@@ -99,9 +97,10 @@ interrupted c =
     let i = turn .loop .inv in
     let a = advanced .advance .ensures in
     let l = advanced .before .before .before .before .before .if2 .left in
-    let most = turn .before .before .before .before .before .before .fits .allowance in
+    let start = turn .before .before .before .before .before .before in
     let few = a .few in
-    let e = added .plus .ensures ∙ plus-fits (i .packets) (a .counted) (omega arith) in
+    let most = start .fits .allowance in
+    let e = summed _ _ _ _ _ (i .same) a (run-fits (start .pre) (start .args .allowance) (omega arith)) l (added .plus .ensures) in
     rw e (ends-interrupt _ _ _ _ _ (i .same) a (c .before .before .outcome .given .1 ∙ ap Completed (c .if3 .taken)))
 
 refused : tie.Need-returns-4 Inv-loop μ-loop
@@ -112,9 +111,10 @@ refused c =
     let i = turn .loop .inv in
     let a = advanced .advance .ensures in
     let l = advanced .before .before .before .before .before .if2 .left in
-    let most = turn .before .before .before .before .before .before .fits .allowance in
+    let start = turn .before .before .before .before .before .before in
     let few = a .few in
-    let e = added .plus .ensures ∙ plus-fits (i .packets) (a .counted) (omega arith) in
+    let most = start .fits .allowance in
+    let e = summed _ _ _ _ _ (i .same) a (run-fits (start .pre) (start .args .allowance) (omega arith)) l (added .plus .ensures) in
     rw e (ends-refused _ _ _ _ _ (i .same) a (c .before .outcome2 .given .1))
 
 pub steps-of-spec : {M : Type 1} → statement M

@@ -7,11 +7,12 @@ taken : tie.Need-returns
 taken c =
     λ mem code.
     let pending = c .before in
-    let told = pending .before .before .before in
+    let units = pending .before .before in
+    let told = units .before .before .before in
     let took = told .before .before .before .before .before in
     let high = took .before .before in
     gif-gave (high .before .before .before .before .before .pre) _ mem code (high .before .long-at .ensures) (high .long-at2 .ensures) (took .take-quadword .ensures)
-    (by-gif (told .answer .given .1) _ _ _ _ (rw (c .completed .ensures, pending .with-pending .ensures, pending .before .with-path3 .ensures)))
+    (by-gif (told .answer .given .1) _ _ _ _ (rw (c .completed .ensures, pending .with-pending .ensures, pending .before .with-path3 .ensures, units .of-unit .ensures, units .before .one-quadword .ensures)))
 
 refused : tie.Need-returns-2
 refused c =
@@ -37,9 +38,11 @@ give-gif-spec =
     (λ c κs. search needs)
     (λ c κs. search needs)
     (λ c κs. search needs)
-    (λ c. search needs)
+    (λ c κs. search needs)
     (λ c κs. search needs)
     (λ c. search needs)
+    (λ c κs. search needs)
+    (λ c. c .before .before .before .before .before .before .before .before .before .before .before .take-quadword .kept .1 .1 .1 .1 .0)
     taken
     (λ c. search needs)
     refused)

@@ -9,30 +9,36 @@ use Rattle.chain.proofs.step.give_vif.Tie as tie
 word : tie.Need-returns
 unfolding if
 word c =
-    let took = c .before .before .before .before .before .before .before .before .before .before .before .before .before .before in
+    let told = c .before .before .before .before in
+    let units = told .before .before .before .before in
+    let took = units .before .before .before .before .before .before .before .before in
     let came = took .before .before .before .before in
     let held = came .before .before in
     let start = held .before .before .before .before .before .before in
     let a = start .args in
     vif-gave (start .pre .0) (a .a) (a .tags) (byTaken (a .one) (a .four)) (came .incoming-at .ensures) (held .before .unit-of .ensures) (held .held-by .ensures) (took .take .ensures)
-    (by-vif (c .before .before .before .before .answer .given .1) _ _ _ _ _ _
-    (rw (c .completed .ensures, c .before .with-pending .ensures, c .before .before .with-unit .ensures)))
+    (units .before .counts-in .ensures)
+    (by-vif (told .answer .given .1) _ _ _ _ _ _ _
+    (rw (c .completed .ensures, c .before .with-pending .ensures, c .before .before .with-unit .ensures, units .of-unit .ensures)))
 
 quadword : tie.Need-returns-2
 unfolding if
 quadword c =
-    let took = c .before .before .before .before .before .before .before .before .before .before .before .before .before .before in
+    let told = c .before .before .before .before in
+    let units = told .before .before .before .before in
+    let took = units .before .before .before .before .before .before .before .before in
     let came = took .before .before .before .before in
     let held = came .before .before in
     let start = held .before .before .before .before .before .before in
     let a = start .args in
     vif-gave (start .pre .0) (a .a) (a .tags) (byTaken (a .one) (a .four)) (came .incoming-at .ensures) (held .before .unit-of .ensures) (held .held-by .ensures) (took .take .ensures)
-    (by-vif (c .before .before .before .before .answer2 .given .1) _ _ _ _ _ _
-    (rw (c .completed2 .ensures, c .before .with-pending2 .ensures, c .before .before .with-unit2 .ensures)))
+    (units .before .counts-in .ensures)
+    (by-vif (told .answer2 .given .1) _ _ _ _ _ _ _
+    (rw (c .completed2 .ensures, c .before .with-pending2 .ensures, c .before .before .with-unit2 .ensures, units .of-unit .ensures)))
 
 refused : tie.Need-returns-3
 refused c =
-    let took = c .before .before .before .before .before .before .before .before .before .before .before .before in
+    let took = c .before .before .before .before .before .before .before .before .before .before .before .before .before .before in
     let came = took .before .before .before .before in
     let held = came .before .before in
     let start = held .before .before .before .before .before .before in
@@ -46,23 +52,25 @@ give-vif-spec =
     (λ c κs. search needs)
     (λ c κs. search needs)
     (λ c κs. search needs)
+    (λ c κs. search needs)
+    (λ c κs. search needs)
+    (λ c. search needs)
+    (λ c κs. search needs)
+    (λ c κs. search needs)
+    (λ c κs. search needs)
     (λ c. search needs)
     (λ c κs. search needs)
     (λ c κs. search needs)
     (λ c κs. search needs)
     (λ c. search needs)
     (λ c κs. search needs)
-    (λ c κs. search needs)
-    (λ c κs. search needs)
-    (λ c. search needs)
-    (λ c κs. search needs)
-    (λ c. c .before .before .before .before .before .before .before .before .before .before .before .before .before .before .take .kept .1 .1 .1 .1 .0)
-    (λ c. c .before .before .before .before .before .before .before .before .before .before .before .before .before .before .take .kept .1 .1 .1 .1 .1 .0)
-    (λ c. c .before .before .before .before .before .before .before .before .before .before .before .before .before .before .take .kept .1 .1 .1 .1 .1 .1 .0)
+    (λ c. c .before .before .before .before .before .before .before .before .before .before .before .before .before .before .before .before .take .kept .1 .1 .1 .1 .0)
+    (λ c. c .before .before .before .before .before .before .before .before .before .before .before .before .before .before .before .before .take .kept .1 .1 .1 .1 .1 .0)
+    (λ c. c .before .before .before .before .before .before .before .before .before .before .before .before .before .before .before .before .take .kept .1 .1 .1 .1 .1 .1 .0)
     word
-    (λ c. c .before .before .before .before .before .before .before .before .before .before .before .before .before .before .take .kept .1 .1 .1 .1 .0)
-    (λ c. c .before .before .before .before .before .before .before .before .before .before .before .before .before .before .take .kept .1 .1 .1 .1 .1 .0)
-    (λ c. c .before .before .before .before .before .before .before .before .before .before .before .before .before .before .take .kept .1 .1 .1 .1 .1 .1 .0)
+    (λ c. c .before .before .before .before .before .before .before .before .before .before .before .before .before .before .before .before .take .kept .1 .1 .1 .1 .0)
+    (λ c. c .before .before .before .before .before .before .before .before .before .before .before .before .before .before .before .before .take .kept .1 .1 .1 .1 .1 .0)
+    (λ c. c .before .before .before .before .before .before .before .before .before .before .before .before .before .before .before .before .take .kept .1 .1 .1 .1 .1 .1 .0)
     quadword
     (λ c. search needs)
     (λ c. search needs)

@@ -4,31 +4,28 @@ use borrow.Author.Needs.{needs}
 use Rattle.chain.proofs.tags.read_tag.Statement.{statement}
 use Rattle.chain.proofs.tags.read_tag.Tie as tie
 
-tag-refusal-requires : tie.Need-tag-refusal-requires
-tag-refusal-requires c κs = search needs
-
-tag-state-requires : tie.Need-tag-state-requires
-tag-state-requires c κs = search needs
-
-completed-requires : tie.Need-completed-requires
-completed-requires c κs = search needs
-
-refused-requires : tie.Need-refused-requires
-refused-requires c κs = search needs
-
 returns : tie.Need-returns
-returns c = tag-taken (c .before .before .before .before .args .low) (c .before .before .before .before .args .high) (search needs) (search needs) (c .before .before .before .before .args .size) (c .before .before .before .before .args .s) (c .before .before .before .tag-refusal .ensures) (c .before .before .if1 .taken) (c .completed .ensures ∙ rw (c .before .tag-state .ensures))
+returns c =
+    let counted = c .before .before in
+    let tested = counted .before .before in
+    let a = tested .before .args in
+    tag-taken (a .low) (a .high) (search needs) (search needs) (a .size) (a .s) (tested .tag-refusal .ensures) (counted .before .if1 .taken)
+    (c .completed .ensures ∙ rw (c .before .tag-state .ensures, counted .one-tag .ensures))
 
 returns-2 : tie.Need-returns-2
-returns-2 c = tag-refused (c .before .before .before .args .low) (c .before .before .before .args .high) (search needs) (search needs) (c .before .before .before .args .size) (c .before .before .before .args .s) (c .before .before .tag-refusal .ensures) (c .before .if1 .left) (c .refused .ensures)
+returns-2 c =
+    let tested = c .before .before in
+    let a = tested .before .args in
+    tag-refused (a .low) (a .high) (search needs) (search needs) (a .size) (a .s) (tested .tag-refusal .ensures) (c .before .if1 .left) (c .refused .ensures)
 
 pub read-tag-spec : {M : Type 1} → statement M
 read-tag-spec =
     tie.close
     (tie.spec
-    tag-refusal-requires
-    tag-state-requires
-    completed-requires
-    refused-requires
+    (λ c κs. search needs)
+    (λ c κs. search needs)
+    (λ c κs. search needs)
+    (λ c κs. search needs)
+    (λ c κs. search needs)
     returns
     returns-2)
