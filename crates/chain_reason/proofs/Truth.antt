@@ -7,6 +7,7 @@ use native.Mathlib.Omega.{arith}
 use borrow.Author.Tests.{ltb-true, eqb-true, eqb-false}
 use lib.ListN.{length}
 use lib.Dec.{eqb, ltb}
+use Rattle.fields.specs.declared.Counts.{Counts}
 use Rattle.fields.specs.Fields.{if}
 use Rattle.fields.specs.Refusals.{tadrOutside, addrUnaligned, scratchpadSet, stackFull, payloadOutside}
 use Rattle.fields.proofs.ChoiceLaws.{if-ind-by, and-left, and-right, not-true}
@@ -78,14 +79,14 @@ module _ (main : List ℕ) (s : State) where
   told-refused : (k : ℕ) → Shown k → Told (refusedResult k s)
   told-refused k h = record { told = λ n e. let q : k ≡ n = cc in rw (sym q) h }
 
-  told-completed : (t : State) → Told (completedResult false false t)
-  told-completed t = record { told = λ n e. absurd (no-completed e) }
+  told-completed : (c : Counts) (t : State) → Told (completedResult false c t)
+  told-completed c t = record { told = λ n e. absurd (no-completed e) }
 
   -- "the shown number is the one found there and does break the rule"
   pub tag-told : (n : ℕ) → tagStep main s .answer ≡ Refused n → TagFault main s n (tagNumbers n main s)
   unfolding tagRead
   tag-told n e =
       if-ind-by Told (eqb (tagRefusal (length main) (s .tadr) (idOf (tagAt main s)) (addrOf (tagAt main s)) (sprOf (tagAt main s)) (qwcOf (tagAt main s)) (s .stack)) 0)
-      (λ z. told-completed _)
+      (λ z. told-completed _ _)
       (λ z. told-refused _ (refusal-told (eqb-false _ _ z)))
       .told n e

@@ -7,7 +7,8 @@ use native.Mathlib.Nat.{zero-add, mul-zero}
 use native.Mathlib.Omega.{arith}
 use borrow.Author.Tests.{le-leb, lt-leb}
 use Rattle.fields.specs.declared.Counts.{Counts}
-use Rattle.fields.specs.Counts.{none as noCounts, plus}
+use Rattle.fields.specs.declared.UnitCounts.{UnitCounts}
+use Rattle.fields.specs.Counts.{ofUnit, none as noCounts, plus}
 use Rattle.fields.specs.Fields.{if}
 use Rattle.gif.specs.declared.Path.{Path}
 use Rattle.memories.specs.declared.VifUnit.the-variants.{Vif1}
@@ -25,7 +26,7 @@ use Rattle.chain.specs.declared.State.{State}
 use Rattle.chain.specs.Setters.{withPending, withUnit}
 use Rattle.vif.specs.Words.{incomingAt}
 use Rattle.chain.specs.Pending.{payloadAfter}
-use Rattle.chain.specs.Step.{Machine, Stepped, stepped, givenVif}
+use Rattle.chain.specs.Step.{Machine, Stepped, stepped, afterVif}
 use Rattle.chain.specs.Run.{done}
 use Rattle.chain.specs.Stops.{stepFrom, Reaches, here}
 use Rattle.chain.proofs.BurstLaws.{step-by, pending-going, feeding, fed-step}
@@ -81,26 +82,26 @@ steps-join p q =
 pub record Takes (b : Bool → VifAnswer) (w : ℕ) : Type 0 where
   pub some : 1 ≤ w
   pub given : (closed : Bool) (v : Vif) (q : Path) (used : ℕ) (m′ : Lent) (p : ℕ → Payload) (s : State) (m : Lent)
-      → givenVif Vif1 (leaves (b closed) v q used m′) NoTagWords p s m
-      ≡ stepped (Completed false) (countsIn (b closed)) (withPending (withUnit Vif1 s v q used) NoTagWords (p w)) m′
+      → (c : UnitCounts) → afterVif Vif1 (b closed) c (leaves (b closed) v q used m′) NoTagWords p s m
+      ≡ stepped (Completed false) (ofUnit c) (withPending (withUnit Vif1 s v q used) NoTagWords (p w)) m′
 
 pub word-takes : Takes aWord 1
-word-takes = record { some = omega arith; given = λ closed v q used m′ p s m. refl }
+word-takes = record { some = omega arith; given = λ closed v q used m′ p s m c. refl }
 
 pub quadword-takes : Takes aQuadword 4
-quadword-takes = record { some = omega arith; given = λ closed v q used m′ p s m. refl }
+quadword-takes = record { some = omega arith; given = λ closed v q used m′ p s m c. refl }
 
 module _ (main : List ℕ) (s : State) (channel : s .channel ≡ 1) {b : Bool → VifAnswer} {w : ℕ} (t : Takes b w) where
   -- one step
   taken-step : (closed : Bool) (x y : Fed) (a n : ℕ)
       → vifStep Vif1 (x .unit) (x .path2) (incomingAt main a) (x .used) (x .memories) ≡ leaves (b closed) (y .unit) (y .path2) (y .used) (y .memories)
       → stepFrom main (feeding s x (PayloadWords a (w + n)))
-      ≡ stepped (Completed false) (countsIn (b closed)) (feeding s y (pending (a + 4 * w) n) .state) (y .memories)
+      ≡ stepped (Completed false) (ofUnit (countsIn (x .unit .waiting) (incomingAt main a) (b closed))) (feeding s y (pending (a + 4 * w) n) .state) (y .memories)
   taken-step closed x y a n e =
       let h : 1 ≤ w = t .some in
       fed-step main s (λ z. omega arith) x a (w + n) (λ z. omega arith)
       ∙ rw (channel-vif1 (s .channel) (λ z. omega arith), e)
-      (t .given closed (y .unit) (y .path2) (y .used) (y .memories) (payloadAfter a (w + n)) _ (x .memories) ∙ rw (payload-next a n w))
+      (t .given closed (y .unit) (y .path2) (y .used) (y .memories) (payloadAfter a (w + n)) _ (x .memories) _ ∙ rw (payload-next a n w))
 
   -- steps of VIF1 are steps of the chain
   pub feeds-reach : (j a n : ℕ) {x y : Fed} → Feeds Vif1 b x (incomings w main a j) y

@@ -6,7 +6,7 @@ use Rattle.gif.specs.Log.{logged, lacksRoom, logRefused}
 use Rattle.gif.specs.Packed.{packedWrites, packedQ}
 use Rattle.gif.specs.Tag.{formatOf, nregOf, quadwordsOf as gifQuadwordsOf, tagOf, takenOf, descriptorAt, placeAfter, placeAtTag, tagCloses, dataCloses, tagWrites}
 use Rattle.gif.specs.Reglist.{reglistWrite, reglistRefused, reglistWrites}
-use Rattle.fields.specs.Counts.{oneIf}
+use Rattle.fields.specs.Counts.{oneIf, qwcUnder}
 use Rattle.gif.specs.Step.{commit, tagStep, packedWith, reglistStep, imageStep, gifStep}
 use Rattle.unpack.specs.Formats.{namedIn}
 use Rattle.unpack.specs.Mask.{rowOfCycle, codeAt, maskOf}
@@ -41,7 +41,7 @@ use Rattle.sheet.specs.Sizes.{sheetSteps}
 use Rattle.sheet.specs.Layout.{laidOut, chainOf}
 use Rattle.sheet.specs.Build.{buildOf}
 use Rattle.conformance.specs.Demand.{recordsOf}
-use Rattle.conformance.specs.Points.{AllHold, runIn, runOfWords, builtFrom, sizeOf, chainBytes, wordsAt, chainWords, runOfSheet, stepsFor, loggedIn, quadwordIn, instructionIn, allZero, partsWritten, quadwordsFrom, instructionsFrom, dueIn, rowIn, answerIn, runOfVif0, answersTo, programStart, startedIn, tagTransferred, runOn7, left0, left1, runFrom, second, third, playedFrom0, tagUpload, uploadAcrossTags, resumed, drawn, drawnBy, packetsIn, stoppedAt, resumedAt, mixed1, mixed2, mixed0, logOf, overflowing, preset, masked, answerToSet, points, requestPoints}
+use Rattle.conformance.specs.Points.{AllHold, runIn, runOfWords, builtFrom, sizeOf, chainBytes, wordsAt, chainWords, runOfSheet, stepsFor, loggedIn, quadwordIn, instructionIn, allZero, partsWritten, quadwordsFrom, instructionsFrom, dueIn, rowIn, answerIn, runOfVif0, answersTo, programStart, startedIn, tagTransferred, runOn7, left0, left1, runFrom, second, third, playedFrom0, tagUpload, uploadAcrossTags, resumed, drawn, drawnBy, packetsIn, countedIn, sevenIds, refusedTag, stoppedAt, resumedAt, mixed1, mixed2, mixed0, logOf, overflowing, preset, masked, answerToSet, points, requestPoints}
 use Rattle.conformance.specs.Play.{playRefusal, playOf}
 
 -- ---- the definitions that the table computes through
@@ -71,7 +71,7 @@ unfolding secondOf editionRefusal limited expansionFrom itemsFrom itemAt groupFr
 groupsOpen = tt
 
 benchOpen : Unit {0}
-unfolding recordsOf runIn runOfWords builtFrom sizeOf chainBytes wordsAt chainWords runOfSheet stepsFor loggedIn quadwordIn instructionIn allZero partsWritten quadwordsFrom instructionsFrom dueIn rowIn answerIn runOfVif0 answersTo startedIn tagTransferred runOn7 runFrom second third playRefusal playOf playedFrom0 tagUpload uploadAcrossTags resumed drawn drawnBy packetsIn stoppedAt resumedAt mixed1 mixed2 mixed0 logOf overflowing preset masked answerToSet
+unfolding recordsOf runIn runOfWords builtFrom sizeOf chainBytes wordsAt chainWords runOfSheet stepsFor loggedIn quadwordIn instructionIn allZero partsWritten quadwordsFrom instructionsFrom dueIn rowIn answerIn runOfVif0 answersTo startedIn tagTransferred runOn7 runFrom second third playRefusal playOf playedFrom0 tagUpload uploadAcrossTags resumed drawn drawnBy packetsIn countedIn sevenIds refusedTag stoppedAt resumedAt mixed1 mixed2 mixed0 logOf overflowing preset masked answerToSet
 benchOpen = tt
 
 opened : Unit {0}
@@ -136,10 +136,15 @@ requestsOpened : Unit {0}
 unfolding opened requestPoints
 requestsOpened = tt
 
+-- request 14
+counts : AllHold (drop 58 requestPoints)
+unfolding requestsOpened tagsAfter nextStack wordsInRange qwcUnder
+counts = (refl, (refl, (refl, (refl, (refl, (refl, (refl, tt)))))))
+
 -- request 12
 groups : AllHold (drop 55 requestPoints)
 unfolding requestsOpened groupsOpen
-groups = (refl, (refl, (refl, tt)))
+groups = (refl, (refl, (refl, counts)))
 
 -- request 7
 sets : AllHold (drop 53 requestPoints)

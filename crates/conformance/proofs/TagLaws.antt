@@ -10,7 +10,7 @@ use Rattle.fields.specs.Fields.{if, bits}
 use Rattle.gif.specs.declared.Place.the-variants.{Idle}
 use Rattle.vif.specs.declared.Waiting.the-variants.{Nothing}
 use Rattle.memories.specs.Lengths.{Lent}
-use Rattle.fields.specs.Counts.{oneStep}
+use Rattle.fields.specs.Counts.{oneTag}
 use Rattle.chain.specs.declared.TagWords.{TagWords}
 use Rattle.chain.specs.declared.TagWords.the-variants.{Nothing as NoTagWords}
 use Rattle.chain.specs.declared.Payload.{Payload}
@@ -57,7 +57,7 @@ module _ (id q : ℕ) (few : q < 65536) (known : id < 8) where
 
   -- such a tag's step
   tag-taken : (size : ℕ) (s : State) → tagRefusal size (s .tadr) id 0 false q (s .stack) ≡ 0
-      → tagRead size (id * 268435456 + q) s ≡ completedResult false false (tagState id 0 q s)
+      → tagRead size (id * 268435456 + q) s ≡ completedResult false (oneTag id q) (tagState id 0 q s)
   unfolding tagRead if
   tag-taken size s h = rw (tag-id, tag-addr, tag-spr, tag-qwc, h)
 
@@ -77,15 +77,15 @@ module _ (main : List ℕ) (a : ℕ) (s : State) (m : Lent) (i : IdleAt a s) whe
   idle-going = rw (i .ended)
 
   tag-read : (id q : ℕ) → q < 65536 → id < 8 → longAt main a ≡ id * 268435456 + q → tagRefusal (length main) (s .tadr) id 0 false q (s .stack) ≡ 0
-      → stepOf main s m ≡ stepped (Completed false) (oneStep false) (tagState id 0 q s) m
+      → stepOf main s m ≡ stepped (Completed false) (oneTag id q) (tagState id 0 q s) m
   unfolding stepOf
   tag-read id q few known e h =
       no-pending (i .tags) (i .payload) main s m
-      ∙ tag-at (i .tadr) main s m {x = completedResult false false (tagState id 0 q s)} (rw e (tag-taken id q few known (length main) s h))
+      ∙ tag-at (i .tadr) main s m {x = completedResult false (oneTag id q) (tagState id 0 q s)} (rw e (tag-taken id q few known (length main) s h))
 
   -- a cnt tag: its payload is pending, and the next tag is after it
   pub cnt-step : (q : ℕ) → 1 ≤ q → q < 65536 → longAt main a ≡ 268435456 + q → a + 16 + 16 * q ≤ length main
-      → stepOf main s m ≡ stepped (Completed false) (oneStep false) (withTag s (a + 16 + 16 * q) false (s .stack) NoTagWords (pending (a + 16) (4 * q))) m
+      → stepOf main s m ≡ stepped (Completed false) (oneTag 1 q) (withTag s (a + 16 + 16 * q) false (s .stack) NoTagWords (pending (a + 16) (4 * q))) m
   unfolding tagState tagRefusal usesAddr payloadAt nextTadr endsChain nextStack tagWordsOf payloadOf if
   cnt-step q some few e room =
       tag-read 1 q few (omega arith) e (rw (i .tadr, le-ltb (length main) (a + 16) (omega arith), ne-eqb q 0 (λ z. omega arith), le-ltb (length main) (a + 16 + 16 * q) room))
@@ -93,7 +93,7 @@ module _ (main : List ℕ) (a : ℕ) (s : State) (m : Lent) (i : IdleAt a s) whe
 
   -- the end tag: the chain has ended
   pub end-step : longAt main a ≡ 1879048192 → a + 16 ≤ length main
-      → stepOf main s m ≡ stepped (Completed false) (oneStep false) (withTag s a true (s .stack) NoTagWords NoPayload) m
+      → stepOf main s m ≡ stepped (Completed false) (oneTag 7 0) (withTag s a true (s .stack) NoTagWords NoPayload) m
   unfolding tagState tagRefusal usesAddr payloadAt nextTadr endsChain nextStack tagWordsOf payloadOf if
   end-step e room =
       tag-read 7 0 (omega arith) (omega arith) e (rw (i .tadr, le-ltb (length main) (a + 16) room))

@@ -6,6 +6,7 @@ use mathlib.Core.List.{List, [], _∷_, _++_}
 use mathlib.Core.Path.{_≡_}
 use lib.ListN.{take, drop, replicate}
 use lib.Dec.{eqb}
+use Rattle.fields.specs.Counts.{countNumbers}
 use Rattle.fields.specs.Fields.{if}
 use Rattle.gif.specs.Log.{entrySize}
 use Rattle.memories.specs.declared.VifUnit.{VifUnit}
@@ -431,6 +432,10 @@ drawnBy code n words = runOfWords (1 + n) (0 ∷ 0 ∷ 0 ∷ (code + n) ∷ word
 unfoldable pub packetsIn : Ran → List ℕ
 packetsIn r = numberOf (r .answer) ∷ r .counts .steps ∷ r .counts .packets ∷ []
 
+-- the answer and all counts
+unfoldable pub countedIn : Ran → List ℕ
+countedIn r = numberOf (r .answer) ∷ countNumbers (r .counts)
+
 -- a GIF tag with EOP, NLOOP 1 and one descriptor, and a quadword of data
 abbrev pub packetOf : ℕ → List ℕ
 packetOf descriptor = 0x00008001 ∷ 0x10000000 ∷ descriptor ∷ 0 ∷ 7 ∷ 0 ∷ 0x42 ∷ 0 ∷ []
@@ -482,6 +487,27 @@ masked unit m =
 -- the answer to setting a number of a unit that waits for STROW's words, or for nothing
 unfoldable pub answerToSet : Waiting → ℕ → ℕ
 answerToSet w number = setNumber (setOf (withWaiting resetUnit w) number 5 .answer)
+
+-- a NOP with NUM and IMM, STMASK and its word, STCYCL, three NOPs, and a NOP with its interrupt bit
+abbrev pub nopsAndNone : List ℕ
+nopsAndNone = 0x00ff1234 ∷ 0x20000000 ∷ 0 ∷ 0x01000101 ∷ 0 ∷ 0 ∷ 0 ∷ 0x80000000 ∷ []
+
+-- tags of every ID but 7, with payload of zeros: cnt at 0, next at 20h, ref at 50h, refs at 60h, call at 70h, ret at A0h and refe at 80h
+unfoldable pub sevenIds : Ran
+sevenIds =
+    runIn
+    (wordsBytes
+    ((0x10000001 ∷ 0 ∷ 0 ∷ 0 ∷ replicate 4 0)
+    ++ (0x20000001 ∷ 0x50 ∷ 0 ∷ 0 ∷ replicate 8 0)
+    ++ (0x30000002 ∷ 0x30 ∷ 0 ∷ 0 ∷ [])
+    ++ (0x40000001 ∷ 0x40 ∷ 0 ∷ 0 ∷ [])
+    ++ (0x50000000 ∷ 0xa0 ∷ 0 ∷ 0 ∷ [])
+    ++ (0x00000002 ∷ 0x30 ∷ 0 ∷ 0 ∷ replicate 4 0)
+    ++ (0x60000001 ∷ 0 ∷ 0 ∷ 0 ∷ replicate 4 0)))
+
+-- a cnt tag with a quadword, and a next tag whose ADDR is refused
+unfoldable pub refusedTag : Ran
+refusedTag = runIn (wordsBytes ((0x10000001 ∷ 0 ∷ 0 ∷ 0 ∷ replicate 4 0) ++ (0x20000003 ∷ 0x08 ∷ 0 ∷ 0 ∷ [])))
 
 unfoldable pub requestPoints : List Point
 requestPoints =
@@ -580,4 +606,16 @@ requestPoints =
     ∷ point (loggedIn (runOfSheet (groupSheet 2))) (0 ∷ 256 ∷ 5 ∷ 0 ∷ 256 ∷ 5 ∷ [])
     -- "42 .. for 0 repetitions"; a chain of 144 bytes does not fit into 128
     ∷ point (sizeOf (groupSheet 0) ∷ sizeOf (groupSheet 4) ∷ []) (42 ∷ 47 ∷ [])
+    -- request 14, the answer, steps, packets, VIF words, NOPs and QWC by ID: a NOP whatever its other bits, and no word of payload
+    ∷ point (countedIn (runOfWords 2 nopsAndNone)) (91 ∷ 9 ∷ 0 ∷ 8 ∷ 5 ∷ 0 ∷ 2 ∷ 0 ∷ 0 ∷ 0 ∷ 0 ∷ 0 ∷ 0 ∷ [])
+    -- "VIF words taken (one-word steps)": not the two quadwords of DIRECT
+    ∷ point (countedIn (drawnBy 0x50000000 2 (packetOf 0xe))) (0 ∷ 8 ∷ 1 ∷ 4 ∷ 3 ∷ 0 ∷ 3 ∷ 0 ∷ 0 ∷ 0 ∷ 0 ∷ 0 ∷ 0 ∷ [])
+    -- tag words of VIF0
+    ∷ point (countedIn tagTransferred) (0 ∷ 3 ∷ 0 ∷ 2 ∷ 0 ∷ 0 ∷ 0 ∷ 0 ∷ 0 ∷ 0 ∷ 0 ∷ 0 ∷ 0 ∷ [])
+    -- "QWC by tag ID"; a refused tag adds nothing
+    ∷ point (countedIn sevenIds) (0 ∷ 39 ∷ 0 ∷ 32 ∷ 32 ∷ 2 ∷ 1 ∷ 1 ∷ 2 ∷ 1 ∷ 0 ∷ 1 ∷ 0 ∷ [])
+    ∷ point (countedIn refusedTag) (11 ∷ 5 ∷ 0 ∷ 4 ∷ 4 ∷ 0 ∷ 1 ∷ 0 ∷ 0 ∷ 0 ∷ 0 ∷ 0 ∷ 0 ∷ [])
+    -- "which request 9 adds too": QWC whole in the run that reads the tag
+    ∷ point (countedIn (stoppedAt 1)) (90 ∷ 1 ∷ 0 ∷ 0 ∷ 0 ∷ 0 ∷ 3 ∷ 0 ∷ 0 ∷ 0 ∷ 0 ∷ 0 ∷ 0 ∷ [])
+    ∷ point (countedIn (resumedAt 1 99)) (0 ∷ 8 ∷ 1 ∷ 4 ∷ 3 ∷ 0 ∷ 3 ∷ 0 ∷ 0 ∷ 0 ∷ 0 ∷ 0 ∷ 0 ∷ [])
     ∷ []

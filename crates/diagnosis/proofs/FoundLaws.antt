@@ -8,6 +8,7 @@ use borrow.Author.Tests.{eqb-true, eqb-false}
 use lib.Dec.{eqb}
 use Rattle.fields.specs.Fields.{if}
 use Rattle.fields.specs.Memory.{quadwordAt}
+use Rattle.fields.specs.declared.UnitCounts.{UnitCounts}
 use Rattle.gif.specs.declared.GifPath.the-variants.{Three}
 use Rattle.gif.specs.declared.GifAnswer.{GifAnswer}
 use Rattle.gif.specs.declared.GifAnswer.the-variants.{Taken, Refused as GifRefused}
@@ -42,11 +43,11 @@ no-completed : {i : Bool} {n : ℕ} → Completed i ≡ Refused n → ⊥
 no-completed e = let z : _≡_ {A = ℕ} 0 1 = cc in omega arith
 
 -- a step that is refused was refused by the unit, or by path 3
-vif-refused : (which : VifUnit) (b : VifAnswer) (o : VifLeft) (t : TagWords) (p : ℕ → Payload) (s : State) (m : Lent) (k : ℕ)
-    → afterVif which b o t p s m .answer ≡ Refused k → b ≡ VifRefused k
-vif-refused which (Word i) o t p s m k e = absurd (no-completed e)
-vif-refused which (Quadword i c) o t p s m k e = absurd (no-completed e)
-vif-refused which (VifRefused j) o t p s m k e = let q : j ≡ k = cc in ap (λ (n : ℕ). VifRefused n) q
+vif-refused : (which : VifUnit) (b : VifAnswer) (d : UnitCounts) (o : VifLeft) (t : TagWords) (p : ℕ → Payload) (s : State) (m : Lent) (k : ℕ)
+    → afterVif which b d o t p s m .answer ≡ Refused k → b ≡ VifRefused k
+vif-refused which (Word i) d o t p s m k e = absurd (no-completed e)
+vif-refused which (Quadword i c) d o t p s m k e = absurd (no-completed e)
+vif-refused which (VifRefused j) d o t p s m k e = let q : j ≡ k = cc in ap (λ (n : ℕ). VifRefused n) q
 
 gif-refused : (b : GifAnswer) (o : GifLeft) (p : Payload) (s : State) (m : Lent) (k : ℕ) → afterGif b o p s m .answer ≡ Refused k → b ≡ GifRefused k
 gif-refused (Taken c) o p s m k e = absurd (no-completed e)
@@ -55,7 +56,7 @@ gif-refused (GifRefused j) o p s m k e = let q : j ≡ k = cc in ap (λ (n : ℕ
 given-by : (main : List ℕ) (a : ℕ) (t : TagWords) (p : ℕ → Payload) (s : State) (m : Lent) (k : ℕ) → vifGiven main a t p s m .answer ≡ Refused k
     → vifTook (fedUnit s) main a s m .answer ≡ VifRefused k
 unfolding vifGiven
-given-by main a t p s m k e = vif-refused (fedUnit s) (vifTook (fedUnit s) main a s m .answer) (vifTook (fedUnit s) main a s m) t p s m k e
+given-by main a t p s m k e = vif-refused (fedUnit s) (vifTook (fedUnit s) main a s m .answer) _ (vifTook (fedUnit s) main a s m) t p s m k e
 
 taken-by : (main : List ℕ) (a : ℕ) (p : Payload) (s : State) (m : Lent) (k : ℕ) → gifGiven main a p s m .answer ≡ Refused k
     → gifStep Three (s .path3) (quadwordAt main a) (s .used) (m .log) .answer ≡ GifRefused k

@@ -38,7 +38,9 @@ use Rattle.chain.specs.Range.{entryRefusal}
 use Rattle.chain.specs.Step.{Stepped, steppedBy, fedUnit, heldBy, afterVif, vifTook, vifGiven, afterGif, gifGiven, payloadStep, payloadOrTag, pendingOrTag, stepOf}
 use Rattle.chain.specs.Run.{Ran, ran, done, afterStep, stepsOf, runOf}
 use Rattle.chain.proofs.ReadyLaws.{facts-of, ready-of}
-use Rattle.fields.specs.Counts.{none}
+use Rattle.fields.specs.declared.Counts.{Counts}
+use Rattle.fields.specs.declared.UnitCounts.{UnitCounts}
+use Rattle.fields.specs.Counts.{none, oneTag}
 use Rattle.gif_reason.specs.declared.Numbers.{Numbers}
 use Rattle.gif_reason.specs.Reason.{quadwordNeeds}
 use Rattle.chain_reason.specs.Reason.{nextPlace}
@@ -89,21 +91,24 @@ module _ (main : List ℕ) (s : State) (m : Lent) (fits : entrySize * s .used �
       n : ℕ
       n = tagRefusal (length main) (s .tadr) (idOf tag) (addrOf tag) (sprOf tag) (qwcOf tag) (s .stack)
 
-      go : (b : Bool) → TriedStep 0 (steppedBy (if b (completedResult false false (tagState (idOf tag) (addrOf tag) (qwcOf tag) s)) (refusedResult n s)) m)
-          (steppedBy (if b (completedResult false false (tagState (idOf tag) (addrOf tag) (qwcOf tag) (withNoneUsed s))) (refusedResult n (withNoneUsed s))) m′)
+      counts : Counts
+      counts = oneTag (idOf tag) (qwcOf tag)
+
+      go : (b : Bool) → TriedStep 0 (steppedBy (if b (completedResult false counts (tagState (idOf tag) (addrOf tag) (qwcOf tag) s)) (refusedResult n s)) m)
+          (steppedBy (if b (completedResult false counts (tagState (idOf tag) (addrOf tag) (qwcOf tag) (withNoneUsed s))) (refusedResult n (withNoneUsed s))) m′)
       go true = record { tried = goes-tried (m .log) (s .used) 0 fits }
       go false = record { tried = refuses-tried (m .log) (s .used) 0 n 0 (tag-otherwise (length main) (s .tadr) (idOf tag) (addrOf tag) (sprOf tag) (qwcOf tag) (s .stack)) }
 
-  tried-after-vif : (k : ℕ) (which : VifUnit) (a b : VifAnswer) (o q : VifLeft) (t : TagWords) (p : ℕ → Payload)
-      → TriedOn (m .log) (s .used) k (vifOutcome a) (vifOutcome b) (q .used) → TriedStep k (afterVif which a o t p s m) (afterVif which b q t p (withNoneUsed s) m′)
-  tried-after-vif k which a b o q t p h = record { tried = rw (same s m o a, same (withNoneUsed s) m′ q b) (carried (m .log) (s .used) k (vifOutcome b) _ h (count b)) }
+  tried-after-vif : (k : ℕ) (which : VifUnit) (a b : VifAnswer) (e f : UnitCounts) (o q : VifLeft) (t : TagWords) (p : ℕ → Payload)
+      → TriedOn (m .log) (s .used) k (vifOutcome a) (vifOutcome b) (q .used) → TriedStep k (afterVif which a e o t p s m) (afterVif which b f q t p (withNoneUsed s) m′)
+  tried-after-vif k which a b e f o q t p h = record { tried = rw (same s m o e a, same (withNoneUsed s) m′ q f b) (carried (m .log) (s .used) k (vifOutcome b) _ h (count b)) }
     where
-      same : (u : State) (l : Lent) (x : VifLeft) (c : VifAnswer) → outcomeOf (afterVif which c x t p u l .answer) ≡ vifOutcome c
-      same u l x (Word i) = refl
-      same u l x (Quadword i c) = refl
-      same u l x (VifRefused n) = refl
+      same : (u : State) (l : Lent) (x : VifLeft) (d : UnitCounts) (c : VifAnswer) → outcomeOf (afterVif which c d x t p u l .answer) ≡ vifOutcome c
+      same u l x d (Word i) = refl
+      same u l x d (Quadword i c) = refl
+      same u l x d (VifRefused n) = refl
 
-      count : (c : VifAnswer) → vifOutcome c ≡ goes → afterVif which c q t p (withNoneUsed s) m′ .after .state .used ≡ q .used
+      count : (c : VifAnswer) → vifOutcome c ≡ goes → afterVif which c f q t p (withNoneUsed s) m′ .after .state .used ≡ q .used
       count (Word i) e = refl
       count (Quadword i c) e = refl
       count (VifRefused n) e = absurd (no-goes (sym e))
@@ -111,7 +116,7 @@ module _ (main : List ℕ) (s : State) (m : Lent) (fits : entrySize * s .used �
   tried-vif : (a : ℕ) (t : TagWords) (p : ℕ → Payload) → TriedStep (unitNeeds main a s) (vifGiven main a t p s m) (vifGiven main a t p (withNoneUsed s) m′)
   unfolding vifGiven
   tried-vif a t p =
-      tried-after-vif (unitNeeds main a s) (fedUnit s) (vifTook (fedUnit s) main a s m .answer) (vifTook (fedUnit s) main a (withNoneUsed s) m′ .answer) (vifTook (fedUnit s) main a s m) (vifTook (fedUnit s) main a (withNoneUsed s) m′) t p
+      tried-after-vif (unitNeeds main a s) (fedUnit s) (vifTook (fedUnit s) main a s m .answer) (vifTook (fedUnit s) main a (withNoneUsed s) m′ .answer) _ _ (vifTook (fedUnit s) main a s m) (vifTook (fedUnit s) main a (withNoneUsed s) m′) t p
       (word-tried (fedUnit s) (heldBy (fedUnit s) s) (s .path2) (s .used) m fits m′ long (incomingAt main a))
 
   tried-after-gif : (k : ℕ) (a b : GifAnswer) (o q : GifLeft) (p : Payload) → TriedOn (m .log) (s .used) k (gifOutcome a) (gifOutcome b) (q .used)

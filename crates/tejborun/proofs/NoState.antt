@@ -2,11 +2,12 @@
 use mathlib.Core.Path.{_≡_, refl}
 use mathlib.Core.Bool.{Bool, true, false, not, _&&_}
 use mathlib.Core.List.{List, [], _∷_}
-use Prim.Native.Nat.{ℕ, _≤_}
+use Prim.Native.Nat.{ℕ, _+_, _≤_}
 use native.Mathlib.Omega.{arith}
 use borrow.Author.Tests.{eqb-false, eq-eqb, ne-eqb, le-ltb}
 use lib.ListN.{length, getD}
 use lib.Dec.{eqb, ltb}
+use Rattle.fields.specs.Counts.{none as noCounts, countNumbers}
 use Rattle.fields.specs.Fields.{if}
 use Rattle.fields.specs.Refusals.{mainLength, logLength, outOfRange}
 use Rattle.fields.proofs.ChoiceLaws.{if-ind}
@@ -23,7 +24,7 @@ use Rattle.chain.specs.Run.{runOf}
 use Rattle.conformance.specs.Play.{playRefusal, playOf}
 use Rattle.diagnosis.specs.Why.{whyOf}
 use Rattle.tejborun.specs.Buffers.{written, writtenBack, answered}
-use Rattle.tejborun.specs.Runs.{Blocked, blocked, startCall, left as leftByRun, runCall}
+use Rattle.tejborun.specs.Runs.{Blocked, blocked, startCall, left as leftByRun, countsSize, runCall}
 use Rattle.tejborun.specs.Play.{left as leftByPlay, playCall}
 use Rattle.tejborun.specs.Reasons.{whyCall}
 
@@ -82,24 +83,24 @@ module _ (block : List ℕ) (h : length block ≡ stateSize) (unknown : stateInB
       (if-ind (λ (x : Blocked). x ≡ blocked 5 block) (ltb 1 tte) refl (rw (none, out)))
 
   -- a run answers its entry refusal and counts no step
-  pub none-run : (main : List ℕ) (m : Lent) (allowance : ℕ) (result : List ℕ) → 2 ≤ length result
+  pub none-run : (main : List ℕ) (m : Lent) (allowance : ℕ) (result : List ℕ) → countsSize ≤ length result
       → {n : ℕ}
       → n ≡ entryRefusal main m standIn
-      → (runCall main m block allowance result ≡ leftByRun n m block (written (0 ∷ 0 ∷ []) result)) × OneToFive n
+      → (runCall main m block allowance result ≡ leftByRun n m block (written (countNumbers noCounts) result)) × OneToFive n
   unfolding runCall runOf writtenBack if
   none-run main m allowance result l e =
       let f = entry-refused main m standIn out in
-      (rw (eq-eqb (length block) stateSize h, le-ltb (length result) 2 l, none, ne-eqb _ 0 (not-zero f), ← e), rw e f)
+      (rw (eq-eqb (length block) stateSize h, le-ltb (length result) countsSize l, none, ne-eqb _ 0 (not-zero f), ← e), rw e f)
 
   -- building and running answers the refusal before the sheet's
-  pub none-played : (sheet main : List ℕ) (address : ℕ) (m : Lent) (allowance : ℕ) (result : List ℕ) → 3 ≤ length result
+  pub none-played : (sheet main : List ℕ) (address : ℕ) (m : Lent) (allowance : ℕ) (result : List ℕ) → 1 + countsSize ≤ length result
       → {n : ℕ}
       → n ≡ playRefusal main m standIn address
-      → (playCall sheet main address m block allowance result ≡ leftByPlay n main m block (written (0 ∷ 0 ∷ 0 ∷ []) result)) × OneToFive n
+      → (playCall sheet main address m block allowance result ≡ leftByPlay n main m block (written (0 ∷ countNumbers noCounts) result)) × OneToFive n
   unfolding playCall playOf writtenBack if
   none-played sheet main address m allowance result l e =
       let f = play-refused main m standIn out address in
-      (rw (eq-eqb (length block) stateSize h, le-ltb (length result) 3 l, none, ne-eqb _ 0 (not-zero f), ← e), rw e f)
+      (rw (eq-eqb (length block) stateSize h, le-ltb (length result) (1 + countsSize) l, none, ne-eqb _ 0 (not-zero f), ← e), rw e f)
 
   -- why a run would stop: the same entry refusal
   pub none-why : (main : List ℕ) (m : Lent) (result : List ℕ) → 4 ≤ length result

@@ -1,11 +1,12 @@
 -- Calls on a state block.
 use mathlib.Core.Path.{_≡_, refl, ap}
 use mathlib.Core.Bool.{Bool, true, not, _||_}
-use mathlib.Core.List.{List, [], _∷_}
+use mathlib.Core.List.{List}
 use Prim.Native.Nat.{ℕ, _<_, _≤_}
 use borrow.Author.Tests.{eq-eqb, ne-eqb, lt-ltb, le-ltb}
 use lib.ListN.{length}
 use lib.Dec.{eqb, ltb}
+use Rattle.fields.specs.Counts.{countNumbers}
 use Rattle.fields.specs.Fields.{if}
 use Rattle.fields.proofs.ChoiceLaws.{if-ind}
 use Rattle.memories.specs.Lengths.{Lent}
@@ -28,7 +29,7 @@ use Rattle.console.specs.Register.{setNumber, setOf}
 use Rattle.console.specs.Block.{unitHeld, setBlock, setInBlock}
 use Rattle.console.proofs.ReadLaws.{block-as-unit}
 use Rattle.tejborun.specs.Buffers.{short, wrongBlock, written, writtenBack}
-use Rattle.tejborun.specs.Runs.{Blocked, blocked, resetCall, started, startCall, setCall, Left, left, runCall}
+use Rattle.tejborun.specs.Runs.{Blocked, blocked, resetCall, started, startCall, setCall, Left, left, countsSize, runCall}
 
 module _ (block : List ℕ) where
   pub reset-short : (length block ≡ stateSize → ⊥) → blocked short block ≡ resetCall block
@@ -101,22 +102,22 @@ module _ (main : List ℕ) (m : Lent) (block : List ℕ) (allowance : ℕ) (resu
   run-no-block h = rw (ne-eqb (length block) stateSize h)
 
   module _ (h : length block ≡ stateSize) where
-    pub run-short : length result < 2 → left short m block result ≡ runCall main m block allowance result
+    pub run-short : length result < countsSize → left short m block result ≡ runCall main m block allowance result
     unfolding runCall if
-    run-short l = rw (eq-eqb (length block) stateSize h, lt-ltb (length result) 2 l)
+    run-short l = rw (eq-eqb (length block) stateSize h, lt-ltb (length result) countsSize l)
 
-    pub run-done : 2 ≤ length result → {read : ReadState} → read ≡ stateInBlock block
+    pub run-done : countsSize ≤ length result → {read : ReadState} → read ≡ stateInBlock block
         → {x : RunResult} {m′ : Lent}
         → leftBy x m′ ≡ runOf main allowance (read .state) m
         → {after : List ℕ}
         → after ≡ writtenBack (not (eqb (x .counts .steps) 0)) (x .state) block
         → {numbers : List ℕ}
-        → numbers ≡ written (x .counts .steps ∷ x .counts .packets ∷ []) result
+        → numbers ≡ written (countNumbers (x .counts)) result
         → {n : ℕ}
         → n ≡ numberOf (x .answer)
         → left n m′ after numbers ≡ runCall main m block allowance result
     unfolding runCall if
-    run-done l e q b w k = rw (eq-eqb (length block) stateSize h, le-ltb (length result) 2 l, ← e, ← q, b, w, k)
+    run-done l e q b w k = rw (eq-eqb (length block) stateSize h, le-ltb (length result) countsSize l, ← e, ← q, b, w, k)
 
 -- request 9, "an allowance of 0 changes nothing": the block stays word for word, and so do the memories and the log
 pub idle-run : (main : List ℕ) (m : Lent) (block result : List ℕ) → (runCall main m block 0 result .block ≡ block) × (runCall main m block 0 result .memories ≡ m)
@@ -124,6 +125,6 @@ unfolding runCall writtenBack if
 idle-run main m block result =
     let read = stateInBlock block in
     let n = stopping-changes-nothing main (read .state) m 0 0 in (
-      if-ind (λ (x : Left). x .block ≡ block) (wrongBlock block || ltb (length result) 2) refl (rw (n .uncounted)),
-      if-ind (λ (x : Left). x .memories ≡ m) (wrongBlock block || ltb (length result) 2) refl (ap (λ (x : Machine). x .memories) (n .unmoved)),
+      if-ind (λ (x : Left). x .block ≡ block) (wrongBlock block || ltb (length result) countsSize) refl (rw (n .uncounted)),
+      if-ind (λ (x : Left). x .memories ≡ m) (wrongBlock block || ltb (length result) countsSize) refl (ap (λ (x : Machine). x .memories) (n .unmoved)),
     )

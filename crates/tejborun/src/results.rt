@@ -15,15 +15,6 @@ pub(crate) fn put_two(result: &mut [u64], a: u64, b: u64)
     result[1] = b;
 }
 
-pub(crate) fn put_three(result: &mut [u64], a: u64, b: u64, c: u64)
-    requires { ⌜ 3 ≤ length (now result) ⌝ }
-    ensures { λ _. ⌜ now (result .exit) ≡ written (a ∷ b ∷ c ∷ []) (now (result .entry)) ⌝ }
-{
-    result[0] = a;
-    result[1] = b;
-    result[2] = c;
-}
-
 // A run's counts.
 pub(crate) fn put_counts(result: &mut [u64], c: Counts)
     requires { ⌜ 12 ≤ length (now result) ⌝ }

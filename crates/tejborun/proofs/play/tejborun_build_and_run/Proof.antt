@@ -18,7 +18,7 @@ returns-3 c =
     let r = s .before .before .before .before .before .before in
     let t = r .before .before in
     play-done _ _ _ _ _ _ _ (t .before .if1 .left) (t .if2 .left) (r .state-in-block .ensures) (s .build-and-run .ensures) (f .begun .ensures) (p .put-back .ensures)
-    (w .before .play-offset .ensures) (w .put-three .ensures) (c .play-number .ensures)
+    (w .before .play-offset .ensures) (w .put-after .ensures) (c .play-number .ensures)
 
 pub tejborun-build-and-run-spec : {M : Type 1} → statement M
 tejborun-build-and-run-spec =

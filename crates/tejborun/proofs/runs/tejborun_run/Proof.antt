@@ -17,7 +17,7 @@ returns-3 c =
     let s = told .before .before .before .before .before .before .before .before .before in
     let r = s .before .before .before .before .before in
     let t = r .before .before in
-    run-done _ _ _ _ _ (t .before .if1 .left) (t .if2 .left) (r .state-in-block .ensures) (s .run .ensures) (rw (told .moved .ensures) at (p .put-back .ensures)) (w .put-two .ensures) (c .run-number .ensures)
+    run-done _ _ _ _ _ (t .before .if1 .left) (t .if2 .left) (r .state-in-block .ensures) (s .run .ensures) (rw (told .moved .ensures) at (p .put-back .ensures)) (w .put-counts .ensures) (c .run-number .ensures)
 
 pub tejborun-run-spec : {M : Type 1} → statement M
 tejborun-run-spec =
