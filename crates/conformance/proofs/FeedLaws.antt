@@ -103,17 +103,26 @@ module _ (main : List ℕ) (s : State) (channel : s .channel ≡ 1) {b : Bool �
       ∙ rw (channel-vif1 (s .channel) (λ z. omega arith), e)
       (t .given closed (y .unit) (y .path2) (y .used) (y .memories) (payloadAfter a (w + n)) _ (x .memories) _ ∙ rw (payload-next a n w))
 
-  -- steps of VIF1 are steps of the chain
-  pub feeds-reach : (j a n : ℕ) {x y : Fed} → Feeds Vif1 b x (incomings w main a j) y
-      → InSteps main j (feeding s x (pending a (w * j + n))) (feeding s y (pending (a + 4 * (w * j)) n))
-  unfolding incomings
-  feeds-reach zero a n none =
+  none-fed : (a n : ℕ) (x : Fed) → InSteps main 0 (feeding s x (pending a (w * 0 + n))) (feeding s x (pending (a + 4 * (w * 0)) n))
+  none-fed a n x =
       let e : w * 0 + n ≡ n = rw mul-zero (zero-add n) in
       let f : a + 4 * (w * 0) ≡ a = rw mul-zero (omega arith) in
       rw (e, f) no-steps
-  feeds-reach (suc j) a n (more {x} {y} {z} closed e f) =
+
+  one-fed : (closed : Bool) (j a n : ℕ) (x y z : Fed)
+      → vifStep Vif1 (x .unit) (x .path2) (incomingAt main a) (x .used) (x .memories) ≡ leaves (b closed) (y .unit) (y .path2) (y .used) (y .memories)
+      → InSteps main j (feeding s y (pending (a + 4 * w) (w * j + n))) (feeding s z (pending (a + 4 * w + 4 * (w * j)) n))
+      → InSteps main (suc j) (feeding s x (pending a (w * suc j + n))) (feeding s z (pending (a + 4 * (w * suc j)) n))
+  one-fed closed j a n x y z e r =
       let h : 1 ≤ w = t .some in
       let c : w * suc j + n ≡ w + (w * j + n) = omega arith in
       let g : a + 4 * (w * suc j) ≡ a + 4 * w + 4 * (w * j) = omega arith in
       rw (c, g, pending-some a (w + (w * j + n)) (omega arith))
-      (step-first (pending-going _ a (w + (w * j + n)) refl (λ z. omega arith)) (taken-step closed x y a (w * j + n) e) refl (feeds-reach j (a + 4 * w) n f))
+      (step-first (pending-going _ a (w + (w * j + n)) refl (λ z. omega arith)) (taken-step closed x y a (w * j + n) e) refl r)
+
+  -- steps of VIF1 are steps of the chain
+  pub feeds-reach : (j a n : ℕ) {x y : Fed} → Feeds Vif1 b x (incomings w main a j) y
+      → InSteps main j (feeding s x (pending a (w * j + n))) (feeding s y (pending (a + 4 * (w * j)) n))
+  unfolding incomings
+  feeds-reach zero a n (none {x}) = none-fed a n x
+  feeds-reach (suc j) a n (more {x} {y} {z} closed e f) = one-fed closed j a n x y z e (feeds-reach j (a + 4 * w) n f)
