@@ -1,0 +1,97 @@
+-- Request 14's fact, over any sequence of runs from one start.
+use mathlib.Core.Path.{_≡_, refl, sym, ap, _∙_}
+use mathlib.Core.Bool.{Bool, true, false, _&&_}
+use mathlib.Core.List.{List, [], _∷_, _++_}
+use Prim.Native.Nat.{ℕ, zero, suc, _+_, _*_}
+use native.Mathlib.Omega.{arith}
+use borrow.Author.Tests.{eqb-true}
+use lib.Dec.{eqb}
+use Rattle.fields.specs.Counts.{none}
+use Rattle.fields.specs.Fields.{if}
+use Rattle.fields.proofs.ChoiceLaws.{if-ind}
+use Rattle.memories.specs.Lengths.{Lent}
+use Rattle.chain.specs.declared.Answer.the-variants.{Done, Allowance, Refused as AnswerRefused}
+use Rattle.chain.specs.declared.StartAnswer.the-variants.{Started}
+use Rattle.chain.specs.declared.StartResult.{StartResult}
+use Rattle.chain.specs.declared.StepAnswer.{StepAnswer}
+use Rattle.chain.specs.declared.StepAnswer.the-variants.{Completed, Refused}
+use Rattle.chain.specs.declared.State.{State}
+use Rattle.chain.specs.Range.{stateInRange, startInRange, entryRefusal}
+use Rattle.chain.specs.Inner.{Ready}
+use Rattle.chain.specs.Start.{startOf}
+use Rattle.chain.specs.Step.{Stepped, stepOf}
+use Rattle.chain.specs.Run.{Ran, ran, done, afterStep, onStep, stepsOf, runOf}
+use Rattle.chain.proofs.AfterLaws.{step-stays}
+use Rattle.history.specs.Trace.{Event, tracedBy, traced, eventOf, stepsTrace, traceOf, sumOf, qwcIn, payloadIn, qwcRead, payloadTaken}
+use Rattle.history.specs.History.{History, begins, runs, payloadPending, Balanced}
+use Rattle.history.proofs.StepBalance.{step-balances}
+
+pub sum-append : (f : Event → ℕ) (es ds : List Event) → sumOf f (es ++ ds) ≡ sumOf f es + sumOf f ds
+unfolding sumOf
+sum-append f [] ds = omega arith
+sum-append f (e ∷ es) ds = let i = sum-append f es ds in omega arith
+
+-- ---- a run
+
+-- what was pending and four times the QWC read are what was taken and what is pending after it
+record Kept (s : State) (es : List Event) (r : Ran) : Type 0 where
+  kept : payloadPending (s .payload) + 4 * qwcRead es ≡ payloadTaken es + payloadPending (r .after .state .payload)
+
+-- a run that took no step
+nothing-kept : {s : State} {r : Ran} → r .after .state ≡ s → Kept s [] r
+unfolding sumOf
+nothing-kept e = record { kept = rw e (omega arith) }
+
+module _ (main : List ℕ) where
+  -- a step, and the run from there
+  turn-kept : (n : ℕ) (s : State) (m : Lent) → Ready main s m
+      → ((t : State) (l : Lent) → Ready main t l → Kept t (stepsTrace main n t l) (stepsOf main n t l))
+      → (a : StepAnswer) → stepOf main s m .answer ≡ a
+      → Kept s (tracedBy (stepsTrace main n) a (eventOf main s m) (stepOf main s m)) (afterStep (stepsOf main n) a (stepOf main s m) s m)
+  unfolding sumOf
+  turn-kept n s m r f (Completed true) q = record { kept = let b = step-balances main s m r .balances true q in omega arith }
+  turn-kept n s m r f (Completed false) q =
+      let x = stepOf main s m in
+      let b = step-balances main s m r .balances false q in
+      let i = f (x .after .state) (x .after .memories) (step-stays r x refl false q) .kept in
+      record { kept = omega arith }
+  turn-kept n s m r f (Refused k) q = nothing-kept refl
+
+  steps-kept : (n : ℕ) (s : State) (m : Lent) → Ready main s m → Kept s (stepsTrace main n s m) (stepsOf main n s m)
+  unfolding stepsTrace stepsOf if
+  steps-kept zero s m r = if-ind (Kept s []) (done s) (nothing-kept refl) (nothing-kept refl)
+  steps-kept (suc n) s m r = done-or (done s) (turn-kept n s m r (steps-kept n) (stepOf main s m .answer) refl)
+    where
+      done-or : (b : Bool) {es : List Event} {o : Ran} → Kept s es o → Kept s (if b [] es) (if b (ran Done s none m) o)
+      done-or true k = nothing-kept refl
+      done-or false k = k
+
+  run-kept : (allowance : ℕ) (s : State) (m : Lent) → Kept s (traceOf main allowance s m) (runOf main allowance s m)
+  unfolding traceOf runOf if
+  run-kept allowance s m = go (eqb (entryRefusal main m s) 0) refl
+    where
+      go : (b : Bool) → eqb (entryRefusal main m s) 0 ≡ b
+          → Kept s (if b (stepsTrace main allowance s m) []) (if b (stepsOf main allowance s m) (ran (AnswerRefused (entryRefusal main m s)) s none m))
+      go true e = steps-kept allowance s m (record { passed = eqb-true (entryRefusal main m s) 0 e })
+      go false e = nothing-kept refl
+
+-- ---- a history
+
+-- "It drops whatever is pending"
+start-clears : (s : State) (channel tadr : ℕ) (tte : Bool) → startOf s channel tadr tte .answer ≡ Started
+    → payloadPending (startOf s channel tadr tte .state .payload) ≡ 0
+unfolding startOf
+start-clears s channel tadr tte =
+    if-ind (λ (r : StartResult). r .answer ≡ Started → payloadPending (r .state .payload) ≡ 0) (stateInRange s && startInRange channel tadr tte) (λ e. refl)
+    (λ e. absurd (let z : _≡_ {A = ℕ} 0 1 = cc in omega arith))
+
+-- over any sequence of runs from one start, on any channel
+pub history-fact : {main : List ℕ} {es : List Event} {s : State} → History main es s → Balanced es s
+unfolding sumOf
+history-fact (begins s channel tadr tte e) = record { balance = let z = start-clears s channel tadr tte e in omega arith }
+history-fact {main} (runs {es} {s} m allowance h) =
+    let b = history-fact h .balance in
+    let k = run-kept main allowance s m .kept in
+    let q = sum-append qwcIn es (traceOf main allowance s m) in
+    let p = sum-append payloadIn es (traceOf main allowance s m) in
+    record { balance = omega arith }

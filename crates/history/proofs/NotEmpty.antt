@@ -1,0 +1,60 @@
+-- The fact speaks of something: a history of several runs, one stopped and two refused. By computation.
+use mathlib.Core.Path.{_≡_, refl}
+use mathlib.Core.Bool.{false}
+use mathlib.Core.List.{[], _∷_}
+use Rattle.fields.specs.Fields.{if, bits, quadword}
+use Rattle.fields.specs.Counts.{oneIf}
+use Rattle.fields.specs.Memory.{wordAt, longAt}
+use Rattle.gif.specs.Log.{logRefused}
+use Rattle.memories.specs.Lengths.{lent, lengthsRefusal}
+use Rattle.vif.specs.Codes.{quadwordsOf, missingCode, plainCode, unpackNumbers, codeOf, decodeOf}
+use Rattle.vif.specs.Range.{registersInRange, waitingInRange, unitInRange}
+use Rattle.vif.specs.Step.{codeStep, vifStep}
+use Rattle.vif.specs.Words.{incomingAt}
+use Rattle.chain.specs.Pending.{payloadAfter}
+use Rattle.chain.specs.Range.{unitOf, channelInRange, startInRange, stackInRange, tagsInRange, wordsInRange, payloadInRange, stateInRange, mainRefused, tagsInside, payloadInside, entryRefusal}
+use Rattle.chain.specs.Tags.{nextStack, usesAddr, payloadAt as placedAt, nextTadr, endsChain, tagWordsOf, payloadOf, tagRefusal, tagState, tagRead}
+use Rattle.chain.specs.Start.{resetState, startOf}
+use Rattle.chain.specs.Step.{vifGiven, payloadStep, stepOf}
+use Rattle.chain.specs.Run.{done, stepsOf, runOf}
+use Rattle.history.specs.Trace.{Event, tag, payload, payloadAt, eventOf, stepsTrace, traceOf, sumOf, qwcRead, payloadTaken}
+use Rattle.history.specs.History.{History, begins, runs, payloadPending}
+use Rattle.history.specs.Example.{bytes, blank, first, second, third, taken}
+
+vifOpen : Unit {0}
+unfolding quadwordsOf missingCode plainCode unpackNumbers codeOf decodeOf registersInRange waitingInRange unitInRange codeStep vifStep incomingAt
+vifOpen = tt
+
+chainOpen : Unit {0}
+unfolding oneIf wordAt longAt logRefused payloadAfter unitOf channelInRange startInRange stackInRange tagsInRange wordsInRange payloadInRange stateInRange mainRefused tagsInside payloadInside lengthsRefusal entryRefusal usesAddr placedAt nextTadr nextStack endsChain tagWordsOf payloadOf tagRefusal tagState tagRead resetState startOf vifGiven payloadStep stepOf done stepsOf runOf
+chainOpen = tt
+
+opened : Unit {0}
+unfolding vifOpen chainOpen if bits quadword payloadAt eventOf stepsTrace traceOf first second third
+opened = tt
+
+begun : History bytes [] (startOf resetState 1 0 false .state)
+unfolding opened
+begun = begins resetState 1 0 false refl
+
+-- the history of the three runs
+several-runs : History bytes taken (third .after .state)
+unfolding first second third
+several-runs = runs (lent [] [] []) 9 (runs (first .after .memories) 9 (runs blank 2 begun))
+
+-- the first was stopped by its allowance, the second refused at a step and the third at its entry
+pub answers : (first .number ≡ 90) × (second .number ≡ 20) × (third .number ≡ 2)
+unfolding opened
+answers = (refl, refl, refl)
+
+-- a tag with QWC 1 was read and two words of its payload taken; two are pending
+pub events : taken ≡ tag 0x1000_0001 ∷ payload 1 ∷ payload 1 ∷ []
+unfolding opened
+events = refl
+
+pub pending : payloadPending (third .after .state .payload) ≡ 2
+unfolding opened
+pending = refl
+
+pub not-empty : History bytes (tag 0x1000_0001 ∷ payload 1 ∷ payload 1 ∷ []) (third .after .state)
+not-empty = rw (← events) several-runs

@@ -1,0 +1,1 @@
+// Request 14's fact about histories of runs: definitions and theorems, no code.
