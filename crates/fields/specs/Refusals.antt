@@ -149,6 +149,12 @@ keptExceed = 55
 abbrev pub rangesExceed : ℕ
 rangesExceed = 56
 
+-- ---- request 14, the totals
+
+-- "54 if a sum would pass 2^64 - 1, and then no sum changes"
+abbrev pub totalFull : ℕ
+totalFull = 54
+
 -- ---- answers of a run
 
 -- "else if the allowance is used, answer 90"

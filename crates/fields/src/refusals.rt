@@ -61,6 +61,8 @@ pub const CODE_WAITS: u32 = 51;
 
 pub const GROUP_DEEP: u32 = 52;
 
+pub const TOTAL_FULL: u32 = 54;
+
 pub const KEPT_EXCEED: u32 = 55;
 
 pub const RANGES_EXCEED: u32 = 56;

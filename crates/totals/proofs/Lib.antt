@@ -1,0 +1,4 @@
+-- Laws of the totals and of the share.
+pub mod AddLaws
+pub mod DivisorLaws
+pub mod ShareLaws

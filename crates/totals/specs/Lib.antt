@@ -1,0 +1,4 @@
+-- Request 14: totals over many runs.
+pub mod Totals
+pub mod Share
+pub mod Inner
