@@ -7,3 +7,4 @@ pub mod BoardLaws
 pub mod ReasonLaws
 pub mod CheckLaws
 pub mod NoState
+pub mod TotalLaws

@@ -6,3 +6,4 @@ pub mod Play
 pub mod Boards
 pub mod Reasons
 pub mod Checks
+pub mod Totals

@@ -7,6 +7,7 @@ mod reasons;
 mod results;
 mod runs;
 mod sheets;
+mod sums;
 
 pub use boards::tejborun_compare;
 pub use checks::tejborun_check;
@@ -20,3 +21,5 @@ pub use sheets::tejborun_build;
 pub use sheets::tejborun_meaning;
 pub use sheets::tejborun_salvage;
 pub use sheets::tejborun_steps;
+pub use sums::tejborun_add_totals;
+pub use sums::tejborun_nop_share;
