@@ -1,8 +1,11 @@
 // Totals over many runs. What each function means is said by the definitions of specs/.
 mod adding;
+mod numbers;
 mod sharing;
 
 pub use adding::add_totals;
+pub use numbers::counts_from;
+pub use numbers::totals_from;
 pub use sharing::nop_share;
 
 // Sums over the runs whose counts were added.
