@@ -1,42 +1,25 @@
 -- Calls on totals.
-use mathlib.Core.Path.{_≡_, refl, sym, ap, _∙_}
+use mathlib.Core.Path.{_≡_, refl}
 use mathlib.Core.Bool.{Bool, true, false, not, _||_}
 use mathlib.Core.List.{List, [], _∷_, append-nil}
-use Prim.Native.Nat.{ℕ, zero, suc, _+_, _<_, _≤_}
+use Prim.Native.Nat.{ℕ, _<_, _≤_}
 use native.Mathlib.Omega.{arith}
 use borrow.Author.Tests.{eq-eqb, ne-eqb, lt-ltb, le-ltb, eqb-true, not-false}
-use lib.ListN.{length, getD, drop, drop-of-length-le}
-use lib.Seq.{drop-cons}
+use lib.ListN.{length, drop-of-length-le}
 use lib.Dec.{eqb, ltb}
 use Rattle.fields.specs.declared.Counts.{Counts}
+use Rattle.fields.specs.Counts.{countNumbers}
 use Rattle.fields.specs.Fields.{if}
 use Rattle.fields.proofs.ChoiceLaws.{if-ind, if-ind-by, or-left}
 use Rattle.totals.specs.declared.AddResult.{AddResult}
 use Rattle.totals.specs.declared.Share.{Share}
 use Rattle.totals.specs.declared.Totals.{Totals}
 use Rattle.totals.specs.Totals.{numbersOf, added, anyPasses, addNumber, addOf}
+use Rattle.totals.specs.Numbers.{totalsFrom, countsFrom}
 use Rattle.totals.specs.Share.{NopShare}
+use Rattle.totals.proofs.NumberLaws.{numbers-read}
 use Rattle.tejborun.specs.Buffers.{short, written, Answered, answered}
-use Rattle.tejborun.specs.Totals.{totalsFrom, countsFrom, shortCall, addLeft, addCall, ShareCall}
-
--- ---- numbers read and written
-
--- k numbers from a place on
-numbersAt : List ℕ → ℕ → ℕ → List ℕ
-numbersAt ns at zero = []
-numbersAt ns at (suc k) = getD ns at 0 ∷ numbersAt ns (at + 1) k
-
-numbers-rest : (ns : List ℕ) (at k : ℕ) → length ns ≡ at + k → numbersAt ns at k ≡ drop at ns
-unfolding numbersAt
-numbers-rest ns at zero h = sym (drop-of-length-le ns {i = at} (omega arith))
-numbers-rest ns at (suc k) h =
-    let next : at + 1 ≡ suc at = omega arith in
-    ap (λ (l : List ℕ). getD ns at 0 ∷ l) (numbers-rest ns (at + 1) k (omega arith) ∙ ap (λ (i : ℕ). drop i ns) next) ∙ sym (drop-cons ns at 0 (omega arith))
-
--- eleven numbers are those of the totals read from them
-pub numbers-read : (ns : List ℕ) → length ns ≡ 11 → numbersOf (totalsFrom ns) ≡ ns
-unfolding numbersAt
-numbers-read ns h = numbers-rest ns 0 11 (omega arith)
+use Rattle.tejborun.specs.Totals.{shortCall, addLeft, addCall, ShareCall}
 
 -- numbers in place of as many
 written-whole : (ns l : List ℕ) → length l ≡ length ns → written ns l ≡ ns
@@ -97,3 +80,8 @@ refused-keeps sums numbers =
     if-ind (λ (x : AddResult). (addLeft x .answer ≡ 0 → ⊥) → addLeft x .result ≡ sums) (anyPasses (numbersOf (added (totalsFrom sums) (countsFrom numbers))))
     (λ n. numbers-read sums (eleven sums numbers 12 e))
     (λ n. absurd (n refl)))
+
+-- the counts that a run wrote to its result are those that a call with this result adds
+pub counts-handed-on : (c : Counts) (result : List ℕ) → countsFrom (written (countNumbers c) result) ≡ c
+unfolding written
+counts-handed-on c result = refl

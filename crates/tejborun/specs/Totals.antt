@@ -1,35 +1,19 @@
 -- Calls on totals: eleven numbers, in the order of `numbersOf`. Counts of a run are twelve, the steps first.
-use Prim.Native.Nat.{ℕ, _+_}
+use Prim.Native.Nat.{ℕ}
 use mathlib.Core.Bool.{Bool, true, false, not, _||_}
 use mathlib.Core.List.{List, [], _∷_}
 use mathlib.Core.Path.{_≡_}
 use lib.ListN.{length, getD}
 use lib.Dec.{eqb, ltb}
-use Rattle.fields.specs.declared.Qwc.{Qwc}
-use Rattle.fields.specs.declared.Counts.{Counts}
-use Rattle.fields.specs.Counts.{units, qwcs, counts}
 use Rattle.fields.specs.Fields.{if}
 use Rattle.totals.specs.declared.AddResult.{AddResult}
 use Rattle.totals.specs.declared.Share.{Share}
-use Rattle.totals.specs.declared.Totals.{Totals}
-use Rattle.totals.specs.Totals.{totals, numbersOf, addNumber, addOf}
+use Rattle.totals.specs.Totals.{numbersOf, addNumber, addOf}
+use Rattle.totals.specs.Numbers.{totalsFrom, countsFrom}
 use Rattle.totals.specs.Share.{share, NopShare}
 use Rattle.tejborun.specs.Buffers.{short, written, Answered, answered}
 
--- ---- numbers read
-
--- QWC of the IDs 0 to 7, from a place on
-abbrev pub qwcAt : List ℕ → ℕ → Qwc
-qwcAt ns at =
-    qwcs (getD ns at 0) (getD ns (at + 1) 0) (getD ns (at + 2) 0) (getD ns (at + 3) 0)
-    (getD ns (at + 4) 0) (getD ns (at + 5) 0) (getD ns (at + 6) 0) (getD ns (at + 7) 0)
-
-abbrev pub totalsFrom : List ℕ → Totals
-totalsFrom ns = totals (getD ns 0 0) (getD ns 1 0) (getD ns 2 0) (qwcAt ns 3)
-
-abbrev pub countsFrom : List ℕ → Counts
-countsFrom ns = counts (units (getD ns 0 0) (getD ns 1 0) (getD ns 2 0) (getD ns 3 0)) (qwcAt ns 4)
-
+-- the share in two numbers
 abbrev pub shareFrom : List ℕ → Share
 shareFrom ns = share (getD ns 0 0) (getD ns 1 0)
 

@@ -1,63 +1,19 @@
 // Totals over many runs.
 use super::results::put_two;
-use fields::Counts;
-use fields::Qwc;
 use totals::AddAnswer;
 use totals::Totals;
+use totals::counts_from;
+use totals::totals_from;
 ghost use mathlib.Core.Path.{_≡_};
-ghost use Prim.Native.Nat.{_+_, _≤_};
+ghost use Prim.Native.Nat.{_≤_};
 ghost use lib.ListN.{length};
 ghost use Rattle.totals.specs.Totals.{numbersOf, addNumber};
 ghost use Rattle.tejborun.specs.Buffers.{written, answered};
-ghost use Rattle.tejborun.specs.Totals.{qwcAt, totalsFrom, countsFrom, addCall, ShareCall};
+ghost use Rattle.tejborun.specs.Totals.{addCall, ShareCall};
 
 const TOTALS: usize = 11;
 
 const COUNTS: usize = 12;
-
-// The eight sums from a place on.
-fn qwc_at(numbers: &[u64], at: usize) -> Qwc
-    requires { ⌜ at + 8 ≤ length (now numbers) ⌝ }
-    ensures { λ r. ⌜ r ≡ qwcAt (now (numbers .entry)) at ⌝ }
-{
-    Qwc {
-        id0: numbers[at],
-        id1: numbers[at + 1],
-        id2: numbers[at + 2],
-        id3: numbers[at + 3],
-        id4: numbers[at + 4],
-        id5: numbers[at + 5],
-        id6: numbers[at + 6],
-        id7: numbers[at + 7],
-    }
-}
-
-fn totals_from(numbers: &[u64]) -> Totals
-    requires { ⌜ 11 ≤ length (now numbers) ⌝ }
-    ensures { λ r. ⌜ r ≡ totalsFrom (now (numbers .entry)) ⌝ }
-{
-    let qwc = qwc_at(numbers, 3);
-    Totals {
-        packets: numbers[0],
-        words: numbers[1],
-        nops: numbers[2],
-        qwc,
-    }
-}
-
-fn counts_from(numbers: &[u64]) -> Counts
-    requires { ⌜ 12 ≤ length (now numbers) ⌝ }
-    ensures { λ r. ⌜ r ≡ countsFrom (now (numbers .entry)) ⌝ }
-{
-    let qwc = qwc_at(numbers, 4);
-    Counts {
-        steps: numbers[0],
-        packets: numbers[1],
-        words: numbers[2],
-        nops: numbers[3],
-        qwc,
-    }
-}
 
 fn put_totals(numbers: &mut [u64], t: Totals)
     requires { ⌜ 11 ≤ length (now numbers) ⌝ }

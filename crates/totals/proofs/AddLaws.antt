@@ -10,7 +10,7 @@ use Rattle.fields.specs.declared.Counts.{Counts}
 use Rattle.fields.specs.Counts.{plusUnitsModulo, plusQwcModulo, plusModulo}
 use Rattle.fields.specs.Fields.{if}
 use Rattle.fields.specs.Refusals.{totalFull}
-use Rattle.fields.proofs.ChoiceLaws.{or-left, or-right}
+use Rattle.fields.proofs.ChoiceLaws.{if-ind, or-left, or-right}
 use Rattle.totals.specs.declared.AddAnswer.the-variants.{Added, Refused}
 use Rattle.totals.specs.declared.AddResult.{AddResult}
 use Rattle.totals.specs.declared.Totals.{Totals}
@@ -67,3 +67,11 @@ module _ (t : Totals) (c : Counts) where
       → {z : Totals} → z ≡ totalsIn y → addResult Added z ≡ addOf t c
   unfolding addOf if
   add-done e h ex ey ez = rw (sym e ∙ h, ez, ey, ex, sums-exact (sym e ∙ h))
+
+-- where the answer is not 54, the totals are the exact sums
+pub added-exact : (t : Totals) (c : Counts) → addOf t c .answer ≡ Added → addOf t c .totals ≡ added t c
+unfolding addOf
+added-exact t c =
+    if-ind (λ (x : AddResult). x .answer ≡ Added → x .totals ≡ added t c) (anyPasses (numbersOf (added t c)))
+    (λ e. absurd (let z : _≡_ {A = ℕ} 0 1 = cc in omega arith))
+    (λ e. refl)

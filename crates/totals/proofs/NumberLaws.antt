@@ -5,9 +5,11 @@ use Prim.Native.Nat.{ℕ, zero, suc, _+_}
 use native.Mathlib.Omega.{arith}
 use lib.ListN.{length, getD, drop, drop-of-length-le}
 use lib.Seq.{drop-cons}
+use Rattle.fields.specs.declared.Counts.{Counts}
+use Rattle.fields.specs.Counts.{countNumbers}
 use Rattle.totals.specs.declared.Totals.{Totals}
 use Rattle.totals.specs.Totals.{numbersOf}
-use Rattle.totals.specs.Numbers.{totalsFrom}
+use Rattle.totals.specs.Numbers.{totalsFrom, countsFrom}
 
 -- k numbers from a place on
 numbersAt : List ℕ → ℕ → ℕ → List ℕ
@@ -30,3 +32,7 @@ numbers-read ns h = numbers-rest ns 0 11 (omega arith)
 -- and the totals those of their numbers
 pub totals-read : (t : Totals) → totalsFrom (numbersOf t) ≡ t
 totals-read t = refl
+
+-- and so the counts that a run hands back
+pub counts-read : (c : Counts) → countsFrom (countNumbers c) ≡ c
+counts-read c = refl

@@ -1,6 +1,6 @@
 -- Totals and the counts of a run as numbers that stand one after another, 0 where there are too few.
 use Prim.Native.Nat.{ℕ, _+_}
-use mathlib.Core.List.{List, [], _∷_}
+use mathlib.Core.List.{List}
 use lib.ListN.{getD}
 use Rattle.fields.specs.declared.Qwc.{Qwc}
 use Rattle.fields.specs.declared.Counts.{Counts}
@@ -14,10 +14,10 @@ qwcAt ns at =
     qwcs (getD ns at 0) (getD ns (at + 1) 0) (getD ns (at + 2) 0) (getD ns (at + 3) 0)
     (getD ns (at + 4) 0) (getD ns (at + 5) 0) (getD ns (at + 6) 0) (getD ns (at + 7) 0)
 
--- eleven numbers: packets, VIF words, NOPs, QWC, as `numbersOf` has them
+-- eleven numbers, as `numbersOf` has them
 abbrev pub totalsFrom : List ℕ → Totals
 totalsFrom ns = totals (getD ns 0 0) (getD ns 1 0) (getD ns 2 0) (qwcAt ns 3)
 
--- twelve numbers: steps, packets, VIF words, NOPs, QWC
+-- twelve numbers, as `countNumbers` has them
 abbrev pub countsFrom : List ℕ → Counts
 countsFrom ns = counts (units (getD ns 0 0) (getD ns 1 0) (getD ns 2 0) (getD ns 3 0)) (qwcAt ns 4)

@@ -5,7 +5,7 @@ use mathlib.Core.List.{List, [], _∷_}
 use lib.Dec.{ltb}
 use Rattle.fields.specs.declared.Qwc.{Qwc}
 use Rattle.fields.specs.declared.Counts.{Counts}
-use Rattle.fields.specs.Counts.{units, noQwc, plusQwc, counts}
+use Rattle.fields.specs.Counts.{units, noQwc, plusQwc, qwcNumbers, counts}
 use Rattle.fields.specs.Fields.{if}
 use Rattle.fields.specs.Refusals.{totalFull}
 use Rattle.totals.specs.declared.Totals.{Totals}
@@ -20,11 +20,9 @@ totals packets words nops q = record { packets = packets; words = words; nops = 
 abbrev pub noTotals : Totals
 noTotals = totals 0 0 0 noQwc
 
--- the eleven sums
+-- the eleven sums: packets, VIF words, NOPs, and QWC by ID
 abbrev pub numbersOf : Totals → List ℕ
-numbersOf t =
-    t .packets ∷ t .words ∷ t .nops
-    ∷ t .qwc .id0 ∷ t .qwc .id1 ∷ t .qwc .id2 ∷ t .qwc .id3 ∷ t .qwc .id4 ∷ t .qwc .id5 ∷ t .qwc .id6 ∷ t .qwc .id7 ∷ []
+numbersOf t = t .packets ∷ t .words ∷ t .nops ∷ qwcNumbers (t .qwc)
 
 -- the exact sums with the counts of a run, of which the steps play no part
 abbrev pub added : Totals → Counts → Totals

@@ -1,5 +1,6 @@
 // Reads totals cases from standard input and writes what each addition leaves (docs/FORMATS.md, "Totals cases").
 use cases::tell_damaged;
+use fields::Counts;
 use fields::Qwc;
 use totals::AddAnswer;
 use totals::Totals;
@@ -9,9 +10,6 @@ use wire::emit;
 use wire::emit_long;
 use wire::joined;
 use wire::word_at;
-ghost use mathlib.Core.Path.{_≡_};
-ghost use Prim.Native.Nat.{_<_};
-ghost use lib.ListN.{length};
 
 // Where the results stand after a case, and whether the case was whole.
 struct Ended {
@@ -45,15 +43,29 @@ fn longs_in(bytes: &[u8; 96]) -> [u64; 12] {
     ]
 }
 
-fn put_longs(numbers: &mut [u64], longs: [u64; 12])
-{
+fn put_long(numbers: &mut [u64], at: usize, x: u64) {
+    if at < numbers.len() {
+        numbers[at] = x;
+    }
+}
+
+// Stores them as those of addition k.
+fn put_longs(numbers: &mut [u64], k: u32, longs: [u64; 12]) {
+    let at = 12 * k as usize;
     let mut i = 0;
     while i < 12 {
-        if i < numbers.len() {
-            numbers[i] = longs[i];
-        }
+        put_long(numbers, at + i, longs[i]);
         i += 1;
     }
+}
+
+// The counts of addition k.
+fn counts_at(numbers: &[u64], k: u32) -> Counts {
+    let at = 12 * k as usize;
+    if at <= numbers.len() {
+        return counts_from(&numbers[at..]);
+    }
+    fields::no_counts()
 }
 
 fn emit_qwc(out: &mut [u8; 65536], at: usize, q: Qwc) -> usize {
@@ -87,46 +99,29 @@ fn tell(out: &mut [u8; 65536], at: usize, answer: u32, t: Totals) -> usize {
 }
 
 // Reads the counts of a case's additions; answers whether they were all there.
-fn read_counts(numbers: &mut [u64; 786432], count: u32) -> bool {
-    let mut part = [0u8; 96];
-    let mut at: usize = 0;
-    let mut left = count;
-    while 0 < left {
-        if io::read_full(0, &mut part) < 96 {
+fn read_counts(numbers: &mut [u64], part: &mut [u8; 96], count: u32) -> bool {
+    let mut k = 0;
+    while k < count {
+        if io::read_full(0, part) < 96 {
             return false;
         }
-        if at <= 786420 {
-            let end = at + 12;
-            put_longs(&mut numbers[at..end], longs_in(&part));
-            at = end;
-        }
-        left = left - 1;
+        put_longs(numbers, k, longs_in(part));
+        k += 1;
     }
     true
 }
 
 // The additions of a case, each on what the one before left.
-fn add_all(
-    out: &mut [u8; 65536],
-    at: usize,
-    first: Totals,
-    numbers: &[u64; 786432],
-    count: u32,
-) -> usize {
+fn add_all(out: &mut [u8; 65536], at: usize, first: Totals, numbers: &[u64], count: u32) -> usize {
     let mut n = at;
     let mut sums = first;
-    let mut place: usize = 0;
-    let mut left = count;
-    while 0 < left {
-        if place <= 786420 {
-            let end = place + 12;
-            let r = totals::add_totals(sums, counts_from(&numbers[place..end]));
-            let answer = r.answer;
-            sums = r.totals;
-            n = tell(out, n, answer_number(answer), sums);
-            place = end;
-        }
-        left = left - 1;
+    let mut k = 0;
+    while k < count {
+        let r = totals::add_totals(sums, counts_at(numbers, k));
+        let answer = r.answer;
+        sums = r.totals;
+        n = tell(out, n, answer_number(answer), sums);
+        k += 1;
     }
     n
 }
@@ -136,7 +131,8 @@ fn run_case(
     out: &mut [u8; 65536],
     at: usize,
     header: &[u8; 96],
-    numbers: &mut [u64; 786432],
+    part: &mut [u8; 96],
+    numbers: &mut [u64],
 ) -> Ended {
     let count = word_at(header, 4);
     if word_at(header, 0) != 0x314F5454 {
@@ -145,7 +141,7 @@ fn run_case(
     if 65535 < count {
         return Ended { at, whole: false };
     }
-    if !read_counts(numbers, count) {
+    if !read_counts(numbers, part, count) {
         return Ended { at, whole: false };
     }
     let longs = longs_in(header);
@@ -170,14 +166,19 @@ fn read_header(out: &[u8; 65536], at: usize, number: u64, header: &mut [u8; 96])
     true
 }
 
-fn run_all(out: &mut [u8; 65536], header: &mut [u8; 96], numbers: &mut [u64; 786432]) {
+fn run_all(
+    out: &mut [u8; 65536],
+    header: &mut [u8; 96],
+    part: &mut [u8; 96],
+    numbers: &mut [u64; 786420],
+) {
     let mut at = 0;
     let mut number: u64 = 0;
     while number < 18446744073709551615 {
         if !read_header(out, at, number, header) {
             return;
         }
-        let done = run_case(out, at, header, numbers);
+        let done = run_case(out, at, header, part, numbers);
         at = done.at;
         if !done.whole {
             tell_damaged(out, at, number);
@@ -190,6 +191,7 @@ fn run_all(out: &mut [u8; 65536], header: &mut [u8; 96], numbers: &mut [u64; 786
 fn main() {
     let mut out = [0u8; 65536];
     let mut header = [0u8; 96];
-    let mut numbers = [0u64; 786432];
-    run_all(&mut out, &mut header, &mut numbers);
+    let mut part = [0u8; 96];
+    let mut numbers = [0u64; 786420];
+    run_all(&mut out, &mut header, &mut part, &mut numbers);
 }
