@@ -3,14 +3,16 @@ use mathlib.Core.Path.{_≡_, refl, sym, ap, _∙_}
 use mathlib.Core.Bool.{Bool, true, false, _&&_}
 use mathlib.Core.List.{List, [], _∷_, _++_}
 use Prim.Native.Nat.{ℕ, zero, suc, _+_, _*_}
+use native.Mathlib.Nat.{add-zero}
 use native.Mathlib.Omega.{arith}
 use borrow.Author.Tests.{eqb-true}
 use lib.Dec.{eqb}
+use Rattle.fields.specs.declared.Counts.{Counts}
 use Rattle.fields.specs.Counts.{none}
 use Rattle.fields.specs.Fields.{if}
 use Rattle.fields.proofs.ChoiceLaws.{if-ind}
 use Rattle.memories.specs.Lengths.{Lent}
-use Rattle.chain.specs.declared.Answer.the-variants.{Done, Allowance, Refused as AnswerRefused}
+use Rattle.chain.specs.declared.Answer.the-variants.{Done, Interrupt, Refused as AnswerRefused}
 use Rattle.chain.specs.declared.StartAnswer.the-variants.{Started}
 use Rattle.chain.specs.declared.StartResult.{StartResult}
 use Rattle.chain.specs.declared.StepAnswer.{StepAnswer}
@@ -20,27 +22,48 @@ use Rattle.chain.specs.Range.{stateInRange, startInRange, entryRefusal}
 use Rattle.chain.specs.Inner.{Ready}
 use Rattle.chain.specs.Start.{startOf}
 use Rattle.chain.specs.Step.{Stepped, stepOf}
-use Rattle.chain.specs.Run.{Ran, ran, done, afterStep, onStep, stepsOf, runOf}
+use Rattle.chain.specs.Run.{Ran, ran, done, counted, afterStep, onStep, stepsOf, runOf}
 use Rattle.chain.proofs.AfterLaws.{step-stays}
-use Rattle.history.specs.Trace.{Event, tracedBy, traced, eventOf, stepsTrace, traceOf, sumOf, qwcIn, payloadIn, qwcRead, payloadTaken}
+use Rattle.history.specs.Trace.{Event, tracedBy, traced, eventOf, stepsTrace, traceOf, sumOf, qwcIn, payloadIn, qwcWith, qwcRead, payloadTaken, qwcsIn, qwcsRead}
 use Rattle.history.specs.History.{History, begins, runs, payloadPending, Balanced}
-use Rattle.history.proofs.StepBalance.{step-balances}
+use Rattle.history.proofs.StepBalance.{Balances, step-balances}
 
 pub sum-append : (f : Event → ℕ) (es ds : List Event) → sumOf f (es ++ ds) ≡ sumOf f es + sumOf f ds
 unfolding sumOf
 sum-append f [] ds = omega arith
 sum-append f (e ∷ es) ds = let i = sum-append f es ds in omega arith
 
+-- QWC by ID, of one event
+qwcs-one : (e : Event) → qwcsRead (e ∷ []) ≡ qwcsIn e
+unfolding sumOf
+qwcs-one e =
+    rw
+    (add-zero (qwcWith 0 e), add-zero (qwcWith 1 e), add-zero (qwcWith 2 e), add-zero (qwcWith 3 e), add-zero (qwcWith 4 e), add-zero (qwcWith 5 e), add-zero (qwcWith 6 e), add-zero (qwcWith 7 e))
+
 -- ---- a run
 
--- what was pending and four times the QWC read are what was taken and what is pending after it
-record Kept (s : State) (es : List Event) (r : Ran) : Type 0 where
-  kept : payloadPending (s .payload) + 4 * qwcRead es ≡ payloadTaken es + payloadPending (r .after .state .payload)
+-- what was pending and four times the QWC read are what was taken and what is pending after it, and the run counts the QWC read by ID
+pub record Kept (s : State) (es : List Event) (r : Ran) : Type 0 where
+  pub kept : payloadPending (s .payload) + 4 * qwcRead es ≡ payloadTaken es + payloadPending (r .after .state .payload)
+  pub counts : r .counts .qwc ≡ qwcsRead es
 
 -- a run that took no step
-nothing-kept : {s : State} {r : Ran} → r .after .state ≡ s → Kept s [] r
+nothing-kept : {s : State} {r : Ran} → r .after .state ≡ s → r .counts ≡ none → Kept s [] r
 unfolding sumOf
-nothing-kept e = record { kept = rw e (omega arith) }
+nothing-kept e c = record { kept = rw e (omega arith); counts = ap (λ (x : Counts). x .qwc) c }
+
+-- one completed step of a run, and those after it
+module _ (s : State) {e : Event} {x : Stepped} (w : Balances e (payloadPending (s .payload)) x) {i : Bool} (q : x .answer ≡ Completed i) where
+  one-kept : Kept s (e ∷ []) (ran Interrupt (x .after .state) (x .counts) (x .after .memories))
+  unfolding sumOf
+  one-kept = record { kept = let b = w .balances i q in omega arith; counts = w .counts i q ∙ sym (qwcs-one e) }
+
+  more-kept : {es : List Event} {r : Ran} → Kept (x .after .state) es r → Kept s (e ∷ es) (counted (x .counts) r)
+  unfolding sumOf
+  more-kept k =
+      let b = w .balances i q in
+      let r = k .kept in
+      record { kept = omega arith; counts = rw (w .counts i q, k .counts) }
 
 module _ (main : List ℕ) where
   -- a step, and the run from there
@@ -48,32 +71,29 @@ module _ (main : List ℕ) where
       → ((t : State) (l : Lent) → Ready main t l → Kept t (stepsTrace main n t l) (stepsOf main n t l))
       → (a : StepAnswer) → stepOf main s m .answer ≡ a
       → Kept s (tracedBy (stepsTrace main n) a (eventOf main s m) (stepOf main s m)) (afterStep (stepsOf main n) a (stepOf main s m) s m)
-  unfolding sumOf
-  turn-kept n s m r f (Completed true) q = record { kept = let b = step-balances main s m r .balances true q in omega arith }
+  turn-kept n s m r f (Completed true) q = one-kept s (step-balances main s m r) q
   turn-kept n s m r f (Completed false) q =
       let x = stepOf main s m in
-      let b = step-balances main s m r .balances false q in
-      let i = f (x .after .state) (x .after .memories) (step-stays r x refl false q) .kept in
-      record { kept = omega arith }
-  turn-kept n s m r f (Refused k) q = nothing-kept refl
+      more-kept s (step-balances main s m r) q (f (x .after .state) (x .after .memories) (step-stays r x refl false q))
+  turn-kept n s m r f (Refused k) q = nothing-kept refl refl
 
   steps-kept : (n : ℕ) (s : State) (m : Lent) → Ready main s m → Kept s (stepsTrace main n s m) (stepsOf main n s m)
   unfolding stepsTrace stepsOf if
-  steps-kept zero s m r = if-ind (Kept s []) (done s) (nothing-kept refl) (nothing-kept refl)
+  steps-kept zero s m r = if-ind (Kept s []) (done s) (nothing-kept refl refl) (nothing-kept refl refl)
   steps-kept (suc n) s m r = done-or (done s) (turn-kept n s m r (steps-kept n) (stepOf main s m .answer) refl)
     where
       done-or : (b : Bool) {es : List Event} {o : Ran} → Kept s es o → Kept s (if b [] es) (if b (ran Done s none m) o)
-      done-or true k = nothing-kept refl
+      done-or true k = nothing-kept refl refl
       done-or false k = k
 
-  run-kept : (allowance : ℕ) (s : State) (m : Lent) → Kept s (traceOf main allowance s m) (runOf main allowance s m)
+  pub run-kept : (allowance : ℕ) (s : State) (m : Lent) → Kept s (traceOf main allowance s m) (runOf main allowance s m)
   unfolding traceOf runOf if
   run-kept allowance s m = go (eqb (entryRefusal main m s) 0) refl
     where
       go : (b : Bool) → eqb (entryRefusal main m s) 0 ≡ b
           → Kept s (if b (stepsTrace main allowance s m) []) (if b (stepsOf main allowance s m) (ran (AnswerRefused (entryRefusal main m s)) s none m))
       go true e = steps-kept allowance s m (record { passed = eqb-true (entryRefusal main m s) 0 e })
-      go false e = nothing-kept refl
+      go false e = nothing-kept refl refl
 
 -- ---- a history
 

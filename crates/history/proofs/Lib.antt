@@ -2,4 +2,5 @@
 pub mod QuadwordLaws
 pub mod StepBalance
 pub mod HistoryFact
+pub mod TotalsFact
 pub mod NotEmpty

@@ -3,9 +3,11 @@ use mathlib.Core.Path.{_≡_, refl}
 use mathlib.Core.Bool.{false}
 use mathlib.Core.List.{[], _∷_}
 use Rattle.fields.specs.Fields.{if, bits, quadword}
-use Rattle.fields.specs.Counts.{oneIf}
+use Rattle.fields.specs.Counts.{oneIf, qwcUnder}
 use Rattle.fields.specs.Memory.{wordAt, longAt}
-use Rattle.gif.specs.Log.{logRefused}
+use Rattle.gif.specs.Log.{logged, lacksRoom, logRefused}
+use Rattle.gif.specs.Tag.{formatOf, nregOf, quadwordsOf as gifQuadwordsOf, tagOf, placeAtTag, tagCloses, tagWrites}
+use Rattle.gif.specs.Step.{commit, tagStep, gifStep}
 use Rattle.memories.specs.Lengths.{lent, lengthsRefusal}
 use Rattle.vif.specs.Codes.{quadwordsOf, missingCode, plainCode, unpackNumbers, codeOf, decodeOf}
 use Rattle.vif.specs.Range.{registersInRange, waitingInRange, unitInRange}
@@ -15,22 +17,28 @@ use Rattle.chain.specs.Pending.{payloadAfter}
 use Rattle.chain.specs.Range.{unitOf, channelInRange, startInRange, stackInRange, tagsInRange, wordsInRange, payloadInRange, stateInRange, mainRefused, tagsInside, payloadInside, entryRefusal}
 use Rattle.chain.specs.Tags.{nextStack, usesAddr, payloadAt as placedAt, nextTadr, endsChain, tagWordsOf, payloadOf, tagRefusal, tagState, tagRead}
 use Rattle.chain.specs.Start.{resetState, startOf}
-use Rattle.chain.specs.Step.{vifGiven, payloadStep, stepOf}
+use Rattle.chain.specs.Step.{vifGiven, gifGiven, payloadStep, stepOf}
 use Rattle.chain.specs.Run.{done, stepsOf, runOf}
-use Rattle.history.specs.Trace.{Event, tag, payload, payloadAt, eventOf, stepsTrace, traceOf, sumOf, qwcRead, payloadTaken}
+use Rattle.totals.specs.Totals.{passes, anyPasses, numbersOf, addOf}
+use Rattle.history.specs.Trace.{tag, payload, payloadAt, eventOf, stepsTrace, traceOf}
 use Rattle.history.specs.History.{History, begins, runs, payloadPending}
-use Rattle.history.specs.Example.{bytes, blank, first, second, third, taken}
+use Rattle.history.specs.Totalled.{Totalled, begins as begins-total, runs as runs-total}
+use Rattle.history.specs.Example.{bytes, blank, first, second, third, taken, totalsAfter, gifBytes, gifRun}
 
 vifOpen : Unit {0}
 unfolding quadwordsOf missingCode plainCode unpackNumbers codeOf decodeOf registersInRange waitingInRange unitInRange codeStep vifStep incomingAt
 vifOpen = tt
 
 chainOpen : Unit {0}
-unfolding oneIf wordAt longAt logRefused payloadAfter unitOf channelInRange startInRange stackInRange tagsInRange wordsInRange payloadInRange stateInRange mainRefused tagsInside payloadInside lengthsRefusal entryRefusal usesAddr placedAt nextTadr nextStack endsChain tagWordsOf payloadOf tagRefusal tagState tagRead resetState startOf vifGiven payloadStep stepOf done stepsOf runOf
+unfolding oneIf qwcUnder wordAt longAt logRefused payloadAfter unitOf channelInRange startInRange stackInRange tagsInRange wordsInRange payloadInRange stateInRange mainRefused tagsInside payloadInside lengthsRefusal entryRefusal usesAddr placedAt nextTadr nextStack endsChain tagWordsOf payloadOf tagRefusal tagState tagRead resetState startOf vifGiven gifGiven payloadStep stepOf done stepsOf runOf
 chainOpen = tt
 
+gifOpen : Unit {0}
+unfolding logged lacksRoom formatOf nregOf gifQuadwordsOf tagOf placeAtTag tagCloses tagWrites commit tagStep gifStep
+gifOpen = tt
+
 opened : Unit {0}
-unfolding vifOpen chainOpen if bits quadword payloadAt eventOf stepsTrace traceOf first second third
+unfolding vifOpen chainOpen gifOpen passes anyPasses if bits quadword payloadAt eventOf stepsTrace traceOf first second third
 opened = tt
 
 begun : History bytes [] (startOf resetState 1 0 false .state)
@@ -58,3 +66,18 @@ pending = refl
 
 pub not-empty : History bytes (tag 0x1000_0001 ∷ payload 1 ∷ payload 1 ∷ []) (third .after .state)
 not-empty = rw (← events) several-runs
+
+-- and with totals: one QWC under ID 1, two VIF words, both NOPs
+pub not-empty-totals : Totalled bytes taken totalsAfter (third .after .state)
+unfolding opened totalsAfter addOf
+not-empty-totals =
+    runs-total (lent [] [] []) 9 (runs-total (first .after .memories) 9 (runs-total blank 2 (begins-total resetState 1 0 false refl) refl) refl) refl
+
+pub totals-are : numbersOf totalsAfter ≡ 0 ∷ 2 ∷ 2 ∷ 0 ∷ 1 ∷ 0 ∷ 0 ∷ 0 ∷ 0 ∷ 0 ∷ 0 ∷ []
+unfolding opened totalsAfter addOf
+totals-are = refl
+
+-- on channel 2, of two quadwords one is taken, which counts four words, and four are pending
+pub gif-events : (traceOf gifBytes 2 (startOf resetState 2 0 false .state) blank ≡ tag 0x1000_0002 ∷ payload 4 ∷ []) × (payloadPending (gifRun .after .state .payload) ≡ 4)
+unfolding opened gifRun
+gif-events = (refl, refl)

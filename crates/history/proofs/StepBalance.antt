@@ -7,6 +7,8 @@ use native.Mathlib.Omega.{arith}
 use borrow.Author.Tests.{leb-true, leb-false, eqb-true, eqb-false}
 use lib.ListN.{length}
 use lib.Dec.{eqb, leb}
+use Rattle.fields.specs.declared.UnitCounts.{UnitCounts}
+use Rattle.fields.specs.Counts.{qwcUnder}
 use Rattle.fields.specs.Fields.{if}
 use Rattle.fields.specs.Memory.{longAt, quadwordAt}
 use Rattle.fields.proofs.ChoiceLaws.{if-ind-by}
@@ -17,7 +19,7 @@ use Rattle.gif.specs.Step.{Left as GifLeft, gifStep}
 use Rattle.memories.specs.Lengths.{Lent}
 use Rattle.vif.specs.declared.VifAnswer.{VifAnswer}
 use Rattle.vif.specs.declared.VifAnswer.the-variants.{Word, Quadword, Refused as VifRefused}
-use Rattle.vif.specs.Step.{Left as VifLeft, wordsTaken}
+use Rattle.vif.specs.Step.{Left as VifLeft, wordsTaken, countsIn}
 use Rattle.vif.specs.Words.{incomingAt}
 use Rattle.chain.specs.declared.TagWords.{TagWords}
 use Rattle.chain.specs.declared.TagWords.the-variants.{Nothing as NoTagWords, From}
@@ -32,16 +34,17 @@ use Rattle.chain.specs.Inner.{Ready, PayloadInside}
 use Rattle.chain.specs.Step.{Stepped, refusedStep, steppedBy, fedUnit, heldBy, afterVif, vifTook, vifGiven, afterGif, gifGiven, payloadStep, payloadOrTag, pendingOrTag, stepOf}
 use Rattle.chain.proofs.ReadyLaws.{payload-ready}
 use Rattle.chain.proofs.AfterLaws.{no-completed}
-use Rattle.history.specs.Trace.{Event, tag, payload, tagWord, tagAt, payloadAt, payloadOrTagAt, pendingOrTagAt, eventOf, qwcIn, payloadIn}
+use Rattle.history.specs.Trace.{Event, tag, payload, tagWord, tagAt, payloadAt, payloadOrTagAt, pendingOrTagAt, eventOf, qwcIn, payloadIn, qwcsIn}
 use Rattle.history.specs.History.{payloadPending}
 use Rattle.history.proofs.QuadwordLaws.{isQuadword, quadword-begins}
 
--- an event, what is pending before the step, and the step
+-- an event, what is pending before the step, and the step, which counts the event's QWC by ID
 pub record Balances (e : Event) (n : ℕ) (x : Stepped) : Type 0 where
   pub balances : (i : Bool) → x .answer ≡ Completed i → n + 4 * qwcIn e ≡ payloadIn e + payloadPending (x .after .state .payload)
+  pub counts : (i : Bool) → x .answer ≡ Completed i → x .counts .qwc ≡ qwcsIn e
 
 refused-balances : (e : Event) (n k : ℕ) (s : State) (m : Lent) → Balances e n (refusedStep k s m)
-refused-balances e n k s m = record { balances = λ i q. absurd (no-completed q) }
+refused-balances e n k s m = record { balances = λ i q. absurd (no-completed q); counts = λ i q. absurd (no-completed q) }
 
 -- ---- what is pending
 
@@ -61,11 +64,11 @@ pending-after at n k h =
 module _ (main : List ℕ) (s : State) (m : Lent) where
   -- a tag where nothing is pending
   tag-balances : Balances (tagAt main s) 0 (steppedBy (tagStep main s) m)
-  unfolding tagRead tagState
+  unfolding tagRead tagState qwcUnder
   tag-balances =
       if-ind-by (λ (x : StepResult). Balances (tagAt main s) 0 (steppedBy x m))
       (eqb (tagRefusal (length main) (s .tadr) (idOf (longAt main (s .tadr))) (addrOf (longAt main (s .tadr))) (sprOf (longAt main (s .tadr))) (qwcOf (longAt main (s .tadr))) (s .stack)) 0)
-      (λ e. record { balances = λ i q. ap (λ (k : ℕ). 0 + k) (sym (pending-of (placedAt (idOf (longAt main (s .tadr))) (addrOf (longAt main (s .tadr))) (s .tadr)) (qwcOf (longAt main (s .tadr))))) })
+      (λ e. record { balances = λ i q. ap (λ (k : ℕ). 0 + k) (sym (pending-of (placedAt (idOf (longAt main (s .tadr))) (addrOf (longAt main (s .tadr))) (s .tadr)) (qwcOf (longAt main (s .tadr))))); counts = λ i q. refl })
       (λ e. refused-balances _ 0 _ s m)
 
   -- a tag word leaves the payload
@@ -73,9 +76,12 @@ module _ (main : List ℕ) (s : State) (m : Lent) where
   unfolding vifGiven
   word-balances a t = go (vifTook (fedUnit s) main a s m .answer)
     where
-      go : (b : VifAnswer) → Balances tagWord (payloadPending (s .payload)) (afterVif (fedUnit s) b (vifTook (fedUnit s) main a s m) t (λ k. s .payload) s m)
-      go (Word i) = record { balances = λ j q. omega arith }
-      go (Quadword i c) = record { balances = λ j q. omega arith }
+      c : UnitCounts
+      c = countsIn (heldBy (fedUnit s) s .waiting) (incomingAt main a) (vifTook (fedUnit s) main a s m .answer)
+
+      go : (b : VifAnswer) → Balances tagWord (payloadPending (s .payload)) (afterVif (fedUnit s) b c (vifTook (fedUnit s) main a s m) t (λ k. s .payload) s m)
+      go (Word i) = record { balances = λ j q. omega arith; counts = λ j q. refl }
+      go (Quadword i closed) = record { balances = λ j q. omega arith; counts = λ j q. refl }
       go (VifRefused n) = refused-balances _ _ n s m
 
   -- a word or a quadword of payload
@@ -86,14 +92,17 @@ module _ (main : List ℕ) (s : State) (m : Lent) where
       o : VifLeft
       o = vifTook (fedUnit s) main at s m
 
-      go : (b : VifAnswer) → b ≡ o .answer → Balances (payload (wordsTaken b)) n (afterVif (fedUnit s) b o (s .tags) (payloadAfter at n) s m)
-      go (Word i) e = record { balances = λ j q. let l = p .some in let w = pending-after at n 1 (omega arith) in omega arith }
-      go (Quadword i c) e =
+      c : UnitCounts
+      c = countsIn (heldBy (fedUnit s) s .waiting) (incomingAt main at) (o .answer)
+
+      go : (b : VifAnswer) → b ≡ o .answer → Balances (payload (wordsTaken b)) n (afterVif (fedUnit s) b c o (s .tags) (payloadAfter at n) s m)
+      go (Word i) e = record { balances = λ j q. let l = p .some in let w = pending-after at n 1 (omega arith) in omega arith; counts = λ j q. refl }
+      go (Quadword i closed) e =
           let b = quadword-begins (fedUnit s) (heldBy (fedUnit s) s) (s .path2) (s .used) m main at (ap isQuadword (sym e)) in
           let l = p .some in
           let w = p .whole in
           let four = pending-after at n 4 (omega arith) in
-          record { balances = λ j q. omega arith }
+          record { balances = λ j q. omega arith; counts = λ j q. refl }
       go (VifRefused k) e = refused-balances _ n k s m
 
   -- a quadword on channel 2
@@ -110,7 +119,7 @@ module _ (main : List ℕ) (s : State) (m : Lent) where
           let w = p .whole in
           let b = p .quadwords c in
           let four = pending-after at n 4 (omega arith) in
-          record { balances = λ j q. omega arith }
+          record { balances = λ j q. omega arith; counts = λ j q. refl }
       go (GifRefused k) = refused-balances _ n k s m
 
   payload-balances : (at n : ℕ) → PayloadInside main s at n → Balances (payloadAt main at s m) n (payloadStep main at n s m)

@@ -4,6 +4,8 @@ use Prim.Native.Nat.{ℕ, zero, suc, _+_}
 use mathlib.Core.Bool.{true, false}
 use mathlib.Core.List.{List, [], _∷_}
 use lib.Dec.{eqb}
+use Rattle.fields.specs.declared.Qwc.{Qwc}
+use Rattle.fields.specs.Counts.{qwcs}
 use Rattle.fields.specs.Fields.{if}
 use Rattle.fields.specs.Memory.{longAt}
 use Rattle.memories.specs.Lengths.{Lent}
@@ -102,6 +104,12 @@ qwcRead es = sumOf qwcIn es
 abbrev pub payloadTaken : List Event → ℕ
 payloadTaken es = sumOf payloadIn es
 
--- "QWC by tag ID"
-abbrev pub qwcReadWith : ℕ → List Event → ℕ
-qwcReadWith id es = sumOf (qwcWith id) es
+-- "QWC by tag ID": by a number for each ID
+abbrev pub byId : (ℕ → ℕ) → Qwc
+byId f = qwcs (f 0) (f 1) (f 2) (f 3) (f 4) (f 5) (f 6) (f 7)
+
+abbrev pub qwcsIn : Event → Qwc
+qwcsIn e = byId (λ id. qwcWith id e)
+
+abbrev pub qwcsRead : List Event → Qwc
+qwcsRead es = byId (λ id. sumOf (qwcWith id) es)
