@@ -3,3 +3,4 @@ pub mod AddLaws
 pub mod NumberLaws
 pub mod DivisorLaws
 pub mod ShareLaws
+pub mod Examples
