@@ -6,6 +6,7 @@ use Prim.Native.Nat.{ℕ, zero, suc, _+_, _*_}
 use native.Mathlib.Nat.{add-zero}
 use native.Mathlib.Omega.{arith}
 use borrow.Author.Tests.{eqb-true}
+use lib.ListN.{length}
 use lib.Dec.{eqb}
 use Rattle.fields.specs.declared.Counts.{Counts}
 use Rattle.fields.specs.Counts.{none}
@@ -20,12 +21,13 @@ use Rattle.chain.specs.declared.StepAnswer.the-variants.{Completed, Refused}
 use Rattle.chain.specs.declared.State.{State}
 use Rattle.chain.specs.Range.{stateInRange, startInRange, entryRefusal}
 use Rattle.chain.specs.Inner.{Ready}
+use Rattle.chain.specs.Pending.{payloadPending}
 use Rattle.chain.specs.Start.{startOf}
 use Rattle.chain.specs.Step.{Stepped, stepOf}
 use Rattle.chain.specs.Run.{Ran, ran, done, counted, afterStep, onStep, stepsOf, runOf}
-use Rattle.chain.proofs.AfterLaws.{step-stays}
+use Rattle.chain.proofs.AfterLaws.{step-stays, step-one}
 use Rattle.history.specs.Trace.{Event, tracedBy, traced, eventOf, stepsTrace, traceOf, sumOf, qwcIn, payloadIn, qwcWith, qwcRead, payloadTaken, qwcsIn, qwcsRead}
-use Rattle.history.specs.History.{History, begins, runs, payloadPending, Balanced}
+use Rattle.history.specs.History.{History, begins, runs, Balanced}
 use Rattle.history.proofs.StepBalance.{Balances, step-balances}
 
 pub sum-append : (f : Event → ℕ) (es ds : List Event) → sumOf f (es ++ ds) ≡ sumOf f es + sumOf f ds
@@ -42,28 +44,32 @@ qwcs-one e =
 
 -- ---- a run
 
--- what was pending and four times the QWC read are what was taken and what is pending after it, and the run counts the QWC read by ID
+-- what was pending and four times the QWC read are what was taken and what is pending after it. There is an event for each step counted, and the run counts the QWC
+-- read by ID
 pub record Kept (s : State) (es : List Event) (r : Ran) : Type 0 where
+  pub steps : length es ≡ r .counts .steps
   pub kept : payloadPending (s .payload) + 4 * qwcRead es ≡ payloadTaken es + payloadPending (r .after .state .payload)
   pub counts : r .counts .qwc ≡ qwcsRead es
 
 -- a run that took no step
 nothing-kept : {s : State} {r : Ran} → r .after .state ≡ s → r .counts ≡ none → Kept s [] r
 unfolding sumOf
-nothing-kept e c = record { kept = rw e (omega arith); counts = ap (λ (x : Counts). x .qwc) c }
+nothing-kept e c = record { steps = ap (λ (x : Counts). x .steps) (sym c); kept = rw e (omega arith); counts = ap (λ (x : Counts). x .qwc) c }
 
 -- one completed step of a run, and those after it
-module _ (s : State) {e : Event} {x : Stepped} (w : Balances e (payloadPending (s .payload)) x) {i : Bool} (q : x .answer ≡ Completed i) where
+module _ (s : State) {e : Event} {x : Stepped} (w : Balances e (payloadPending (s .payload)) x) {i : Bool} (q : x .answer ≡ Completed i)
+    (one : x .counts .steps ≡ 1) where
   one-kept : Kept s (e ∷ []) (ran Interrupt (x .after .state) (x .counts) (x .after .memories))
   unfolding sumOf
-  one-kept = record { kept = let b = w .balances i q in omega arith; counts = w .counts i q ∙ sym (qwcs-one e) }
+  one-kept = record { steps = sym one; kept = let b = w .balances i q in omega arith; counts = w .counts i q ∙ sym (qwcs-one e) }
 
   more-kept : {es : List Event} {r : Ran} → Kept (x .after .state) es r → Kept s (e ∷ es) (counted (x .counts) r)
   unfolding sumOf
   more-kept k =
       let b = w .balances i q in
       let r = k .kept in
-      record { kept = omega arith; counts = rw (w .counts i q, k .counts) }
+      let n = k .steps in
+      record { steps = omega arith; kept = omega arith; counts = rw (w .counts i q, k .counts) }
 
 module _ (main : List ℕ) where
   -- a step, and the run from there
@@ -71,10 +77,10 @@ module _ (main : List ℕ) where
       → ((t : State) (l : Lent) → Ready main t l → Kept t (stepsTrace main n t l) (stepsOf main n t l))
       → (a : StepAnswer) → stepOf main s m .answer ≡ a
       → Kept s (tracedBy (stepsTrace main n) a (eventOf main s m) (stepOf main s m)) (afterStep (stepsOf main n) a (stepOf main s m) s m)
-  turn-kept n s m r f (Completed true) q = one-kept s (step-balances main s m r) q
+  turn-kept n s m r f (Completed true) q = one-kept s (step-balances main s m r) q (step-one main s m (stepOf main s m) refl true q)
   turn-kept n s m r f (Completed false) q =
       let x = stepOf main s m in
-      more-kept s (step-balances main s m r) q (f (x .after .state) (x .after .memories) (step-stays r x refl false q))
+      more-kept s (step-balances main s m r) q (step-one main s m x refl false q) (f (x .after .state) (x .after .memories) (step-stays r x refl false q))
   turn-kept n s m r f (Refused k) q = nothing-kept refl refl
 
   steps-kept : (n : ℕ) (s : State) (m : Lent) → Ready main s m → Kept s (stepsTrace main n s m) (stepsOf main n s m)

@@ -13,7 +13,7 @@ use Rattle.vif.specs.Codes.{quadwordsOf, missingCode, plainCode, unpackNumbers,
 use Rattle.vif.specs.Range.{registersInRange, waitingInRange, unitInRange}
 use Rattle.vif.specs.Step.{codeStep, vifStep}
 use Rattle.vif.specs.Words.{incomingAt}
-use Rattle.chain.specs.Pending.{payloadAfter}
+use Rattle.chain.specs.Pending.{payloadPending, payloadAfter}
 use Rattle.chain.specs.Range.{unitOf, channelInRange, startInRange, stackInRange, tagsInRange, wordsInRange, payloadInRange, stateInRange, mainRefused, tagsInside, payloadInside, entryRefusal}
 use Rattle.chain.specs.Tags.{nextStack, usesAddr, payloadAt as placedAt, nextTadr, endsChain, tagWordsOf, payloadOf, tagRefusal, tagState, tagRead}
 use Rattle.chain.specs.Start.{resetState, startOf}
@@ -21,7 +21,7 @@ use Rattle.chain.specs.Step.{vifGiven, gifGiven, payloadStep, stepOf}
 use Rattle.chain.specs.Run.{done, stepsOf, runOf}
 use Rattle.totals.specs.Totals.{passes, anyPasses, numbersOf, addOf}
 use Rattle.history.specs.Trace.{tag, payload, payloadAt, eventOf, stepsTrace, traceOf}
-use Rattle.history.specs.History.{History, begins, runs, payloadPending}
+use Rattle.history.specs.History.{History, begins, runs}
 use Rattle.history.specs.Totalled.{Totalled, begins as begins-total, runs as runs-total}
 use Rattle.history.specs.Example.{bytes, blank, first, second, third, taken, totalsAfter, gifBytes, gifRun}
 

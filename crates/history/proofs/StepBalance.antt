@@ -28,14 +28,13 @@ use Rattle.chain.specs.declared.Payload.the-variants.{Nothing as NoPayload, Wor
 use Rattle.chain.specs.declared.StepAnswer.the-variants.{Completed}
 use Rattle.chain.specs.declared.StepResult.{StepResult}
 use Rattle.chain.specs.declared.State.{State}
-use Rattle.chain.specs.Pending.{tagsAfter, payloadAfter}
+use Rattle.chain.specs.Pending.{payloadPending, tagsAfter, payloadAfter}
 use Rattle.chain.specs.Tags.{qwcOf, idOf, addrOf, sprOf, payloadAt as placedAt, payloadOf, tagRefusal, tagState, tagRead, tagStep}
 use Rattle.chain.specs.Inner.{Ready, PayloadInside}
 use Rattle.chain.specs.Step.{Stepped, refusedStep, steppedBy, fedUnit, heldBy, afterVif, vifTook, vifGiven, afterGif, gifGiven, payloadStep, payloadOrTag, pendingOrTag, stepOf}
 use Rattle.chain.proofs.ReadyLaws.{payload-ready}
 use Rattle.chain.proofs.AfterLaws.{no-completed}
 use Rattle.history.specs.Trace.{Event, tag, payload, tagWord, tagAt, payloadAt, payloadOrTagAt, pendingOrTagAt, eventOf, qwcIn, payloadIn, qwcsIn}
-use Rattle.history.specs.History.{payloadPending}
 use Rattle.history.proofs.QuadwordLaws.{isQuadword, quadword-begins}
 
 -- an event, what is pending before the step, and the step, which counts the event's QWC by ID

@@ -4,10 +4,9 @@ use mathlib.Core.Bool.{Bool}
 use mathlib.Core.List.{List, [], _++_}
 use mathlib.Core.Path.{_≡_}
 use Rattle.memories.specs.Lengths.{Lent}
-use Rattle.chain.specs.declared.Payload.{Payload}
-use Rattle.chain.specs.declared.Payload.the-variants.{Nothing as NoPayload, Words}
 use Rattle.chain.specs.declared.StartAnswer.the-variants.{Started}
 use Rattle.chain.specs.declared.State.{State}
+use Rattle.chain.specs.Pending.{payloadPending}
 use Rattle.chain.specs.Start.{startOf}
 use Rattle.chain.specs.Run.{runOf}
 use Rattle.history.specs.Trace.{Event, traceOf, qwcRead, payloadTaken}
@@ -19,11 +18,6 @@ pub data History (main : List ℕ) : List Event → State → Type 0 where
   -- then a run with any allowance, whatever its answer. The memories lent to it are any at all, those that the last run left among them
   runs : {es : List Event} {s : State} (m : Lent) (allowance : ℕ) → History main es s
       → History main (es ++ traceOf main allowance s m) (runOf main allowance s m .after .state)
-
--- "the payload words pending"
-abbrev pub payloadPending : Payload → ℕ
-payloadPending NoPayload = 0
-payloadPending (Words at n) = n
 
 -- "four times the sum of QWC of the tags read since then equals the payload words taken plus the payload words pending"
 pub record Balanced (es : List Event) (s : State) : Type 0 where

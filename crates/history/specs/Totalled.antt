@@ -7,13 +7,13 @@ use Rattle.fields.specs.Counts.{totalQwc}
 use Rattle.memories.specs.Lengths.{Lent}
 use Rattle.chain.specs.declared.StartAnswer.the-variants.{Started}
 use Rattle.chain.specs.declared.State.{State}
+use Rattle.chain.specs.Pending.{payloadPending}
 use Rattle.chain.specs.Start.{startOf}
 use Rattle.chain.specs.Run.{runOf}
 use Rattle.totals.specs.declared.AddAnswer.the-variants.{Added}
 use Rattle.totals.specs.declared.Totals.{Totals}
 use Rattle.totals.specs.Totals.{noTotals, addOf}
 use Rattle.history.specs.Trace.{Event, traceOf, payloadTaken, qwcsRead}
-use Rattle.history.specs.History.{payloadPending}
 
 -- a history as `History` has it, with the totals, where no addition was refused with 54
 pub data Totalled (main : List ℕ) : List Event → Totals → State → Type 0 where
