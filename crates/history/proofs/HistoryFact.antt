@@ -18,13 +18,14 @@ use Rattle.chain.specs.declared.StartAnswer.the-variants.{Started}
 use Rattle.chain.specs.declared.StartResult.{StartResult}
 use Rattle.chain.specs.declared.StepAnswer.{StepAnswer}
 use Rattle.chain.specs.declared.StepAnswer.the-variants.{Completed, Refused}
+use Rattle.chain.specs.declared.RunResult.{RunResult}
 use Rattle.chain.specs.declared.State.{State}
 use Rattle.chain.specs.Range.{stateInRange, startInRange, entryRefusal}
 use Rattle.chain.specs.Inner.{Ready}
 use Rattle.chain.specs.Pending.{payloadPending}
 use Rattle.chain.specs.Start.{startOf}
 use Rattle.chain.specs.Step.{Stepped, stepOf}
-use Rattle.chain.specs.Run.{Ran, ran, done, counted, afterStep, onStep, stepsOf, runOf}
+use Rattle.chain.specs.Run.{Ran, ran, leftBy, done, counted, afterStep, onStep, stepsOf, runOf}
 use Rattle.chain.proofs.AfterLaws.{step-stays, step-one}
 use Rattle.history.specs.Trace.{Event, tracedBy, traced, eventOf, stepsTrace, traceOf, sumOf, qwcIn, payloadIn, qwcWith, qwcRead, payloadTaken, qwcsIn, qwcsRead}
 use Rattle.history.specs.History.{History, begins, runs, Balanced}
@@ -121,3 +122,10 @@ history-fact {main} (runs {es} {s} m allowance h) =
     let q = sum-append qwcIn es (traceOf main allowance s m) in
     let p = sum-append payloadIn es (traceOf main allowance s m) in
     record { balance = omega arith }
+
+-- a call of `chain::run`, by its promise, goes on with a history
+pub call-goes-on : {main : List ℕ} {es : List Event} {s : State} → History main es s → (m : Lent) (allowance : ℕ) {r : RunResult} {m₁ : Lent}
+    → leftBy r m₁ ≡ runOf main allowance s m → History main (es ++ traceOf main allowance s m) (r .state)
+call-goes-on {main} {es} {s} h m allowance e =
+    let q = ap (λ (x : Ran). x .after .state) e in
+    rw q (runs m allowance h)
