@@ -4,11 +4,13 @@ use crate::capture_counts::Counts;
 use crate::chain::{self, Memories, State, Step, Stop};
 use crate::compare;
 use crate::filled::{self, UnitMemories};
+use crate::history::{self, History, Trace};
 use crate::memory::cases::{
     MOST_CODE, MOST_DATA, MOST_LOG, MOST_MAIN, MOST_VIF0_CODE, MOST_VIF0_DATA,
 };
 use crate::model::Model;
 use crate::refusals;
+use crate::run_counts::{self, RunCounts};
 use crate::set;
 use crate::state_block::{
     self, bit, chain_word, describe_state, read_state, write_state, StateBlock, STATE_WORDS,
@@ -27,7 +29,7 @@ pub const HEADER: usize = STATE_AT + STATE_WORDS;
 /// The words of a call.
 const CALL: usize = 4;
 /// The words of a run's result before the state block.
-const RUN_HEAD: usize = 5;
+const RUN_HEAD: usize = 1 + COUNTS_WORDS;
 /// The words of a why's result.
 pub const WHY_WORDS: usize = 7;
 
@@ -289,16 +291,24 @@ pub struct Results {
     pub starts: Vec<Start>,
     /// Where the line about a damaged case starts.
     pub damage: Option<usize>,
-    /// The first why that says other than a step on a copy does: its case, its call and what.
+    /// The first why that says other than a step on a copy does, or the first run whose counts are
+    /// not those of its steps or after which the fact beneath the totals fails: its case, its call and
+    /// what.
     pub broken: Option<(usize, usize, String)>,
 }
 
 impl Results {
     /// Keeps what is broken of the last call, a why, where nothing was before.
     fn check_why(&mut self, standing: &Standing, why: &Why) {
-        if let (None, Some(last)) = (&self.broken, self.starts.last()) {
-            let broken = why_check::broken(standing, why);
-            self.broken = broken.map(|told| (last.case, last.call, told));
+        if self.broken.is_none() {
+            self.keep(why_check::broken(standing, why));
+        }
+    }
+
+    /// Keeps what is broken of the last call, where nothing was before.
+    fn keep(&mut self, broken: Option<String>) {
+        if let (None, Some(last), Some(told)) = (&self.broken, self.starts.last(), broken) {
+            self.broken = Some((last.case, last.call, told));
         }
     }
 }
@@ -430,6 +440,9 @@ impl Shown {
 fn run_case(case: &Case, index: usize, results: &mut Results, counts: &mut Counts) {
     let mut standing = Standing::new(case);
     let mut shown = Shown::new(&standing);
+    let main = standing.main.clone();
+    // The runs since the last start that was accepted.
+    let mut history: Option<History> = None;
     counts.note_case(case);
     for (i, call) in case.calls.iter().enumerate() {
         results.starts.push(Start {
@@ -442,6 +455,9 @@ fn run_case(case: &Case, index: usize, results: &mut Results, counts: &mut Count
             Call::Start { channel, tadr, tte } => {
                 let before = standing.block();
                 let answer = standing.start(channel, tadr, tte);
+                if answer == 0 {
+                    history = Some(History::default());
+                }
                 counts.note_start(&before, (channel, tadr, tte), answer, &standing);
                 put_word(out, answer);
                 put_block(out, &standing);
@@ -467,23 +483,45 @@ fn run_case(case: &Case, index: usize, results: &mut Results, counts: &mut Count
                 let before = standing.block();
                 counts.begin_run(&standing);
                 let log_length = standing.log.len();
-                let watch = |old: &State, new: &State, tried| {
+                let mut trace = Trace::default();
+                let watch = |old: &State, new: &State, tried: Result<Step, u32>| {
+                    if let Ok(step) = tried {
+                        trace.add(old, &main, step.closed());
+                    }
                     counts.note_step(old, new, tried, log_length);
                 };
                 let stop = standing.run(allowance, watch);
                 counts.note_run(&before, allowance, &stop, &standing);
+                let mut wrong = history::wrong_counts(&trace, &stop);
+                if let Some(history) = &mut history {
+                    let last = history.last;
+                    wrong = history.add(&trace, &stop, &standing).or(wrong);
+                    counts.note_history(history, last, &stop, &standing);
+                }
                 put_word(out, stop.answer);
-                put_number(out, stop.steps);
-                put_number(out, stop.packets);
+                put_counts(out, &stop.counts);
                 put_block(out, &standing);
                 if case.whole {
                     write_memories(out, &standing);
                 } else {
                     shown.write_changes(out, &standing);
                 }
+                results.keep(wrong);
             }
         }
     }
+}
+
+/// The words of a run's counts.
+pub const COUNTS_WORDS: usize = 2 * run_counts::NUMBERS;
+
+pub fn put_counts(out: &mut Vec<u8>, counts: &RunCounts) {
+    counts.numbers().iter().for_each(|&n| put_number(out, n));
+}
+
+/// The counts that start at a word.
+pub fn read_counts(bytes: &[u8], at: usize) -> RunCounts {
+    RunCounts::of_numbers(std::array::from_fn(|i| number(bytes, at + 2 * i)))
 }
 
 fn put_why(out: &mut Vec<u8>, why: &Why) {
@@ -549,8 +587,8 @@ pub fn describe_result(bytes: &[u8], call: &Call, case: &Case) -> String {
     }
     let mut text = format!("answer {}", word(bytes, 0));
     if head == RUN_HEAD {
-        let (steps, packets) = (number(bytes, 1), number(bytes, 3));
-        text.push_str(&format!(", {steps} steps, {packets} packets closed"));
+        let counts = read_counts(bytes, 1);
+        text.push_str(&format!(", {}", run_counts::describe(&counts)));
     }
     let block = std::array::from_fn(|i| word(bytes, head + i));
     text.push_str(&format!("\n    {}", describe_state(&block)));
@@ -612,8 +650,7 @@ pub fn describe_case(case: &Case, last: usize) -> String {
                     }
                 };
                 let stop = standing.run(allowance, watch);
-                let (steps, packets) = (stop.steps, stop.packets);
-                format!("{}, {steps} steps, {packets} packets closed", stop.answer)
+                format!("{}, {}", stop.answer, run_counts::describe(&stop.counts))
             }
         };
         if i + 12 > last {
@@ -662,7 +699,7 @@ mod tests {
                 }
                 Call::Run { allowance } => {
                     let stop = standing.run(allowance, |_, _, _| {});
-                    runs.push((stop.answer, stop.steps, stop.packets));
+                    runs.push((stop.answer, stop.counts.steps, stop.counts.packets));
                 }
                 Call::Set { .. } | Call::Why { .. } => panic!("another call among the turns"),
             }

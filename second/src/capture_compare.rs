@@ -11,6 +11,7 @@ use crate::capture_generate::{cases, file_of};
 use crate::capture_long_cases;
 use crate::capture_long_counts;
 use crate::compare::{describe_ends, first_difference, report, Program};
+use crate::count_points;
 use crate::memory::cases::{
     MOST_CODE, MOST_DATA, MOST_LOG, MOST_MAIN, MOST_VIF0_CODE, MOST_VIF0_DATA,
 };
@@ -30,6 +31,7 @@ pub fn compare(program: &Program, seeds: &[u64], runs: u64) -> Result<(), String
     let points = (packet_points::check()? + path_points::check()?) as u64;
     let set_points = set_points::check()? as u64;
     let why_points = why_points::check()? as u64;
+    let count_points = count_points::check()? as u64;
     let mut counts = Counts::default();
     let mut cuts = capture_cut_counts::Counts::default();
     let mut long = capture_long_counts::Counts::default();
@@ -61,6 +63,7 @@ pub fn compare(program: &Program, seeds: &[u64], runs: u64) -> Result<(), String
     rows.push(("points about packets and paths".to_string(), points));
     rows.push(("points about sets".to_string(), set_points));
     rows.push(("points about whys".to_string(), why_points));
+    rows.push(("points about counts".to_string(), count_points));
     report(&rows)
 }
 
@@ -238,7 +241,7 @@ mod tests {
         let told = explain(&file, &own, &theirs, at);
         assert!(told.contains(", word 3 of the result"), "{told}");
         for (whose, packets) in [("program", 5), ("ours", 2)] {
-            let line = format!("{whose}: answer 0, {steps} steps, {packets} packets closed\n");
+            let line = format!("{whose}: answer 0, {steps} steps, {packets} packets closed, ");
             assert!(told.contains(&line), "{told}");
         }
     }

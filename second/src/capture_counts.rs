@@ -6,6 +6,8 @@ use crate::capture_path_counts;
 use crate::chain::{self, Next, State, Step, Stop, Tag};
 use crate::compare::named_rows;
 use crate::gif::{self, Path, Place};
+use crate::history::History;
+use crate::history_counts;
 use crate::log;
 use crate::memory::MOST_MAIN;
 use crate::model::{Model, ONLY_VIF1};
@@ -87,6 +89,7 @@ pub struct Counts {
     paths: capture_path_counts::Counts,
     sets: set_counts::Counts,
     whys: why_counts::Counts,
+    history: history_counts::Counts,
 }
 
 impl Counts {
@@ -159,6 +162,13 @@ impl Counts {
             self.packets.note_quadword(&given, quadword, tried);
         }
         self.paths.note_step(old, tried.map(|_| new), log);
+        let at = match old.next() {
+            Next::Tag => old.tadr,
+            Next::TagWord(address) => address,
+            Next::Payload(pending) => pending.address,
+        };
+        let words = std::array::from_fn(|i| self.main_word(at / 16 * 16 + 4 * i as u32));
+        self.history.note_step(old, &tried, words);
         let Ok(step) = tried else {
             return;
         };
@@ -394,7 +404,8 @@ impl Counts {
             return;
         }
         self.packets.note_run(stop, closes_next);
-        let (answer, steps) = (stop.answer, stop.steps);
+        self.history.note_run(stop);
+        let (answer, steps) = (stop.answer, stop.counts.steps);
         self.note_steps(allowance, steps);
         self.note_upload_due(before, allowance);
         let state = now.state.as_ref().expect("only an existing state is run");
@@ -707,6 +718,8 @@ impl Counts {
         self.starts += 1;
         self.sets.note_call("starts", before);
         self.whys.note_call("starts", before);
+        let pending = read_state(before).is_some_and(|state| state.payload.is_some());
+        self.history.note_start(pending, answer == 0);
         let (channel, tadr, tte) = values;
         if answer != 0 {
             self.note_refused_start(before, &start_fields(channel, tadr, tte));
@@ -739,6 +752,20 @@ impl Counts {
         let refused = wrong_at_entry(before, now);
         self.sets.note_set(before, values, answer, &refused);
         self.whys.note_call("sets", before);
+        if answer == 0 {
+            self.history.note_set();
+        }
+    }
+
+    /// Notes a run since a start.
+    pub fn note_history(
+        &mut self,
+        history: &History,
+        before: Option<u32>,
+        stop: &Stop,
+        now: &Standing,
+    ) {
+        self.history.note_history(history, before, stop, now);
     }
 
     pub fn note_why(&mut self, why: &Why, ignored: [u32; 3], now: &Standing) {
@@ -818,6 +845,7 @@ impl Counts {
         rows.extend(self.paths.rows());
         rows.extend(self.sets.rows(&ENTRY));
         rows.extend(self.whys.rows(&ENTRY));
+        rows.extend(self.history.rows());
         rows.extend(named_rows(&self.by_name, names()));
         rows
     }

@@ -6,6 +6,7 @@ use crate::capture_cases::{
 use crate::capture_cuts::{Family, Kind, Member};
 use crate::chain::{ALLOWANCE_USED, DONE};
 use crate::model::Model;
+use crate::run_counts::{self, RunCounts};
 use crate::state_block::{chain_word, part, rewritten, StateBlock, STATE_WORDS};
 use crate::vif_cases::code_words;
 use crate::words::{number, word};
@@ -28,6 +29,11 @@ impl Reader<'_> {
     fn number(&mut self) -> u64 {
         self.at += 2;
         number(self.bytes, self.at - 2)
+    }
+
+    fn counts(&mut self) -> RunCounts {
+        let numbers = self.numbers(run_counts::NUMBERS);
+        RunCounts::of_numbers(numbers.try_into().unwrap())
     }
 
     fn block(&mut self) -> StateBlock {
@@ -65,8 +71,7 @@ struct Seen {
 #[derive(Clone, Copy, PartialEq, Eq, Debug)]
 struct Told {
     answer: u32,
-    steps: u64,
-    packets: u64,
+    counts: RunCounts,
 }
 
 impl Seen {
@@ -105,8 +110,7 @@ impl Seen {
     fn read_run(&mut self, reader: &mut Reader, whole: bool) -> Told {
         let told = Told {
             answer: reader.word(),
-            steps: reader.number(),
-            packets: reader.number(),
+            counts: reader.counts(),
         };
         self.block = reader.block();
         if whole {
@@ -223,8 +227,7 @@ fn outcome(before: usize, member: &Member, bytes: &[u8]) -> Result<Outcome, Brok
     let mut reader = Reader { bytes, at: 0 };
     let mut all = Told {
         answer: ALLOWANCE_USED,
-        steps: 0,
-        packets: 0,
+        counts: RunCounts::default(),
     };
     for (call, of_case) in member.case.calls.iter().enumerate() {
         let broken = |what: String| Err(Broken { call, what });
@@ -250,7 +253,7 @@ fn outcome(before: usize, member: &Member, bytes: &[u8]) -> Result<Outcome, Brok
             }
         } else if call >= before {
             let last = call + 1 == before + member.parts;
-            if !last && (told.answer, told.steps) != (ALLOWANCE_USED, allowance) {
+            if !last && (told.answer, told.counts.steps) != (ALLOWANCE_USED, allowance) {
                 return broken("a part before the last does not use its allowance".to_string());
             }
             all = added(&all, &told);
@@ -261,7 +264,7 @@ fn outcome(before: usize, member: &Member, bytes: &[u8]) -> Result<Outcome, Brok
 
 /// What an allowance of 0 has changed.
 fn changed(told: &Told, seen: &Seen, was: &Seen) -> Option<String> {
-    if told.steps != 0 || told.packets != 0 {
+    if told.counts != RunCounts::default() {
         return Some(format!("{told:?}"));
     }
     seen.difference(was)
@@ -270,8 +273,7 @@ fn changed(told: &Told, seen: &Seen, was: &Seen) -> Option<String> {
 fn added(all: &Told, next: &Told) -> Told {
     Told {
         answer: next.answer,
-        steps: all.steps + next.steps,
-        packets: all.packets + next.packets,
+        counts: all.counts.plus(&next.counts),
     }
 }
 
@@ -384,10 +386,14 @@ mod tests {
                 (16, vec![5, 10], "steps: 15"),
                 (16, vec![5, 12], "steps: 17"),
                 (16, vec![15], "steps: 15"),
-                (17, vec![8, 8], "answer: 90, steps: 16"),
+                (17, vec![8, 8], "answer: 90, counts: RunCounts { steps: 16"),
                 (17, vec![17, 0], unused),
                 (17, vec![18, 1], unused),
-                (u64::MAX, vec![16], "answer: 90, steps: 16"),
+                (
+                    u64::MAX,
+                    vec![16],
+                    "answer: 90, counts: RunCounts { steps: 16",
+                ),
             ] {
                 let told = checked(in_parts(&capture, allowance, &parts)).unwrap_err();
                 assert!(told.contains(what), "{told}");
@@ -421,7 +427,9 @@ mod tests {
         told
     }
 
-    const HEAD: usize = 5 + STATE_WORDS;
+    /// The words of the answer and the counts.
+    const COUNTED: usize = 25;
+    const HEAD: usize = COUNTED + STATE_WORDS;
 
     #[test]
     fn changed_words_are_noticed() {
@@ -433,15 +441,23 @@ mod tests {
             (1, 0, unused),
             (1, 1, unused),
             (1, 3, "in all, uncut"),
+            (1, 5, "in all, uncut"),
+            (1, 23, "in all, uncut"),
             (2, 0, unused),
             (2, 1, "an allowance of 0 changes something: Told"),
             (2, 3, "an allowance of 0 changes something: Told"),
-            (2, 5 + 13, "an allowance of 0 changes something: word 13"),
+            (
+                2,
+                COUNTED + 13,
+                "an allowance of 0 changes something: word 13",
+            ),
             (2, sums, "an allowance of 0 changes something: sums differ"),
             (3, 0, "in all, uncut"),
             (3, 1, "in all, uncut"),
             (3, 3, "in all, uncut"),
-            (3, 5 + 94, "word 94 of the state is"),
+            (3, 7, "in all, uncut"),
+            (3, 9, "in all, uncut"),
+            (3, COUNTED + 94, "word 94 of the state is"),
             (3, HEAD + 2, "VIF1's memories differ from the uncut run's"),
             (3, last_sums, "sums differ from the uncut run's"),
             (3, last_sums + SUMS - 1, "sums differ from the uncut run's"),

@@ -186,7 +186,7 @@ impl Counts {
         self.add_if("cuts with log entries on both sides", entries);
         let closes = |&(_, tried): &(State, Result<Step, u32>)| tried.is_ok_and(|s| s.closed());
         let (one, other) = trace.steps.split_at(cut as usize);
-        let some = trace.stop.packets > 0;
+        let some = trace.stop.counts.packets > 0;
         let packets = some && one.iter().any(closes) && other.iter().any(closes);
         self.add_if("cuts with packets closed on both sides", packets);
     }

@@ -109,18 +109,18 @@ impl Trace {
     /// The greatest allowance with which the run answers 90, where its own is not less.
     pub fn last_cut(&self) -> Option<u64> {
         match self.stop.answer {
-            DONE | INTERRUPT => self.stop.steps.checked_sub(1),
+            DONE | INTERRUPT => self.stop.counts.steps.checked_sub(1),
             _ if self.refused_at_entry() => None,
-            _ => Some(self.stop.steps),
+            _ => Some(self.stop.counts.steps),
         }
     }
 
     /// The least allowance that gives the run's answer.
     pub fn least(&self) -> u64 {
         match self.stop.answer {
-            DONE | INTERRUPT | ALLOWANCE_USED => self.stop.steps,
+            DONE | INTERRUPT | ALLOWANCE_USED => self.stop.counts.steps,
             _ if self.refused_at_entry() => 0,
-            _ => self.stop.steps + 1,
+            _ => self.stop.counts.steps + 1,
         }
     }
 
@@ -192,7 +192,11 @@ fn chosen_family(
         trace.refused_at_entry(),
     );
     let taken = of_a_kind.entry(kind).or_default();
-    let part = if trace.stop.steps > SHORT { 20 } else { 2 };
+    let part = if trace.stop.counts.steps > SHORT {
+        20
+    } else {
+        2
+    };
     if *taken >= OF_A_KIND && !random.percent(part) {
         return None;
     }

@@ -4,6 +4,7 @@ use crate::capture_cases::{Call, Case, Standing};
 use crate::capture_packet_cases;
 use crate::capture_points;
 use crate::chain::{self, Next, Pending, State, Tag};
+use crate::count_points;
 use crate::gif::{self, Format, Path, Place};
 use crate::gif_generate::{
     edge_logs, random_held_block, random_log, random_no_path_block, random_out_of_range_block,
@@ -75,6 +76,7 @@ pub fn cases(seed: u64, runs: u64) -> Vec<Case> {
     cases.extend(why_cases::all(&mut random));
     let walks = why_cases::walks(&mut random, &cases);
     cases.extend(walks);
+    cases.extend(count_points::in_captures());
     cases
 }
 

@@ -176,7 +176,7 @@ mod tests {
                 }
                 Call::Run { allowance } => {
                     let stop = standing.run(allowance, |_, _, _| {});
-                    runs.push((stop.answer, stop.steps, stop.packets));
+                    runs.push((stop.answer, stop.counts.steps, stop.counts.packets));
                 }
                 Call::Set { .. } | Call::Why { .. } => panic!("another call among the runs"),
             }

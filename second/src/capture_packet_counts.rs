@@ -109,12 +109,12 @@ impl Counts {
 
     /// Notes a run that passed its entry; whether the next step would close a packet.
     pub fn note_run(&mut self, stop: &Stop, closes_next: bool) {
-        self.add(match stop.packets {
+        self.add(match stop.counts.packets {
             0 => "runs that close no packet",
             1 => "runs that close one packet",
             _ => "runs that close several packets",
         });
-        if stop.packets > 0 {
+        if stop.counts.packets > 0 {
             self.add(&closed_then(stopped(stop.answer)));
         }
         let name = "allowance used before a quadword that closes a packet";

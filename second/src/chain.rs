@@ -4,6 +4,7 @@ use crate::gif::{self, Path, PathNumber, Place};
 use crate::memory::MOST_MAIN;
 use crate::model::Model;
 use crate::refusals;
+use crate::run_counts::RunCounts;
 use crate::vif::{self, Given, Taken, Unit};
 use crate::words::QUADWORD;
 
@@ -111,9 +112,8 @@ impl Step {
 #[derive(Clone, Copy, PartialEq, Eq, Debug)]
 pub struct Stop {
     pub answer: u32,
-    /// The steps completed, and the packets that they closed.
-    pub steps: u64,
-    pub packets: u64,
+    /// Over the completed steps.
+    pub counts: RunCounts,
 }
 
 impl Stop {
@@ -121,8 +121,7 @@ impl Stop {
     pub fn at_entry(refusal: u32) -> Stop {
         Stop {
             answer: refusal,
-            steps: 0,
-            packets: 0,
+            counts: RunCounts::default(),
         }
     }
 }
@@ -237,12 +236,12 @@ pub fn run(
     if let Err(refusal) = check_entry(state, memories) {
         return Stop::at_entry(refusal);
     }
-    let (mut steps, mut packets) = (0, 0);
+    let mut counts = RunCounts::default();
     let answer = loop {
         if state.is_done() {
             break DONE;
         }
-        if steps == allowance {
+        if counts.steps == allowance {
             break ALLOWANCE_USED;
         }
         let before = *state;
@@ -251,19 +250,14 @@ pub fn run(
         match tried {
             Err(refusal) => break refusal,
             Ok(step) => {
-                steps += 1;
-                packets += step.closed() as u64;
+                counts.count(&step);
                 if step.interrupt() {
                     break INTERRUPT;
                 }
             }
         }
     };
-    Stop {
-        answer,
-        steps,
-        packets,
-    }
+    Stop { answer, counts }
 }
 
 /// Tests for the refusals 1 to 5 and 14, in this order.
@@ -541,8 +535,8 @@ mod tests {
         /// The answer and the steps of a run that closes no packet.
         fn run(&mut self, allowance: u64) -> (u32, u64) {
             let stop = self.stop(allowance);
-            assert_eq!(stop.packets, 0);
-            (stop.answer, stop.steps)
+            assert_eq!(stop.counts.packets, 0);
+            (stop.answer, stop.counts.steps)
         }
     }
 
@@ -687,15 +681,11 @@ mod tests {
             for (cut, closed) in [(0, 0), (1, 0), (2, 1), (3, 2), (4, 2)] {
                 let mut bench = Bench::on(channel, &main, 1);
                 let answer = if cut == 4 { DONE } else { ALLOWANCE_USED };
-                let stop = |answer, steps, packets| Stop {
-                    answer,
-                    steps,
-                    packets,
-                };
+                let told = |stop: Stop| (stop.answer, stop.counts.steps, stop.counts.packets);
                 let first = bench.stop(before + cut);
-                assert_eq!(first, stop(answer, before + cut, closed));
+                assert_eq!(told(first), (answer, before + cut, closed));
                 let second = bench.stop(u64::MAX);
-                assert_eq!(second, stop(DONE, 4 - cut, 2 - closed));
+                assert_eq!(told(second), (DONE, 4 - cut, 2 - closed));
                 let path = if channel == 1 { 2 } else { 3 };
                 assert_eq!(bench.log, [path, 2, 1]);
             }

@@ -51,7 +51,7 @@ pub fn result(input: &[u8]) -> Option<Vec<u8>> {
         state.used = 0;
         chain::start(&mut state, channel, 0, false).expect("the state is in range");
         let stop = chain::run(&mut state, &mut memories, u64::MAX, |_, _, _| {});
-        all_steps = all_steps.wrapping_add(stop.steps);
+        all_steps = all_steps.wrapping_add(stop.counts.steps);
         not_done = not_done.wrapping_add((stop.answer != chain::DONE) as u32);
     }
 

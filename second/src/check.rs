@@ -3,6 +3,7 @@
 use crate::chain::{self, Memories, State, Stop};
 use crate::log::{self, Entry};
 use crate::model::Model;
+use crate::run_counts::RunCounts;
 use crate::sheet::{self, Refusal};
 
 /// The bytes of an instruction, and the words of a quadword.
@@ -65,8 +66,7 @@ pub struct Checked {
     pub verdict: Verdict,
     /// The entries used by the run.
     pub used: u64,
-    pub steps: u64,
-    pub packets: u64,
+    pub counts: RunCounts,
 }
 
 /// The state that a sheet's meaning makes of the starting memories; the log has no entries at first.
@@ -95,16 +95,14 @@ pub fn check(sheet: &[u8], memories: &mut Memories, allowance: u64) -> Checked {
         Err(refusal) => Checked {
             verdict: Verdict::Refused(refusal),
             used: 0,
-            steps: 0,
-            packets: 0,
+            counts: RunCounts::default(),
         },
         Ok(meant) => {
             let (stop, used) = run(memories, allowance);
             Checked {
                 verdict: verdict(&stop, used, memories, &meant),
                 used,
-                steps: stop.steps,
-                packets: stop.packets,
+                counts: stop.counts,
             }
         }
     }

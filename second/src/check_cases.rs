@@ -1,5 +1,6 @@
 //! Check case files and their results.
 
+use crate::capture_cases::{put_counts, COUNTS_WORDS};
 use crate::case_results::Results;
 use crate::check::{check, Checked};
 use crate::check_counts::Counts;
@@ -84,8 +85,7 @@ impl Outcome {
         put_number(out, verdict.number());
         put_word(out, verdict.offset() as u32);
         put_number(out, self.checked.used);
-        put_number(out, self.checked.steps);
-        put_number(out, self.checked.packets);
+        put_counts(out, &self.checked.counts);
         self.memories.write(out);
     }
 }
@@ -148,14 +148,13 @@ pub fn case_starts(file: &[u8]) -> Vec<usize> {
 }
 
 /// The pieces of a result with their words.
-fn layout(case: &Case) -> [(&'static str, usize); 9] {
+fn layout(case: &Case) -> [(&'static str, usize); 8] {
     [
         ("the kind", 1),
         ("the number", 2),
         ("the offset", 1),
         ("the entries used", 2),
-        ("the steps", 2),
-        ("the packets closed", 2),
+        ("the counts", COUNTS_WORDS),
         ("data memory", case.data_length as usize),
         ("code memory", case.code_length.div_ceil(4) as usize),
         ("the log", 2 * case.log_length as usize),
@@ -198,13 +197,14 @@ pub fn describe_case(case: &Case) -> String {
 #[cfg(test)]
 mod tests {
     use super::*;
+    use crate::capture_cases::read_counts;
     use crate::check::Verdict;
     use crate::sheet::{CODE_BYTES, DATA_WORDS};
 
     const STEP: u64 = 0x9E37_79B9_7F4A_7C15;
     const FILL: u64 = 0x1122_3344_5566_7788;
     /// The words of a result before the memories.
-    const HEAD: usize = 10;
+    const HEAD: usize = 6 + 24;
 
     /// A start at 5: MSCAL alone in an end tag's payload, with an interrupt or without.
     fn case(code: u32) -> Case {
@@ -241,9 +241,16 @@ mod tests {
         assert_eq!(words(&file)[11..13], [0x0004_519E, 5]);
         assert_eq!(words(&file)[13..], [0x7000_0001, 0, 0, 0, 0x1400_0005]);
         assert_eq!(first_case(&file).unwrap(), (case(0x1400_0005), file.len()));
-        // Accepted: 1 entry, 5 steps (the tag and four words), no packet.
+        // Accepted: 1 entry; 5 steps (the tag and four words), no packet, 4 VIF words, 3 NOPs, and 1 as
+        // QWC of end.
         let result = own(&case(0x1400_0005));
-        assert_eq!(words(&result)[..HEAD], [0, 0, 0, 0, 1, 0, 5, 0, 0, 0]);
+        assert_eq!(words(&result)[..6], [0, 0, 0, 0, 1, 0]);
+        let counts = |at: usize| {
+            (0..12)
+                .map(|i| number(&result, at + 2 * i))
+                .collect::<Vec<_>>()
+        };
+        assert_eq!(counts(6), [5, 0, 4, 3, 0, 0, 0, 0, 0, 0, 0, 1]);
         assert_eq!(result.len(), WORD * (HEAD + 4_096 + 4_096 + 6));
         let filled = |add: u64, i: u64| STEP.wrapping_mul(i).wrapping_add(FILL + add);
         for i in [0, 1, 4_095] {
@@ -257,7 +264,11 @@ mod tests {
         assert_eq!(words(log), [0, 0, 256, 0, 5, 0]);
         // With bit 31 the run answers 91 after two steps, and the log is as the run left it.
         let result = own(&case(0x9400_0005));
-        assert_eq!(words(&result)[..HEAD], [2, 91, 0, 0, 1, 0, 2, 0, 0, 0]);
+        assert_eq!(words(&result)[..8], [2, 91, 0, 0, 1, 0, 2, 0]);
+        assert_eq!(
+            read_counts(&result, 6).numbers(),
+            [2, 0, 1, 0, 0, 0, 0, 0, 0, 0, 0, 1]
+        );
         assert_eq!(words(&result)[HEAD + 8_192..], [0, 0, 256, 0, 5, 0]);
     }
 
@@ -267,7 +278,8 @@ mod tests {
         let mut case = case(0x1400_0005);
         case.sheet.extend([0x9E, 0x51, 9, 0, 0, 0, 0]);
         let result = own(&case);
-        assert_eq!(words(&result)[..HEAD], [1, 41, 0, 6, 0, 0, 0, 0, 0, 0]);
+        assert_eq!(words(&result)[..4], [1, 41, 0, 6]);
+        assert_eq!(words(&result)[4..HEAD], [0; 26]);
         for i in 0..3 {
             let wanted = STEP.wrapping_mul(i as u64).wrapping_add(FILL + 2);
             assert_eq!(number(&result, HEAD + 8_192 + 2 * i), wanted);
@@ -275,7 +287,8 @@ mod tests {
         // Lengths in words, bytes and numbers that are no whole words.
         case.code_length = 6;
         let result = own(&case);
-        assert_eq!(words(&result)[..HEAD], [1, 3, 0, 0, 0, 0, 0, 0, 0, 0]);
+        assert_eq!(words(&result)[..4], [1, 3, 0, 0]);
+        assert_eq!(words(&result)[4..HEAD], [0; 26]);
         assert_eq!(result.len(), WORD * (HEAD + 4_096 + 2 + 6));
         assert_eq!(result[WORD * (HEAD + 4_096) + 6..][..2], [0, 0]);
     }
@@ -322,12 +335,12 @@ mod tests {
             (2, "the number, word 1"),
             (3, "the offset, word 0"),
             (5, "the entries used, word 1"),
-            (7, "the steps, word 1"),
-            (9, "the packets closed, word 1"),
-            (10, "data memory, word 0"),
-            (10 + 4_096, "code memory, word 0"),
-            (10 + 8_192, "the log, word 0"),
-            (10 + 8_198, "after the log"),
+            (7, "the counts, word 1"),
+            (29, "the counts, word 23"),
+            (30, "data memory, word 0"),
+            (30 + 4_096, "code memory, word 0"),
+            (30 + 8_192, "the log, word 0"),
+            (30 + 8_198, "after the log"),
         ] {
             assert_eq!(describe_place(&case, at), name);
         }

@@ -113,7 +113,7 @@ impl Counts {
     /// Notes a case and what it gave.
     pub fn note(&mut self, case: &Case, outcome: &Outcome) {
         self.cases += 1;
-        self.steps += outcome.checked.steps;
+        self.steps += outcome.checked.counts.steps;
         let verdict = outcome.checked.verdict;
         self.add(VERDICTS[verdict.kind() as usize]);
         self.note_lengths(case);
@@ -283,7 +283,7 @@ impl Counts {
     }
 
     fn note_allowance(&mut self, case: &Case, outcome: &Outcome) {
-        let (allowance, steps) = (case.allowance, outcome.checked.steps);
+        let (allowance, steps) = (case.allowance, outcome.checked.counts.steps);
         match outcome.checked.verdict {
             Verdict::Accepted => {
                 self.add_if("accepted, just the steps", allowance == steps);
@@ -308,8 +308,14 @@ impl Counts {
             return;
         }
         let steps = sheet::steps(&case.sheet).unwrap_or(0);
-        self.add_if("accepted in fewer steps", outcome.checked.steps < steps);
-        self.add_if("accepted in more steps", outcome.checked.steps > steps);
+        self.add_if(
+            "accepted in fewer steps",
+            outcome.checked.counts.steps < steps,
+        );
+        self.add_if(
+            "accepted in more steps",
+            outcome.checked.counts.steps > steps,
+        );
         let mut names = Vec::new();
         run_again(case, case.allowance, |before, after, step| {
             names.extend(step_name(before, after, &step));

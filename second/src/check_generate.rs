@@ -198,7 +198,7 @@ fn steps_of(case: &Case) -> Option<u64> {
     let (main, mut memories) = (case.main(), case.memories());
     let most = MOST_STEPS.max(2 * sheet::steps(&case.sheet).unwrap_or(0));
     let (stop, _) = check::run(&mut memories.lend(&main), most);
-    (stop.answer != ALLOWANCE_USED).then_some(stop.steps)
+    (stop.answer != ALLOWANCE_USED).then_some(stop.counts.steps)
 }
 
 /// An allowance that is enough, where any is.

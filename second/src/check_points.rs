@@ -21,6 +21,10 @@ pub struct Point {
     allowance: u64,
     /// Kind, number, offset, entries used, steps, packets.
     gives: [u64; 6],
+    /// VIF words, NOPs, and the sums of QWC by ID.
+    words: u64,
+    nops: u64,
+    qwc: [u64; 8],
     /// Words of data memory, bytes of code memory and numbers of the log that the run changed.
     data: Vec<(usize, u32)>,
     code: Vec<(usize, u8)>,
@@ -53,6 +57,9 @@ fn point(name: &'static str, sheet: &[Vec<u8>], main: &[u32], gives: [u64; 6]) -
         lengths: RIGHT,
         allowance: 1_000,
         gives,
+        words: 0,
+        nops: 0,
+        qwc: [0; 8],
         data: Vec::new(),
         code: Vec::new(),
         log: Vec::new(),
@@ -65,6 +72,18 @@ impl Point {
     fn logs(self, log: &[u64]) -> Point {
         let log = log.to_vec();
         Point { log, ..self }
+    }
+
+    /// With VIF words, NOPs among them, and the sum of QWC of the tags with an ID.
+    fn takes(self, words: u64, nops: u64, id: usize, qwc: u64) -> Point {
+        let mut all = [0; 8];
+        all[id] = qwc;
+        Point {
+            words,
+            nops,
+            qwc: all,
+            ..self
+        }
     }
 
     /// With the quadword that the run wrote.
@@ -139,6 +158,7 @@ fn accepted() -> Vec<Point> {
             &[0x1000_0001, 0, 0, 0, 0, 0, 0, 0x1400_0005, END],
             [0, 0, 0, 1, 6, 0],
         )
+        .takes(4, 3, 1, 1)
         .logs(&[0, 256, 5])
         .allows(6),
         // The tag and four words.
@@ -148,6 +168,7 @@ fn accepted() -> Vec<Point> {
             &[END | 1, 0, 0, 0, 0x1400_0005],
             [0, 0, 0, 1, 5, 0],
         )
+        .takes(4, 3, 7, 1)
         .logs(&[0, 256, 5])
         .allows(5),
         // Three numbers of log are all that one entry needs.
@@ -157,6 +178,7 @@ fn accepted() -> Vec<Point> {
             &[END | 1, 0, 0, 0, 0x1400_0005],
             [0, 0, 0, 1, 5, 0],
         )
+        .takes(4, 3, 7, 1)
         .logs(&[0, 256, 5])
         .of_lengths(Lengths { log: 3, ..RIGHT }),
         // STCYCL 1, 2 (CL 1, WL 2): of two writes one takes the word, one fills. Steps: the tag and
@@ -167,6 +189,7 @@ fn accepted() -> Vec<Point> {
             &[END | 1, 0, 0, 0, 0x0100_0201, 0x6002_03FF, 7, 0],
             [0, 0, 0, 0, 5, 0],
         )
+        .takes(4, 1, 7, 1)
         .writes(1_023, [7; 4])
         .writes(0, [7; 4]),
         // NOP, MPG of one instruction, two words: the payload is words 2 and 3. A ref tag and an end
@@ -190,6 +213,7 @@ fn accepted() -> Vec<Point> {
             ],
             [0, 0, 0, 0, 6, 0],
         )
+        .takes(4, 1, 3, 1)
         .uploads(2_047, [1, 2, 3, 4, 5, 6, 7, 8]),
         // REGLIST, NLOOP 1, NREG 2, descriptors 3 and 6: both values in one quadword, where two GS
         // records have two packets of two quadwords. Tag, four words, two quadwords: 7 steps; one packet.
@@ -215,6 +239,7 @@ fn accepted() -> Vec<Point> {
             ],
             [0, 0, 0, 2, 7, 1],
         )
+        .takes(4, 3, 7, 3)
         .logs(&[2, 3, 8, 2, 6, 9])
         .stored(),
         // The memory holds the vector before the run.
@@ -244,6 +269,7 @@ fn accepted() -> Vec<Point> {
             &[END | 1, 0, 0, 0, 0x1400_0003, 0x0100_0101, 0x6001_0004, 1],
             [0, 0, 0, 1, 5, 0],
         )
+        .takes(4, 0, 7, 1)
         .writes(4, [1; 4])
         .logs(&[0, 256, 3]),
     ]
@@ -265,6 +291,7 @@ fn by_groups() -> Vec<Point> {
             &calls(3),
             [0, 0, 0, 3, 19, 0],
         )
+        .takes(12, 9, 6, 3)
         .logs(&[0, 256, 5].repeat(3))
         .stored(),
         // 2 x 6 + 1. Both entries are right, and the run has two.
@@ -274,6 +301,7 @@ fn by_groups() -> Vec<Point> {
             &calls(2),
             [6, 2, 0, 2, 13, 0],
         )
+        .takes(8, 6, 6, 2)
         .logs(&[0, 256, 5].repeat(2))
         .stored(),
     ]
@@ -290,9 +318,11 @@ fn answers() -> Vec<Point> {
             &chain,
             [2, 90, 0, 1, 2, 0],
         )
+        .takes(1, 0, 7, 1)
         .logs(&[0, 256, 5])
         .allows(2),
         point("one step too few", &[start(5)], &chain, [2, 90, 0, 1, 4, 0])
+            .takes(3, 2, 7, 1)
             .logs(&[0, 256, 5])
             .allows(4),
         point("no step", &[], &[END], [2, 90, 0, 0, 0, 0]).allows(0),
@@ -303,6 +333,7 @@ fn answers() -> Vec<Point> {
             &[END | 1, 0, 0, 0, 0x9400_0005],
             [2, 91, 0, 1, 2, 0],
         )
+        .takes(1, 0, 7, 1)
         .logs(&[0, 256, 5])
         .stored(),
         // In the last word: all else is equal, the chain has ended too.
@@ -312,6 +343,7 @@ fn answers() -> Vec<Point> {
             &[END | 1, 0, 0, 0, 0x1400_0005, 0, 0, 0x8000_0000],
             [2, 91, 0, 1, 5, 0],
         )
+        .takes(4, 3, 7, 1)
         .logs(&[0, 256, 5]),
         // The tag alone is done.
         point(
@@ -320,6 +352,7 @@ fn answers() -> Vec<Point> {
             &chain,
             [2, 31, 0, 0, 1, 0],
         )
+        .takes(0, 0, 7, 1)
         .of_lengths(Lengths { log: 0, ..RIGHT }),
         // UNPACK before any STCYCL: WL is 0 from reset.
         point(
@@ -327,7 +360,8 @@ fn answers() -> Vec<Point> {
             &[data(4, &[[1; 4]])],
             &[END | 1, 0, 0, 0, 0x6001_0004, 1],
             [2, 22, 0, 0, 1, 0],
-        ),
+        )
+        .takes(0, 0, 7, 1),
         // A tag beyond main memory after a next.
         point(
             "a next out of main memory",
@@ -361,6 +395,7 @@ fn memories() -> Vec<Point> {
             &[END | 1, 0, 0, 0, 0x1400_0002],
             [3, 5, 0, 1, 5, 0],
         )
+        .takes(4, 3, 7, 1)
         .logs(&[0, 256, 2])
         .stored(),
         point(
@@ -369,6 +404,7 @@ fn memories() -> Vec<Point> {
             &[END | 1, 0, 0, 0, 0x1400_0002],
             [4, 3, 0, 1, 5, 0],
         )
+        .takes(4, 3, 7, 1)
         .logs(&[0, 256, 2])
         .stored(),
         // STCYCL, UNPACK V4-32 and two of its four words: the chain has ended with nothing pending, so
@@ -378,7 +414,8 @@ fn memories() -> Vec<Point> {
             &[data(7, &[[1; 4]])],
             &[END | 1, 0, 0, 0, 0x0100_0101, 0x6C01_0007, 1, 1],
             [3, 7, 0, 0, 5, 0],
-        ),
+        )
+        .takes(4, 0, 7, 1),
         // An MPG at word 3 and one of its two words in the next quadword; the rest of it is NOPs' words:
         // tag, four words, four words. Word 0 is the low half, word 1 the high half, then two NOPs.
         point(
@@ -387,6 +424,7 @@ fn memories() -> Vec<Point> {
             &[END | 2, 0, 0, 0, 0, 0, 0, 0x4A01_0009, 1, 3],
             [4, 9, 0, 0, 9, 0],
         )
+        .takes(8, 5, 7, 2)
         .uploads(9, [1, 0, 0, 0, 3, 0, 0, 0]),
         // Only the change back is done: the vector that memory held is written again, which is equal.
         point(
@@ -395,6 +433,7 @@ fn memories() -> Vec<Point> {
             &[END | 1, 0, 0, 0, 0x0100_0101, 0x6001_0000, 9],
             [3, 0, 0, 0, 5, 0],
         )
+        .takes(4, 1, 7, 1)
         .writes(0, [9; 4]),
     ]
 }
@@ -409,6 +448,7 @@ fn entries() -> Vec<Point> {
             &[END | 1, 0, 0, 0, 0x1500_0005],
             [5, 0, 0, 1, 5, 0],
         )
+        .takes(4, 3, 7, 1)
         .logs(&[0, 257, 5]),
         point(
             "another value",
@@ -416,6 +456,7 @@ fn entries() -> Vec<Point> {
             &[END | 1, 0, 0, 0, 0x1400_0005, 0x1400_0007],
             [5, 1, 0, 2, 5, 0],
         )
+        .takes(4, 2, 7, 1)
         .logs(&[0, 256, 5, 0, 256, 7]),
         // The GS entry is 2, 5, 1; the start's 0, 256, 1.
         point(
@@ -424,6 +465,7 @@ fn entries() -> Vec<Point> {
             &[END | 1, 0, 0, 0, 0x1400_0001],
             [5, 0, 0, 1, 5, 0],
         )
+        .takes(4, 3, 7, 1)
         .logs(&[0, 256, 1])
         .stored(),
         // The sheet has two entries, the run one, which differs: the entry is named.
@@ -433,6 +475,7 @@ fn entries() -> Vec<Point> {
             &[END | 1, 0, 0, 0, 0x1400_0006],
             [5, 0, 0, 1, 5, 0],
         )
+        .takes(4, 3, 7, 1)
         .logs(&[0, 256, 6]),
         point(
             "one entry more",
@@ -440,6 +483,7 @@ fn entries() -> Vec<Point> {
             &[END | 1, 0, 0, 0, 0x1400_0005, 0x1400_0005],
             [6, 2, 0, 2, 5, 0],
         )
+        .takes(4, 2, 7, 1)
         .logs(&[0, 256, 5, 0, 256, 5]),
         point("no entry at all", &[start(5)], &[END], [6, 0, 0, 0, 1, 0]),
         // The log has no room for the sheet's two, and the run needs none of it.
@@ -449,6 +493,7 @@ fn entries() -> Vec<Point> {
             &[END | 1, 0, 0, 0, 0x1400_0005],
             [6, 1, 0, 1, 5, 0],
         )
+        .takes(4, 3, 7, 1)
         .logs(&[0, 256, 5])
         .of_lengths(Lengths { log: 3, ..RIGHT }),
     ]
@@ -533,9 +578,10 @@ impl Point {
         put_word(&mut out, kind as u32);
         put_number(&mut out, number);
         put_word(&mut out, offset as u32);
-        for number in [used, steps, packets] {
+        for number in [used, steps, packets, self.words, self.nops] {
             put_number(&mut out, number);
         }
+        self.qwc.iter().for_each(|&sum| put_number(&mut out, sum));
         memories.write(&mut out);
         out
     }

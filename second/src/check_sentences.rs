@@ -5,14 +5,14 @@ use crate::check::{Meant, Verdict, FIELDS, INSTRUCTION};
 use crate::check_cases::{Case, Outcome};
 use crate::log;
 use crate::memory::MOST_MAIN;
-use crate::sheet::{self, Kind, Refusal, CODE_BYTES, DATA_WORDS};
+use crate::run_counts::RunCounts;
+use crate::sheet::{self, Refusal, CODE_BYTES, DATA_WORDS};
 use crate::sheet_cases::Filled;
 
 /// What a run of the chain leaves.
 struct Ran {
     answer: u32,
-    steps: u64,
-    packets: u64,
+    counts: RunCounts,
     used: u64,
     memories: Filled,
 }
@@ -52,7 +52,7 @@ fn wrong_refusal(case: &Case, outcome: &Outcome, refusal: Refusal) -> Option<&'s
     if checked.verdict != Verdict::Refused(refusal) {
         return Some("another refusal is due");
     }
-    if (checked.used, checked.steps, checked.packets) != (0, 0, 0) {
+    if (checked.used, checked.counts) != (0, RunCounts::default()) {
         return Some("a refused check has run something");
     }
     (outcome.memories != case.memories()).then_some("a refusal changed something")
@@ -64,7 +64,7 @@ fn wrong_check(case: &Case, outcome: &Outcome) -> Option<&'static str> {
         return Some("refused without a reason");
     }
     let ran = run_in_halves(case);
-    if (checked.used, checked.steps, checked.packets) != (ran.used, ran.steps, ran.packets) {
+    if (checked.used, checked.counts) != (ran.used, ran.counts) {
         return Some("the numbers are not the run's");
     }
     if outcome.memories != ran.memories {
@@ -82,15 +82,15 @@ fn run_in_halves(case: &Case) -> Ran {
     let first = case.allowance / 2;
     let mut lent: Memories = memories.lend(&main);
     let stop = chain::run(&mut state, &mut lent, first.min(30), |_, _, _| {});
-    let (mut answer, mut steps, mut packets) = (stop.answer, stop.steps, stop.packets);
+    let (mut answer, mut counts) = (stop.answer, stop.counts);
     if answer == chain::ALLOWANCE_USED {
-        let rest = chain::run(&mut state, &mut lent, case.allowance - steps, |_, _, _| {});
-        (answer, steps, packets) = (rest.answer, steps + rest.steps, packets + rest.packets);
+        let left = case.allowance - counts.steps;
+        let rest = chain::run(&mut state, &mut lent, left, |_, _, _| {});
+        (answer, counts) = (rest.answer, counts.plus(&rest.counts));
     }
     Ran {
         answer,
-        steps,
-        packets,
+        counts,
         used: state.used,
         memories,
     }
@@ -140,22 +140,15 @@ fn first_at<T: PartialEq>(a: &[T], b: &[T], group: usize, at: usize) -> bool {
 
 /// "The chain our builder makes of the sheet is accepted when allowance and log suffice."
 fn our_own(case: &Case, outcome: &Outcome) -> Option<&'static str> {
-    let records = sheet::records(&case.sheet).ok()?;
     let steps = sheet::steps(&case.sheet).ok()?;
     let entries = sheet::entries(&case.sheet).ok()?;
     let suffice = steps <= case.allowance && log::holds(case.log_length as usize, entries);
     if !suffice || !is_our_own(case) {
         return None;
     }
-    let gs = records.iter().filter(|record| record.kind == Kind::Gs);
     let checked = &outcome.checked;
-    let told = (
-        checked.verdict,
-        checked.used,
-        checked.steps,
-        checked.packets,
-    );
-    let wanted = (Verdict::Accepted, entries, steps, gs.count() as u64);
+    let told = (checked.verdict, checked.used, Ok(checked.counts));
+    let wanted = (Verdict::Accepted, entries, sheet::counts(&case.sheet));
     (told != wanted).then_some("our own chain is not accepted as it has to be")
 }
 
@@ -215,9 +208,13 @@ mod tests {
             ("refused without a reason", |o| {
                 o.checked.verdict = Verdict::Refused((1, 0))
             }),
-            ("the numbers are not the run's", |o| o.checked.steps += 1),
+            ("the numbers are not the run's", |o| {
+                o.checked.counts.steps += 1
+            }),
             ("the numbers are not the run's", |o| o.checked.used = 0),
-            ("the numbers are not the run's", |o| o.checked.packets = 1),
+            ("the numbers are not the run's", |o| {
+                o.checked.counts.packets = 1
+            }),
             ("memories and log are not as the run left them", |o| {
                 o.memories.data[0] ^= 1
             }),
@@ -276,7 +273,7 @@ mod tests {
         short.sheet.push(0);
         let of_the_sheet = |o: &mut Outcome| o.checked.verdict = Verdict::Refused((44, 28));
         assert_eq!(told(&short, of_the_sheet), due);
-        let ran = |o: &mut Outcome| o.checked.steps = 1;
+        let ran = |o: &mut Outcome| o.checked.counts.words = 1;
         let wanted = Some("a refused check has run something".to_string());
         assert_eq!(told(&short, ran), wanted);
         let changed = |o: &mut Outcome| o.memories.log[0] ^= 1;

@@ -1,7 +1,9 @@
 //! Points about sheets of the second edition, worked by hand.
 
+use crate::capture_cases::put_counts;
 use crate::group_sheets::{edition, group, nested};
 use crate::refusals;
+use crate::run_counts::RunCounts;
 use crate::sheet::{record_bytes, Refusal};
 use crate::sheet_cases::{put_bytes, Case, Filled};
 use crate::sheet_points::{Expected, Point, ENDED};
@@ -41,6 +43,7 @@ fn no_record() -> Point {
         chain: &[0x7000_0000, 0, 0, 0],
         steps: 1,
         packets: 0,
+        taken: [0, 0, 0],
         data: &[],
         code: &[],
         log: &[],
@@ -63,6 +66,7 @@ fn record_alone() -> Point {
         ],
         steps: 6,
         packets: 0,
+        taken: [4, 3, 1],
         data: &[],
         code: &[],
         log: &[[0, 256, 5]],
@@ -91,6 +95,7 @@ fn thrice() -> Point {
         // 3 x 5 + 1.
         steps: 16,
         packets: 0,
+        taken: [12, 9, 3],
         data: &[],
         code: &[],
         log: &[[0, 256, 5], [0, 256, 5], [0, 256, 5]],
@@ -125,6 +130,7 @@ fn group_in_a_group() -> Point {
         ],
         steps: 21,
         packets: 0,
+        taken: [16, 12, 4],
         data: &[],
         code: &[],
         log: &[[0, 256, 1], [0, 256, 2], [0, 256, 2], [0, 256, 3]],
@@ -162,6 +168,7 @@ fn eight_deep() -> Point {
         // 2 x 9 + 1.
         steps: 19,
         packets: 0,
+        taken: [16, 10, 4],
         data: &[],
         code: &[(4_094, 0x0403_0201), (4_095, 0x8807_0605)],
         log: &[],
@@ -203,6 +210,7 @@ fn data_and_gs_twice() -> Point {
         // 2 x (9 + 7) + 1.
         steps: 33,
         packets: 2,
+        taken: [24, 8, 10],
         data: &[
             (4_092, 0x0403_0201), (4_093, 0x0807_0605),
             (4_094, 0x0C0B_0A09), (4_095, 0x100F_0E0D),
@@ -354,8 +362,7 @@ fn put_refusal(out: &mut Vec<u8>, (number, offset): Refusal) {
 /// Part 4 of a case whose run is refused: nothing has changed.
 fn put_refused_run(out: &mut Vec<u8>, case: &Case, refusal: Refusal) {
     put_refusal(out, refusal);
-    put_number(out, 0);
-    put_number(out, 0);
+    put_counts(out, &RunCounts::default());
     case.state.iter().for_each(|&word| put_word(out, word));
     Filled::new(case).write(out);
     put_bytes(out, &case.main());

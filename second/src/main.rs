@@ -32,6 +32,7 @@ mod check_points;
 mod check_sentences;
 mod check_sheets;
 mod compare;
+mod count_points;
 mod filled;
 mod gif;
 mod gif_cases;
@@ -43,6 +44,8 @@ mod group_counts;
 mod group_edges;
 mod group_points;
 mod group_sheets;
+mod history;
+mod history_counts;
 mod log;
 mod log_counts;
 mod memory;
@@ -52,6 +55,7 @@ mod packet_points;
 mod path_points;
 mod random;
 mod refusals;
+mod run_counts;
 mod salvage;
 mod salvage_cases;
 mod salvage_check;
@@ -75,6 +79,13 @@ mod sheet_random;
 mod sheet_time;
 mod sheet_tree;
 mod state_block;
+mod totals;
+mod totals_cases;
+mod totals_compare;
+mod totals_counts;
+mod totals_generate;
+mod totals_points;
+mod totals_sentences;
 mod unpack_counts;
 mod unpack_kind;
 mod vif;
@@ -112,7 +123,7 @@ usage:
   second generate-capture SEED RUNS > CASES
   second generate-cuts SEED RUNS > CASES
   second generate-long SEED > CASES
-  second points-capture mask|filling|vif0|upload|packets|paths|sets|whys > CASES
+  second points-capture mask|filling|vif0|upload|packets|paths|sets|whys|counts > CASES
   second compare-capture PROGRAM SEED[,SEED..] RUNS
   second bench-chain PROGRAM
   second time-chain < INPUT > RESULT
@@ -133,6 +144,11 @@ usage:
   second points-check > CASES
   second stored-check > CASES
   second compare-check PROGRAM SEED[,SEED..] COUNT
+  second totals [--counts] < CASES > RESULTS
+  second generate-totals SEED COUNT > CASES
+  second points-totals > CASES
+  second stored-totals > CASES
+  second compare-totals PROGRAM SEED[,SEED..] COUNT
 PROGRAM is the path of an executable; one argument may hold a path and its arguments.
 ";
 
@@ -160,6 +176,7 @@ fn command(arguments: &[&str]) -> Option<Result<(), String>> {
         .or_else(|| sheet_command(arguments))
         .or_else(|| salvage_command(arguments))
         .or_else(|| check_command(arguments))
+        .or_else(|| totals_command(arguments))
 }
 
 fn gif_command(arguments: &[&str]) -> Option<Result<(), String>> {
@@ -306,6 +323,28 @@ fn check_command(arguments: &[&str]) -> Option<Result<(), String>> {
     Some(done)
 }
 
+fn totals_command(arguments: &[&str]) -> Option<Result<(), String>> {
+    let done = match arguments {
+        ["totals"] => totals_results(false),
+        ["totals", "--counts"] => totals_results(true),
+        ["generate-totals", seed, count] => write(&totals_generate::generate(
+            seed.parse().ok()?,
+            count.parse().ok()?,
+        )),
+        ["points-totals"] => write(&totals_points::file()),
+        ["stored-totals"] => {
+            let some = totals_generate::generate(1, totals_generate::STORED);
+            write(&[totals_points::file(), some].concat())
+        }
+        ["compare-totals", program, seeds, count] => {
+            let program = compare::Program::parse(program);
+            totals_compare::compare(&program, &compare::seeds(seeds)?, count.parse().ok()?)
+        }
+        _ => return None,
+    };
+    Some(done)
+}
+
 /// The points under a name; none for another name.
 fn gif_point_cases(name: &str) -> Option<Vec<gif_cases::Case>> {
     match name {
@@ -332,6 +371,7 @@ fn capture_point_cases(name: &str) -> Option<Vec<capture_cases::Case>> {
         "paths" => Some(path_points::in_captures()),
         "sets" => Some(set_points::in_captures()),
         "whys" => Some(why_points::in_captures()),
+        "counts" => Some(count_points::in_captures()),
         _ => {
             let points = vif_points::named(name)?;
             Some(points.iter().map(capture_points::case).collect())
@@ -396,6 +436,12 @@ fn salvage_results(with_counts: bool) -> Result<(), String> {
 fn check_results(with_counts: bool) -> Result<(), String> {
     let mut counts = check_counts::Counts::default();
     let results = check_cases::results(&read()?, &mut counts);
+    tell_results(&results, with_counts.then(|| counts.rows()))
+}
+
+fn totals_results(with_counts: bool) -> Result<(), String> {
+    let mut counts = totals_counts::Counts::default();
+    let results = totals_cases::results(&read()?, &mut counts);
     tell_results(&results, with_counts.then(|| counts.rows()))
 }
 

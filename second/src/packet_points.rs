@@ -301,7 +301,7 @@ impl Point {
             if let Call::Run { allowance } = *call {
                 last = standing.run(allowance, |_, _, _| {});
             }
-            if last.packets != packets {
+            if last.counts.packets != packets {
                 return Err(self.wrong(&format!("{last:?}, not {packets} packets")));
             }
         }

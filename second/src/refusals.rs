@@ -50,6 +50,9 @@ pub const DEPTH: u32 = 52;
 pub const NUMBER: u32 = 50;
 pub const WAITING: u32 = 51;
 
+// Of adding to totals.
+pub const TOTAL: u32 = 54;
+
 // Of salvage; 46 too.
 pub const KEPT: u32 = 55;
 pub const RANGES: u32 = 56;

@@ -3,6 +3,7 @@
 use crate::log::Entry;
 use crate::memory;
 use crate::refusals;
+use crate::run_counts::RunCounts;
 use crate::sheet_tree;
 
 /// The longest sheet in bytes.
@@ -26,6 +27,8 @@ const MPG: u32 = 0x4A00_0000;
 const DIRECT: u32 = 0x5000_0000;
 const MSCAL: u32 = 0x1400_0000;
 const ENTRY_START: u64 = 256;
+/// The ID of a record's tag.
+const CNT: usize = 1;
 /// The paths of GS entries and start entries.
 const PATH_GS: u64 = 2;
 const PATH_START: u64 = 0;
@@ -104,6 +107,16 @@ impl Record<'_> {
             Kind::Code => 5 + 4 * n.div_ceil(2),
             Kind::Gs => 6 + n,
             Kind::Start => 5,
+        }
+    }
+
+    /// The words that VIF1 takes one by one, and the NOPs among them. A body is payload.
+    fn words_and_nops(&self) -> (u64, u64) {
+        let n = self.count as u64;
+        match self.kind {
+            Kind::Data => (4 + 4 * n, 1),
+            Kind::Code => (4 + 4 * n.div_ceil(2), 3 + 2 * (n % 2)),
+            Kind::Gs | Kind::Start => (4, 3),
         }
     }
 
@@ -242,6 +255,22 @@ pub fn steps(sheet: &[u8]) -> Result<u64, Refusal> {
     Ok(all + 1)
 }
 
+/// What a run of the whole chain counts.
+pub fn counts(sheet: &[u8]) -> Result<RunCounts, Refusal> {
+    let mut counts = RunCounts {
+        steps: steps(sheet)?,
+        ..RunCounts::default()
+    };
+    for record in records(sheet)? {
+        let (words, nops) = record.words_and_nops();
+        counts.packets += (record.kind == Kind::Gs) as u64;
+        counts.words += words;
+        counts.nops += nops;
+        counts.qwc[CNT] += record.quadwords() as u64 - 1;
+    }
+    Ok(counts)
+}
+
 /// The packets that the chain has closed after so many steps, with so many log entries written:
 /// the GS records that end within both.
 pub fn packets(sheet: &[u8], most_steps: u64, most_entries: u64) -> Result<u64, Refusal> {
@@ -361,12 +390,9 @@ mod tests {
             log: &mut log,
         };
         let done = chain::run(&mut state, &mut memories, u64::MAX, |_, _, _| {});
-        let records = records(sheet).unwrap();
-        let gs = records.iter().filter(|record| record.kind == Kind::Gs);
         let whole = Stop {
             answer: chain::DONE,
-            steps: steps(sheet).unwrap(),
-            packets: gs.count() as u64,
+            counts: counts(sheet).unwrap(),
         };
         assert_eq!(done, whole);
         let (mut plain_data, mut plain_code, _) = machine();

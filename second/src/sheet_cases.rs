@@ -1,5 +1,6 @@
 //! Sheet case files and their results.
 
+use crate::capture_cases::{put_counts, COUNTS_WORDS};
 use crate::case_results::Results;
 use crate::chain::{self, State};
 use crate::compare;
@@ -9,6 +10,7 @@ use crate::log;
 use crate::memory::cases::{MOST_CODE, MOST_DATA, MOST_LOG, MOST_MAIN};
 use crate::model::Model;
 use crate::refusals;
+use crate::run_counts::{self, RunCounts};
 use crate::sheet::{self, Refusal};
 use crate::sheet_check::broken;
 use crate::sheet_counts::Counts;
@@ -154,8 +156,7 @@ pub struct Meant {
 pub struct Ran {
     /// Refused before the run, or the run's answer.
     pub answer: Result<u32, Refusal>,
-    pub steps: u64,
-    pub packets: u64,
+    pub counts: RunCounts,
     pub state: StateBlock,
     pub memories: Filled,
     pub main: Vec<u8>,
@@ -192,8 +193,7 @@ impl Outcome {
         self.meant.memories.write(out);
 
         put_answer(out, self.ran.answer.map(|answer| (answer, 0)));
-        put_number(out, self.ran.steps);
-        put_number(out, self.ran.packets);
+        put_counts(out, &self.ran.counts);
         self.ran.state.iter().for_each(|&w| put_word(out, w));
         self.ran.memories.write(out);
         put_bytes(out, &self.ran.main);
@@ -242,8 +242,7 @@ fn mean_on(sheet: &[u8], memories: &mut Filled, used: u64) -> Result<u64, Refusa
 fn build_and_run(case: &Case) -> Ran {
     let mut ran = Ran {
         answer: Ok(chain::DONE),
-        steps: 0,
-        packets: 0,
+        counts: RunCounts::default(),
         state: read_state(&case.state).map_or(case.state, |state| write_state(&state)),
         memories: Filled::new(case),
         main: case.main(),
@@ -254,8 +253,7 @@ fn build_and_run(case: &Case) -> Ran {
             let mut memories = ran.memories.lend(&ran.main);
             let stop = chain::run(&mut state, &mut memories, case.allowance, |_, _, _| {});
             ran.answer = Ok(stop.answer);
-            ran.steps = stop.steps;
-            ran.packets = stop.packets;
+            ran.counts = stop.counts;
             ran.state = write_state(&state);
         }
     }
@@ -342,11 +340,7 @@ pub fn layout(case: &Case) -> [Vec<(&'static str, usize)>; 4] {
     let head = [("answer", 1), ("offset", 1)];
     let with = |pieces: &[(&'static str, usize)]| [&head[..], pieces].concat();
     let meaning = [&[("entries used", 2)][..], &memories].concat();
-    let run = [
-        ("step count", 2),
-        ("packets closed", 2),
-        ("state block", STATE_WORDS),
-    ];
+    let run = [("counts", COUNTS_WORDS), ("state block", STATE_WORDS)];
     let run = [&run[..], &memories].concat();
     let main = [("main memory", words(case.main_length))];
     [
@@ -386,7 +380,7 @@ pub fn describe_case(case: &Case) -> String {
     let shown = &case.sheet[..case.sheet.len().min(96)];
     format!(
         "    S {}, O {}, M {}, address {:X}, D {}, C {}, L {}, fill {:016X}, allowance {}\n    {}\n    \
-         our answers: {:?} (exported {}); {:?}; {:?}; {:?} after {} steps, {} packets closed\n    \
+         our answers: {:?} (exported {}); {:?}; {:?}; {:?} after {}\n    \
          sheet: {shown:02X?}{}",
         case.sheet.len(),
         case.output_length,
@@ -403,8 +397,7 @@ pub fn describe_case(case: &Case) -> String {
         outcome.steps,
         outcome.meant.answer,
         outcome.ran.answer,
-        outcome.ran.steps,
-        outcome.ran.packets,
+        run_counts::describe(&outcome.ran.counts),
         if shown.len() < case.sheet.len() { " .." } else { "" },
     )
 }
@@ -481,10 +474,13 @@ mod tests {
         let log_at = code + CODE_BYTES / WORD;
         let logged = [0, 2, 4].map(|at| number(&given, log_at + at));
         assert_eq!(logged, [0, 256, 5]);
-        // Build and run: answer, offset, steps, packets, channel, TADR, TTE, ended.
+        // Build and run: answer, offset; steps, packets, VIF words, NOPs, QWC of refe and cnt.
         let run = log_at + 2 * log::ENTRY;
-        let head: Vec<u32> = (run..run + 10).map(|at| word(&given, at)).collect();
-        assert_eq!(head, [0, 0, 6, 0, 0, 0, 1, 64, 0, 1]);
+        let head: Vec<u32> = (run..run + 14).map(|at| word(&given, at)).collect();
+        assert_eq!(head, [0, 0, 6, 0, 0, 0, 4, 0, 3, 0, 0, 0, 1, 0]);
+        // QWC of the other IDs; channel, TADR, TTE, ended.
+        let rest: Vec<u32> = (run + 14..run + 30).map(|at| word(&given, at)).collect();
+        assert_eq!(rest, [vec![0; 12], vec![1, 64, 0, 1]].concat());
         let main = words - 32;
         assert_eq!(given[WORD * main], fill(4, 0) as u8);
         assert_eq!(word(&given, main + 8), 0x1000_0001);
@@ -530,7 +526,7 @@ mod tests {
         });
         assert_eq!(answers(&case), [(0, 48), (0, 0), (0, 0), (0, 0)]);
         let ran = Outcome::new(&case).ran;
-        assert_eq!((ran.steps, ran.state[chain_word::CHANNEL]), (6, 1));
+        assert_eq!((ran.counts.steps, ran.state[chain_word::CHANNEL]), (6, 1));
         assert_eq!(ran.state[VIF0..], case.state[VIF0..]);
         assert_eq!(ran.state[VIF1 + unit_word::DBF], 1);
         case.code_length = 4_096;
@@ -564,10 +560,10 @@ mod tests {
     #[test]
     fn refused_runs_keep_steps_and_memories() {
         let cut = Outcome::new(&changed(|case| case.allowance = 5));
-        assert_eq!((cut.ran.answer, cut.ran.steps), (Ok(90), 5));
+        assert_eq!((cut.ran.answer, cut.ran.counts.steps), (Ok(90), 5));
         let full = Outcome::new(&changed(|case| case.log_length = 0));
         assert_eq!(full.meant.answer, Err((31, 0)));
-        assert_eq!((full.ran.answer, full.ran.steps), (Ok(31), 4));
+        assert_eq!((full.ran.answer, full.ran.counts.steps), (Ok(31), 4));
         let pending = [chain_word::PAYLOAD_WORDS, chain_word::PAYLOAD_AT];
         assert_eq!(pending.map(|at| full.ran.state[at]), [1, 60]);
     }

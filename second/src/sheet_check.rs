@@ -62,11 +62,11 @@ fn clean(state: &State) -> bool {
 /// What is wrong with the run of a case; none where nothing is.
 pub fn broken(case: &Case, outcome: &Outcome) -> Option<String> {
     let steps = outcome.steps.unwrap_or(0);
-    let given = (outcome.ran.answer, outcome.ran.steps);
+    let given = (outcome.ran.answer, outcome.ran.counts.steps);
     let end = foretold(case)?;
     let packets = packets(case);
-    if outcome.ran.packets != packets {
-        let closed = outcome.ran.packets;
+    if outcome.ran.counts.packets != packets {
+        let closed = outcome.ran.counts.packets;
         return Some(format!("{closed} packets closed, not {packets}"));
     }
     match end {
@@ -95,6 +95,10 @@ fn wrong_end(case: &Case, outcome: &Outcome) -> Option<&'static str> {
     let (ran, meant) = (&outcome.ran, &outcome.meant);
     let wrong = [
         ("the meaning's answer", meant.answer.is_err()),
+        (
+            "what is counted",
+            Ok(ran.counts) != sheet::counts(&case.sheet),
+        ),
         ("data memory", ran.memories.data != meant.memories.data),
         ("code memory", ran.memories.code != meant.memories.code),
         ("the log", ran.memories.log != meant.memories.log),
@@ -166,11 +170,15 @@ mod tests {
 
     #[test]
     fn shams_are_found() {
-        let shams: [fn(&mut Outcome); 9] = [
+        let shams: [fn(&mut Outcome); 13] = [
             |o| o.ran.answer = Ok(chain::INTERRUPT),
             |o| o.ran.answer = Err((47, 0)),
-            |o| o.ran.steps += 1,
-            |o| o.ran.packets ^= 1,
+            |o| o.ran.counts.steps += 1,
+            |o| o.ran.counts.packets ^= 1,
+            |o| o.ran.counts.words += 1,
+            |o| o.ran.counts.nops += 1,
+            |o| o.ran.counts.qwc[1] += 1,
+            |o| o.ran.counts.qwc[7] += 1,
             |o| o.ran.memories.data[100] ^= 1,
             |o| o.ran.memories.code[100] ^= 1,
             |o| o.ran.memories.log[7] ^= 1,

@@ -223,16 +223,16 @@ mod tests {
         // The second word of the state block.
         let first_three: usize = parts[..3].iter().map(|part| words(part)).sum();
         let run = start + WORD * first_three;
-        let at = run + WORD * (6 + 1);
+        let at = run + WORD * (26 + 1);
         let mut theirs = given.bytes.clone();
         theirs[at] ^= 1;
         let told = given.explain(&theirs, at, 250, |index, at| tell(&file, index, at));
-        let head = "case 253: part 4 (build and run), word 7 of the part, state block word 1: ";
+        let head = "case 253: part 4 (build and run), word 27 of the part, state block word 1: ";
         assert!(told.starts_with(head), "{told}");
         let told = given.explain(&theirs, run + WORD * 4, 250, |index, at| {
             tell(&file, index, at)
         });
-        let head = "case 253: part 4 (build and run), word 4 of the part, packets closed word 0: ";
+        let head = "case 253: part 4 (build and run), word 4 of the part, counts word 2: ";
         assert!(told.starts_with(head), "{told}");
         let (steps, packets) = (
             number(&given.bytes[run..], 2),

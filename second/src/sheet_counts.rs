@@ -347,12 +347,12 @@ impl Counts {
             self.add(&format!("runs with {name} waiting"));
             let done = outcome.ran.answer == Ok(chain::DONE);
             self.add_if("runs with a code waiting: done", done);
-            let upload = waiting.is_upload() && outcome.ran.steps > 1;
+            let upload = waiting.is_upload() && outcome.ran.counts.steps > 1;
             self.add_if("runs that take MPG's first word", upload);
         }
         let held = state.path2.place != Place::Idle;
         self.add_if("runs with path 2 inside a tag", held);
-        let packets = outcome.ran.packets;
+        let packets = outcome.ran.counts.packets;
         let other = held && packets > 0;
         self.add_if("runs with path 2 inside a tag that close packets", other);
         match foretold(case) {
@@ -429,12 +429,12 @@ impl Counts {
 
     /// Notes a run that is to be what the sheet means.
     fn note_whole(&mut self, case: &Case, state: &State, outcome: &Outcome) {
-        self.whole_steps += outcome.ran.steps;
+        self.whole_steps += outcome.ran.counts.steps;
         self.note_whole_from(state, case.main_length as usize);
         let entries = sheet::entries(&case.sheet).unwrap_or(0);
         let room = log::room(case.log_length as usize, case.used());
         let full = entries > 0 && room == entries;
-        let packets = outcome.ran.packets;
+        let packets = outcome.ran.counts.packets;
         let rows = [
             ("in all", true),
             ("that close no packet", packets == 0),

@@ -22,6 +22,8 @@ pub struct Point {
     pub chain: &'static [u32],
     pub steps: u64,
     pub packets: u64,
+    /// VIF words, NOPs, and the sum of QWC of the cnt tags; the end tag's is 0.
+    pub taken: [u64; 3],
     /// The words of data memory that change.
     pub data: &'static [(usize, u32)],
     /// The words of code memory that change, by their byte address divided by 4.
@@ -51,6 +53,7 @@ fn empty() -> Point {
         chain: &[0x7000_0000, 0, 0, 0],
         steps: 1,
         packets: 0,
+        taken: [0, 0, 0],
         data: &[],
         code: &[],
         log: &[],
@@ -70,6 +73,7 @@ fn start_at_5() -> Point {
         ],
         steps: 6,
         packets: 0,
+        taken: [4, 3, 1],
         data: &[],
         code: &[],
         log: &[[0, 256, 5]],
@@ -98,6 +102,7 @@ fn data_at_1023() -> Point {
         ],
         steps: 14,
         packets: 0,
+        taken: [12, 1, 3],
         data: &[
             (4_092, 0x0403_0201), (4_093, 0x0807_0605),
             (4_094, 0x0C0B_0A09), (4_095, 0x100F_0E0D),
@@ -128,6 +133,7 @@ fn one_gs_write() -> Point {
         ],
         steps: 8,
         packets: 1,
+        taken: [4, 3, 3],
         data: &[],
         code: &[],
         log: &[[2, 0x47, 0x8807_0605_0403_0201]],
@@ -153,6 +159,7 @@ fn code_at_2047() -> Point {
         ],
         steps: 10,
         packets: 0,
+        taken: [8, 3, 2],
         data: &[],
         code: &[
             (4_094, 0x0403_0201), (4_095, 0x0807_0605),
@@ -198,8 +205,10 @@ impl Point {
         self.memories(&case).write(&mut out);
 
         put_number(&mut out, 0);
-        put_number(&mut out, self.steps);
-        put_number(&mut out, self.packets);
+        let [words, nops, qwc] = self.taken;
+        let counts = [self.steps, self.packets, words, nops, 0, qwc];
+        counts.iter().for_each(|&n| put_number(&mut out, n));
+        (2..8).for_each(|_| put_number(&mut out, 0));
         let mut state = [0; STATE_WORDS];
         state[chain_word::CHANNEL] = 1;
         state[chain_word::TADR] = ADDRESS + length - 16;

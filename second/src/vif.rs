@@ -134,6 +134,8 @@ pub struct Taken {
     pub interrupt: bool,
     /// The quadword closed a packet on path 2.
     pub closed: bool,
+    /// The word was decoded as the code NOP.
+    pub nop: bool,
 }
 
 #[derive(Clone, Copy, PartialEq, Eq, Debug)]
@@ -259,6 +261,7 @@ pub fn take(
             quadword: false,
             interrupt: unit.waiting.is_none() && word >> 31 == 1,
             closed: false,
+            nop: matches!(Code::decode(unit.model, word), Ok(Code::Nop)),
         });
     };
     let direct = matches!(waiting.payload, Payload::Direct | Payload::Directhl);
@@ -266,6 +269,7 @@ pub fn take(
         quadword: direct,
         interrupt: false,
         closed: false,
+        nop: false,
     };
     match given {
         Given::Quadword(quadword) if direct => {

@@ -89,7 +89,7 @@ fn walk(random: &mut Random, case: &Case) -> Option<Case> {
     case.calls = case.calls.iter().map(bounded).collect();
     for _ in 0..MOST_STEPS {
         case.calls.extend([random_why(random), run(1)]);
-        if standing.run(1, |_, _, _| {}).steps == 0 {
+        if standing.run(1, |_, _, _| {}).counts.steps == 0 {
             break;
         }
     }
