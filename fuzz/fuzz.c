@@ -722,13 +722,14 @@ static void give_main(struct bytes *in, size_t bytes) {
 
 /* ---- The entry points ---- */
 
-/* The numbers of a result: the steps first, the packets closed last. */
-enum { RUN_RESULT = 2, BUILD_AND_RUN_RESULT = 3, WHY_RESULT = 4, CHECK_RESULT = TEJBORUN_CHECK_NUMBERS };
+/* The numbers of a result; the counts come last, their steps first. */
+enum { RUN_RESULT = TEJBORUN_COUNTS, BUILD_AND_RUN_RESULT = 1 + TEJBORUN_COUNTS, WHY_RESULT = 4, CHECK_RESULT = TEJBORUN_CHECK_NUMBERS };
 
 static void count_run(uint32_t answer, size_t numbers) {
     if (NUMBERS(RESULT) < numbers || WORDS(BLOCK) != TEJBORUN_BLOCK_WORDS || answer == TEJBORUN_SHORT) return;
     const uint64_t *result = PROVED(RESULT);
-    uint64_t steps = result[0], packets = result[numbers - 1];
+    const uint64_t *counts = result + numbers - TEJBORUN_COUNTS;
+    uint64_t steps = counts[0], packets = counts[1];
     const struct tejborun_state *state = PROVED(BLOCK);
     const struct tejborun_chain *chain = &state->chain;
     const struct tejborun_unit *unit = chain->channel == 0 ? &state->vif0 : &state->vif1;
@@ -737,6 +738,8 @@ static void count_run(uint32_t answer, size_t numbers) {
     completed += steps;
     closed += packets;
     show_kind(14, answer, magnitude(packets), chain->channel);
+    show_kind(20, magnitude(counts[2]), magnitude(counts[3]), chain->channel);
+    for (uint32_t i = 4; i < TEJBORUN_COUNTS; i++) show_kind(21, i, magnitude(counts[i]), chain->channel);
     show_kind(2, answer, magnitude(steps), unit->waiting);
     show_kind(3, answer, chain->channel * 8 + chain->tte * 4 + chain->depth, path2->place + 2 * path3->place);
     show_kind(4, unit->waiting, unit->format, unit->mode);
@@ -1166,6 +1169,43 @@ static void fuzz_check(struct bytes *in) {
     most(&longest_run, result[3]);
     show_kind(18, proved, named ? (uint32_t)result[0] : magnitude(result[0]), magnitude(result[3]));
     show_kind(19, proved, magnitude(result[1]), magnitude(result[2]) * 64 + magnitude(result[4]));
+    show_kind(22, proved, magnitude(result[5]), magnitude(result[6]));
+}
+
+/* A number for a sum: small, large, or what is left to 2^64 - 1 with a little more or less. */
+static uint64_t take_sum(struct bytes *in, uint64_t beside) {
+    uint32_t how = take8(in);
+    if (how < 96) return how % 8;
+    if (how < 160) return take64(in);
+    if (how < 224) return UINT64_MAX - beside + how % 4 - 1;
+    return (uint64_t)(1 + how % 3) << take8(in) % 64;
+}
+
+/* Up to four additions on the same totals, the share after each. The totals stand in the log's buffer, the counts in the second log's. */
+static void fuzz_totals(struct bytes *in) {
+    uint32_t how = take8(in), additions = 1 + take8(in) % 4;
+    size_t totals_numbers = how < 240 ? TEJBORUN_TOTALS : how % 16 + 4, counts_numbers = how == 239 ? take8(in) % 16 : TEJBORUN_COUNTS + how % 2;
+    uint64_t *totals = give(LOG, 8 * totals_numbers), *counts = give(LOG_B, 8 * counts_numbers);
+    fill(totals, 8 * totals_numbers, how);
+    give_result(how == 238 ? take8(in) % 4 : 2 + how % 2);
+    for (size_t i = 0; i < totals_numbers; i++) totals[i] = take_sum(in, 0);
+    for (; additions > 0; additions--) {
+        fill(counts, 8 * counts_numbers, how + additions);
+        for (size_t i = 0; i < counts_numbers; i++) counts[i] = take_sum(in, i > 0 && i <= totals_numbers ? totals[i - 1] : 0);
+        lend_all();
+        uint32_t proved = tejborun_add_totals(PROVED(LOG), NUMBERS(LOG), PROVED(LOG_B), NUMBERS(LOG_B));
+        agreed(proved, judge_add_totals(JUDGED(LOG), NUMBERS(LOG), JUDGED(LOG_B), NUMBERS(LOG_B)));
+        only_read(LOG_B);
+        if (proved != TEJBORUN_DONE) only_read(LOG);
+        keep_all();
+        lend_all();
+        proved = tejborun_nop_share(PROVED(LOG), NUMBERS(LOG), PROVED(RESULT), NUMBERS(RESULT));
+        agreed(proved, judge_nop_share(JUDGED(LOG), NUMBERS(LOG), JUDGED(RESULT), NUMBERS(RESULT)));
+        only_read(LOG);
+        if (proved == TEJBORUN_SHORT) only_read(RESULT);
+        const uint64_t *share = PROVED(RESULT);
+        if (proved == TEJBORUN_DONE) show_kind(23, magnitude(share[0]), magnitude(share[1]), 0);
+    }
 }
 
 /* A change to a buffer, where it has the place. */
@@ -1244,7 +1284,7 @@ static void fuzz_compare(struct bytes *in) {
 
 /* ---- The program ---- */
 
-enum { entry_build, entry_steps, entry_meaning, entry_salvage, entry_start, entry_set, entry_run, entry_why, entry_build_and_run, entry_check, entry_compare };
+enum { entry_build, entry_steps, entry_meaning, entry_salvage, entry_start, entry_set, entry_run, entry_why, entry_build_and_run, entry_check, entry_totals, entry_compare };
 
 static const struct {
     const char *name, *longest;
@@ -1260,6 +1300,7 @@ static const struct {
     {"why", "", fuzz_why},
     {"build_and_run", "longest run", fuzz_build_and_run},
     {"check", "longest run", fuzz_check},
+    {"totals", "", fuzz_totals},
     {"compare", "most differences", fuzz_compare},
 };
 

@@ -23,6 +23,8 @@ uint32_t judge_build_and_run(const uint8_t *sheet, size_t sheet_bytes, uint8_t *
                              uint64_t *result, size_t result_numbers);
 uint32_t judge_check(const uint8_t *sheet, size_t sheet_bytes, const uint8_t *main, size_t main_bytes, uint32_t *data, size_t data_words, uint8_t *code,
                      size_t code_bytes, uint64_t *log, size_t log_numbers, uint64_t allowance, uint64_t *result, size_t result_numbers);
+uint32_t judge_add_totals(uint64_t *totals, size_t totals_numbers, const uint64_t *counts, size_t counts_numbers);
+uint32_t judge_nop_share(const uint64_t *totals, size_t totals_numbers, uint64_t *result, size_t result_numbers);
 uint32_t judge_compare(const uint32_t *data1_a, size_t data1_a_words, const uint8_t *code1_a, size_t code1_a_bytes, const uint32_t *data0_a,
                        size_t data0_a_words, const uint8_t *code0_a, size_t code0_a_bytes, const uint64_t *log_a, size_t log_a_numbers, uint64_t used_a,
                        const uint32_t *data1_b, size_t data1_b_words, const uint8_t *code1_b, size_t code1_b_bytes, const uint32_t *data0_b,

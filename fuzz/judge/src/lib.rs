@@ -18,6 +18,8 @@ mod memory;
 mod model;
 #[path = "../../../second/src/refusals.rs"]
 mod refusals;
+#[path = "../../../second/src/run_counts.rs"]
+mod run_counts;
 #[path = "../../../second/src/salvage.rs"]
 mod salvage;
 #[path = "../../../second/src/set.rs"]
@@ -28,6 +30,8 @@ mod sheet;
 mod sheet_tree;
 #[path = "../../../second/src/state_block.rs"]
 mod state_block;
+#[path = "../../../second/src/totals.rs"]
+mod totals;
 #[path = "../../../second/src/vif.rs"]
 mod vif;
 #[path = "../../../second/src/vif_unpack.rs"]
@@ -47,8 +51,10 @@ use std::slice::{from_raw_parts, from_raw_parts_mut};
 
 const SHORT: u32 = 60;
 const REFUSED: u32 = 100;
-/// The numbers of a check's result.
-const CHECKED: usize = 5;
+/// The numbers of a run's counts, of a result of build and run, and of a check's.
+const COUNTS: usize = run_counts::NUMBERS;
+const BUILT_AND_RUN: usize = 1 + COUNTS;
+const CHECKED: usize = 3 + COUNTS;
 
 unsafe fn view<'a, T>(start: *const T, count: usize) -> &'a [T] {
     if count == 0 {
@@ -242,7 +248,7 @@ pub unsafe extern "C" fn judge_run(
     result: *mut u64,
     result_numbers: usize,
 ) -> u32 {
-    if result_numbers < 2 {
+    if result_numbers < COUNTS {
         return SHORT;
     }
     let Some(block) = lent_block(block, block_words) else {
@@ -255,7 +261,7 @@ pub unsafe extern "C" fn judge_run(
         log: lent(log, log_numbers),
     };
     let stop = run(&mut memories, block, allowance);
-    lent(result, result_numbers)[..2].copy_from_slice(&[stop.steps, stop.packets]);
+    lent(result, result_numbers)[..COUNTS].copy_from_slice(&stop.counts.numbers());
     stop.answer
 }
 
@@ -326,7 +332,7 @@ pub unsafe extern "C" fn judge_build_and_run(
     result: *mut u64,
     result_numbers: usize,
 ) -> u32 {
-    if result_numbers < 3 {
+    if result_numbers < BUILT_AND_RUN {
         return SHORT;
     }
     let Some(block) = lent_block(block, block_words) else {
@@ -335,7 +341,7 @@ pub unsafe extern "C" fn judge_build_and_run(
     let main = lent(main, main_bytes);
     let (data, code) = (lent(data, data_words), lent(code, code_bytes));
     let log = lent(log, log_numbers);
-    let result = &mut lent(result, result_numbers)[..3];
+    let result = &mut lent(result, result_numbers)[..BUILT_AND_RUN];
     result.fill(0);
     let lengths = Memories {
         main,
@@ -349,7 +355,7 @@ pub unsafe extern "C" fn judge_build_and_run(
     }
     if let Err((refusal, offset)) = build_and_start(view(sheet, sheet_bytes), main, address, block)
     {
-        result[1] = offset as u64;
+        result[0] = offset as u64;
         return refusal;
     }
     let mut memories = Memories {
@@ -359,7 +365,7 @@ pub unsafe extern "C" fn judge_build_and_run(
         log,
     };
     let stop = run(&mut memories, block, allowance);
-    (result[0], result[2]) = (stop.steps, stop.packets);
+    result[1..].copy_from_slice(&stop.counts.numbers());
     stop.answer
 }
 
@@ -390,15 +396,43 @@ pub unsafe extern "C" fn judge_check(
     };
     let checked = check::check(view(sheet, sheet_bytes), &mut memories, allowance);
     let verdict = checked.verdict;
-    let numbers = [
-        verdict.number(),
-        verdict.offset() as u64,
-        checked.used,
-        checked.steps,
-        checked.packets,
-    ];
-    lent(result, result_numbers)[..CHECKED].copy_from_slice(&numbers);
+    let result = &mut lent(result, result_numbers)[..CHECKED];
+    let head = [verdict.number(), verdict.offset() as u64, checked.used];
+    result[..3].copy_from_slice(&head);
+    result[3..].copy_from_slice(&checked.counts.numbers());
     verdict.kind()
+}
+
+#[no_mangle]
+pub unsafe extern "C" fn judge_add_totals(
+    sums: *mut u64,
+    sums_numbers: usize,
+    counts: *const u64,
+    counts_numbers: usize,
+) -> u32 {
+    let sums: Result<&mut totals::Totals, _> = lent(sums, sums_numbers).try_into();
+    let counts = view(counts, counts_numbers).first_chunk::<COUNTS>();
+    let (Ok(sums), Some(&counts)) = (sums, counts) else {
+        return SHORT;
+    };
+    let counts = run_counts::RunCounts::of_numbers(counts);
+    totals::add_totals(sums, &counts).err().unwrap_or(0)
+}
+
+#[no_mangle]
+pub unsafe extern "C" fn judge_nop_share(
+    sums: *const u64,
+    sums_numbers: usize,
+    result: *mut u64,
+    result_numbers: usize,
+) -> u32 {
+    let sums: Result<&totals::Totals, _> = view(sums, sums_numbers).try_into();
+    let (Ok(sums), true) = (sums, result_numbers >= 2) else {
+        return SHORT;
+    };
+    let (over, under) = totals::nop_share(sums);
+    lent(result, result_numbers)[..2].copy_from_slice(&[over, under]);
+    0
 }
 
 #[no_mangle]
