@@ -17,7 +17,7 @@ HOST = host/main.c host/identity.c host/options.c host/files.c host/output.c hos
 PREFIX = /usr/local
 DESTDIR =
 
-FUZZ_ENTRIES = build steps meaning salvage start set run why build_and_run check compare
+FUZZ_ENTRIES = build steps meaning salvage start set run why build_and_run check totals compare
 FUZZ_SECONDS = 1200
 FUZZ_CC = clang
 FUZZ_CFLAGS = -std=c11 -Wall -Wextra -Werror -O1 -g -fsanitize=fuzzer,address,undefined -fno-sanitize-recover=all
@@ -39,6 +39,7 @@ test:
 	$(SECOND) compare-sheet target/bin/sheet_replay 1,2,3 2000
 	$(SECOND) compare-salvage target/bin/salvage_replay 1,2,3 2000
 	$(SECOND) compare-check target/bin/check_replay 1,2,3 2000
+	$(SECOND) compare-totals target/bin/totals_replay 1,2,3 2000
 	$(MAKE) host-test
 	@tail -n 1 build/ci.log
 
