@@ -9,10 +9,10 @@ CC = cc
 CFLAGS = -std=c11 -Wall -Wextra -Werror -O2 -Ibuild -Ihost/libmd -DSHA256_ONLY
 SANITIZE = -g -fsanitize=address,undefined -fno-sanitize-recover=all
 HOST = host/main.c host/identity.c host/options.c host/files.c host/output.c host/numbers.c host/words.c host/message.c host/text.c host/fields.c host/shapes.c host/state_shape.c host/kinds.c host/parts.c host/board.c \
-	host/result.c host/capture.c host/records.c host/sheet.c host/salvage.c host/salvage_show.c host/run.c host/set.c host/why.c host/blame.c host/progress.c host/changes.c host/raw.c host/dumps.c host/verdict.c host/units.c host/check.c host/check_show.c host/compare.c host/compare_show.c host/compare_rack.c \
+	host/result.c host/counts.c host/totals.c host/capture.c host/records.c host/sheet.c host/salvage.c host/salvage_show.c host/run.c host/set.c host/why.c host/blame.c host/progress.c host/changes.c host/raw.c host/dumps.c host/verdict.c host/units.c host/check.c host/check_show.c host/compare.c host/compare_show.c host/compare_rack.c \
 	host/compare_json.c host/json.c host/report.c host/report_draw.c host/sum.c host/libmd/sha2.c host/roles.c host/dump.c host/dump_sheet.c host/dump_words.c \
-	host/dump_chain.c host/dump_result.c host/assemble.c host/assemble_sheet.c host/assemble_memory.c host/assemble_board.c \
-	host/assemble_capture.c host/assemble_result.c
+	host/dump_chain.c host/dump_result.c host/dump_totals.c host/assemble.c host/assemble_sheet.c host/assemble_memory.c host/assemble_board.c \
+	host/assemble_capture.c host/assemble_result.c host/assemble_totals.c
 
 PREFIX = /usr/local
 DESTDIR =

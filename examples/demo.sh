@@ -93,4 +93,9 @@ sed 's/word 0 0x3F800000 0 0x3F800000/word 0x3F800000 0 0 0/' "$here/supplier.ch
 show_different "$tejborun" check "$out/all-kinds.sheet" "$out/late.chain"
 show_different "$tejborun" check "$out/all-kinds.sheet" "$out/all-kinds.chain" "$out/supplier.chain" "$out/late.chain"
 
+echo "9. The month's totals: the runs of the captures and of the sheet that were played here, added at once."
+echo
+show "$tejborun" totals "$out/month.totals" add --new "$out/played.result" "$out/difference.capture" "$out/vif0.capture" "$out/paths.capture"
+show "$tejborun" totals "$out/month.totals"
+
 echo "Shown: a sheet's chain leaves what the sheet means, and a board that loses one count a vector is caught at its first vector."

@@ -26,5 +26,9 @@ printf 'edition 2\ngroup repeat=255 members=3\ngs\nwrite 5 6\ngroup repeat=0\nby
 "$command" dump chain "$out/../h" | seed 3 chain
 seed 3 chain-supplier < "$examples/supplier.chain.txt"
 printf 'state channel=1 waiting=UNPACK due=2 count=1 format=V4-32 path2.place=data path2.format=IMAGE\n' | seed 4 state
-head -c 2000 "$out/../c" | seed 5 capture-file
-head -c 2000 "$out/../r" | seed 6 result-file
+rm -f "$out/../t"
+"$command" totals "$out/../t" add --new "$out/../r" "$out/../c" > /dev/null
+"$command" dump "$out/../t" | seed 5 totals
+head -c 2000 "$out/../c" | seed 6 capture-file
+head -c 2000 "$out/../r" | seed 7 result-file
+seed 10 totals-file < "$out/../t"

@@ -5,36 +5,48 @@
 #include "../host/assemble.h"
 #include "../host/capture.h"
 #include "../host/command.h"
+#include "../host/totals.h"
 
 int LLVMFuzzerTestOneInput(const uint8_t *data, size_t size);
 
-static void parse(unsigned kind, const struct bytes *file, bool must)
+static int parse_a_capture(const struct bytes *file)
 {
     struct capture capture;
+    int status = parse_capture("fuzz", file, &capture);
+    if (status == STATUS_DONE)
+        free_capture(&capture);
+    return status;
+}
+
+static int parse_a_result(const struct bytes *file)
+{
     struct result result;
-    if (kind == 0) {
-        int status = parse_capture("fuzz", file, &capture);
-        if (status == STATUS_DONE)
-            free_capture(&capture);
-        else if (must)
-            abort();
-        return;
-    }
     int status = parse_result("fuzz", file, &result);
     if (status == STATUS_DONE)
         free_board(&result.board);
-    else if (must)
-        abort();
+    return status;
 }
+
+static int parse_some_totals(const struct bytes *file)
+{
+    struct totals totals;
+    return parse_totals("fuzz", file, &totals);
+}
+
+/* What is assembled, and how it is read again, where it is; the last ones are also read from any bytes. */
+enum { KINDS = 6, FILES = 3 };
+static int (*const assemblers[KINDS])(struct text *, struct output *) = {assemble_capture, assemble_result, assemble_sheet, assemble_chain, assemble_state,
+                                                                         assemble_totals};
+static int (*const parsers[KINDS])(const struct bytes *) = {parse_a_capture, parse_a_result, NULL, NULL, NULL, parse_some_totals};
+static int (*const files[FILES])(const struct bytes *) = {parse_a_capture, parse_a_result, parse_some_totals};
 
 static void assemble(unsigned kind, char *bytes)
 {
-    static int (*const kinds[5])(struct text *, struct output *) = {assemble_capture, assemble_result, assemble_sheet, assemble_chain, assemble_state};
     struct words_given given = {0};
     struct text text = {.name = "fuzz", .given = &given, .next = bytes};
     struct output output = {0};
-    if (kinds[kind](&text, &output) == STATUS_DONE && kind < 2)
-        parse(kind, &(struct bytes){output.at, output.count}, true);
+    if (assemblers[kind](&text, &output) == STATUS_DONE && parsers[kind] != NULL && parsers[kind](&(struct bytes){output.at, output.count}) != STATUS_DONE)
+        abort();
     free(output.at);
 }
 
@@ -46,11 +58,11 @@ int LLVMFuzzerTestOneInput(const uint8_t *data, size_t size)
     if (copy == NULL)
         abort();
     memcpy(copy, data + 1, size - 1);
-    unsigned kind = data[0] % 7;
-    if (kind < 5)
+    unsigned kind = data[0] % (KINDS + FILES);
+    if (kind < KINDS)
         assemble(kind, copy);
     else
-        parse(kind - 5, &(struct bytes){(uint8_t *)copy, size - 1}, false);
+        files[kind - KINDS](&(struct bytes){(uint8_t *)copy, size - 1});
     free(copy);
     return 0;
 }

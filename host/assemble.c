@@ -16,7 +16,7 @@ struct kind {
 };
 
 static const struct kind kinds[] = {
-    {"sheet", assemble_sheet}, {"chain", assemble_chain}, {"state", assemble_state}, {"capture", assemble_capture}, {"result", assemble_result},
+    {"sheet", assemble_sheet}, {"chain", assemble_chain}, {"state", assemble_state}, {"capture", assemble_capture}, {"result", assemble_result}, {"totals", assemble_totals},
 };
 
 enum { KINDS = sizeof kinds / sizeof kinds[0] };
@@ -49,7 +49,7 @@ int command_assemble(const struct words_given *given)
 {
     const struct kind *kind = find_kind(given->word[0]);
     if (kind == NULL)
-        return complain(given->word[0], "no kind of file; give sheet, chain, state, capture or result");
+        return complain(given->word[0], "no kind of file; give sheet, chain, state, capture, result or totals");
     if (kind->assemble != assemble_capture && raw_option(given))
         return complain(given->word[0], "takes no raw memories: --main, --data, --code, --data0, --code0 and --log belong to a capture");
     struct bytes file;

@@ -12,6 +12,7 @@ int assemble_chain(struct text *text, struct output *output);
 int assemble_state(struct text *text, struct output *output);
 int assemble_capture(struct text *text, struct output *output);
 int assemble_result(struct text *text, struct output *output);
+int assemble_totals(struct text *text, struct output *output);
 
 /* Reads a line of main memory: a tag, a code, a GIF tag, word, byte or at. A status; more: what a wrong line is told beside these, or null. */
 int memory_line(const struct text *text, const struct line *line, const char *more, struct output *output);

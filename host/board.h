@@ -73,14 +73,15 @@ struct board {
 struct result {
     unsigned parts; /* those that it has; the others are zero */
     uint32_t answer;
-    uint64_t steps, packets; /* completed, closed */
+    uint64_t counts[TEJBORUN_COUNTS]; /* of the last run */
     struct board board;
     char sum[SUM_TEXT]; /* of the file that it was read from */
 };
 
 /* The head of a result file; the parts that it has follow. */
 struct result_head {
-    uint32_t mark, answer, steps[2], packets[2];
+    uint32_t mark, answer;
+    uint32_t counts[TEJBORUN_COUNTS][2];
     struct tejborun_state state;
     uint32_t log_numbers;
     uint32_t parts;

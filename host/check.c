@@ -39,8 +39,7 @@ static void ask(const struct checks *checks, const struct bytes *file, struct ch
     chain->number = numbers[0];
     chain->offset = numbers[1];
     set_board_used(left, numbers[2]);
-    chain->steps = numbers[3];
-    chain->packets = numbers[4];
+    memcpy(chain->counts, numbers + 3, sizeof chain->counts);
 }
 
 /* How a chain ends that the library was asked of. */
@@ -58,13 +57,11 @@ static struct result run_again(const struct checks *checks, const struct bytes *
 {
     struct result result = {.parts = PARTS_ALL, .board = copy_board(&checks->start)};
     struct board *board = &result.board;
-    uint64_t numbers[2] = {0};
     tejborun_reset(board_block(board), TEJBORUN_BLOCK_WORDS);
     tejborun_start(board_block(board), TEJBORUN_BLOCK_WORDS, 1, 0, 0);
     result.answer = tejborun_run(file->at, file->count, board->data[VIF1], board->count.of[PART_DATA], board->code[VIF1], board->count.of[PART_CODE],
-                                 board->log, board->count.of[PART_LOG], board_block(board), TEJBORUN_BLOCK_WORDS, checks->allowance, numbers, 2);
-    result.steps = numbers[0];
-    result.packets = numbers[1];
+                                 board->log, board->count.of[PART_LOG], board_block(board), TEJBORUN_BLOCK_WORDS, checks->allowance, result.counts,
+                                 TEJBORUN_COUNTS);
     return result;
 }
 

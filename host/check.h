@@ -14,8 +14,7 @@ struct checked {
     enum chain_end end;
     size_t bytes;  /* of the file */
     uint32_t kind; /* the library's answer; what follows are its numbers */
-    uint64_t number, offset;
-    uint64_t steps, packets;
+    uint64_t number, offset, counts[TEJBORUN_COUNTS];
     struct board left; /* as the run left it */
     struct why why;    /* why the run was refused, where it was */
     int status;

@@ -3,6 +3,7 @@
 #include <stdio.h>
 
 #include "check.h"
+#include "counts.h"
 #include "json.h"
 #include "units.h"
 #include "words.h"
@@ -65,17 +66,18 @@ static void say_beside(uint64_t number, uint64_t ours, const char *less, const c
         say(", %" PRIu64 " %s than our chain's %" PRIu64, number < ours ? ours - number : number - ours, number < ours ? less : more, ours);
 }
 
-/* The chain's bytes, steps and packets; bytes and, of a run to the end, steps beside ours. */
+/* The chain's bytes and counts; bytes and, of a run to the end, steps beside ours. */
 static void show_size(const struct checks *checks, const struct checked *chain)
 {
-    char packets[PACKETS_TEXT];
-    packets_words(chain->packets, packets);
+    char traffic[TRAFFIC_TEXT];
+    uint64_t steps = chain->counts[TEJBORUN_COUNT_STEPS];
+    traffic_words(chain->counts, traffic);
     say("  %zu %s", chain->bytes, plural(chain->bytes, "byte", "bytes"));
     say_beside(chain->bytes, checks->bytes, "shorter", "longer", "as long");
-    say("\n  %" PRIu64 " %s", chain->steps, plural(chain->steps, "step", "steps"));
+    say("\n  %" PRIu64 " %s", steps, plural(steps, "step", "steps"));
     if (was_done(chain))
-        say_beside(chain->steps, checks->steps, "fewer", "more", "as many");
-    say("; %s\n", packets);
+        say_beside(steps, checks->steps, "fewer", "more", "as many");
+    say("; %s\n", traffic);
 }
 
 void show_chain(const struct checks *checks, const struct checked *chain)
@@ -121,7 +123,7 @@ void show_chain_row(const struct checks *checks, const struct checked *chain)
     difference_words(checks, chain, words);
     say("%-10s", ends[chain->end]);
     say_columns(chain->bytes, checks->bytes, true);
-    say_columns(chain->steps, checks->steps, was_done(chain));
+    say_columns(chain->counts[TEJBORUN_COUNT_STEPS], checks->steps, was_done(chain));
     say("%s%s\n", words[0] != 0 ? "  " : "", words);
 }
 
@@ -184,9 +186,10 @@ void show_chain_json(const struct checks *checks, const struct checked *chain)
     say(", \"verdict\": \"%s\", \"status\": %d", ends[chain->end], chain->status);
     if (chain->end == CHAIN_REFUSED)
         say(", \"refusal\": %" PRIu64 ", \"offset\": %" PRIu64, chain->number, chain->offset);
-    if (was_run(chain))
-        say(", \"bytes\": %zu, \"steps\": %" PRIu64 ", \"packets\": %" PRIu64 ", \"entries\": %" PRIu64, chain->bytes, chain->steps, chain->packets,
-            board_used(&chain->left));
+    if (was_run(chain)) {
+        say(", \"bytes\": %zu, \"entries\": %" PRIu64 ", \"steps\": %" PRIu64 ", ", chain->bytes, board_used(&chain->left), chain->counts[TEJBORUN_COUNT_STEPS]);
+        print_totals_json(totals_of(chain->counts));
+    }
     if (was_run(chain) && chain->end != CHAIN_ACCEPTED)
         say_json_difference(checks, chain);
     say("}");

@@ -29,6 +29,7 @@ enum option {
     OPTION_COL,
     OPTION_RANGES,
     OPTION_WHY,
+    OPTION_NEW,
     OPTIONS /* how many */
 };
 
@@ -53,7 +54,7 @@ struct words_given {
 
 /* Each does its command and hands back the exit status. */
 typedef int command_call(const struct words_given *given);
-command_call command_build, command_steps, command_salvage, command_meaning, command_run, command_why, command_play, command_check, command_set, command_compare, command_report, command_import, command_export, command_dump, command_assemble;
+command_call command_build, command_steps, command_salvage, command_meaning, command_run, command_why, command_play, command_check, command_set, command_compare, command_report, command_totals, command_import, command_export, command_dump, command_assemble;
 
 struct command {
     const char *name;

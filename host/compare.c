@@ -34,10 +34,11 @@ void path_alone_words(const struct found *found, char words[PATHS_TEXT])
 void result_words(const struct result *result, char words[RESULT_TEXT])
 {
     char packets[PACKETS_TEXT] = "";
-    if (result->packets > 0)
-        packets_words(result->packets, packets);
-    snprintf(words, RESULT_TEXT, "answer %" PRIu32 ", %s; %" PRIu64 " %s%s%s", result->answer, tejborun_message(result->answer), result->steps,
-             plural(result->steps, "step", "steps"), packets[0] != 0 ? "; " : "", packets);
+    uint64_t steps = result->counts[TEJBORUN_COUNT_STEPS], closed = result->counts[TEJBORUN_COUNT_PACKETS];
+    if (closed > 0)
+        packets_words(closed, packets);
+    snprintf(words, RESULT_TEXT, "answer %" PRIu32 ", %s; %" PRIu64 " %s%s%s", result->answer, tejborun_message(result->answer), steps,
+             plural(steps, "step", "steps"), packets[0] != 0 ? "; " : "", packets);
 }
 
 /* Says which parts are lacking. */

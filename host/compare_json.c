@@ -4,6 +4,7 @@
 #include <stdlib.h>
 
 #include "compare.h"
+#include "counts.h"
 #include "json.h"
 #include "units.h"
 
@@ -73,8 +74,9 @@ static void begin_json(const struct rack *rack)
 {
     printf("{\n  \"result\": {\"file\": ");
     print_json_text(stdout, rack->name);
-    printf(", \"answer\": %" PRIu32 ", \"steps\": %" PRIu64 ", \"packets\": %" PRIu64 "},\n  \"boards\": [\n", rack->result->answer, rack->result->steps,
-           rack->result->packets);
+    printf(", \"answer\": %" PRIu32 ", \"steps\": %" PRIu64 ", ", rack->result->answer, rack->result->counts[TEJBORUN_COUNT_STEPS]);
+    print_totals_json(totals_of(rack->result->counts));
+    printf("},\n  \"boards\": [\n");
 }
 
 int show_json(void *context, const struct rack *rack, const struct compared *compared)

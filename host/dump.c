@@ -20,7 +20,7 @@ struct kind {
 };
 
 static const struct kind kinds[] = {
-    {"sheet", dump_sheet}, {"chain", dump_chain}, {"state", dump_state}, {"capture", dump_capture}, {"result", dump_result},
+    {"sheet", dump_sheet}, {"chain", dump_chain}, {"state", dump_state}, {"capture", dump_capture}, {"result", dump_result}, {"totals", dump_totals},
 };
 
 enum { KINDS = sizeof kinds / sizeof kinds[0] };
@@ -30,7 +30,7 @@ static int dump_as(const char *kind, const char *name, const struct bytes *file)
     for (size_t i = 0; i < KINDS; i++)
         if (strcmp(kinds[i].name, kind) == 0)
             return kinds[i].dump(name, file);
-    return complain(kind, "no kind of file; give sheet, chain, state, capture or result");
+    return complain(kind, "no kind of file; give sheet, chain, state, capture, result or totals");
 }
 
 int command_dump(const struct words_given *given)

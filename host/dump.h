@@ -15,6 +15,7 @@ int dump_chain(const char *name, const struct bytes *file);
 int dump_state(const char *name, const struct bytes *file);
 int dump_capture(const char *name, const struct bytes *file);
 int dump_result(const char *name, const struct bytes *file);
+int dump_totals(const char *name, const struct bytes *file);
 
 /* Prints words of main memory by their roles. */
 void print_words(const uint32_t *words, const uint8_t *roles, size_t count);

@@ -40,6 +40,11 @@ static int complain_before_paths(const char *name, const char *kind)
                     "the GIF", kind, EARLIER_ENTRY_NUMBERS, TEJBORUN_ENTRY_NUMBERS);
 }
 
+static int complain_before_totals(const char *name, const char *kind)
+{
+    return complain(name, "a %s from before the totals: it has no counts of VIF words, NOPs and QWC; " WHAT_TO_DO, kind);
+}
+
 /* The marks of earlier layouts, and what is said of such a file. */
 static const struct earlier {
     char mark[5];
@@ -48,7 +53,7 @@ static const struct earlier {
 } earlier[] = {
     {"TCAP", "capture", complain_before_vif0},  {"TCA2", "capture", complain_before_vif0},   {"TRES", "result", complain_before_vif0},
     {"TRE2", "result", complain_before_vif0},   {"TRE3", "result", complain_before_packets}, {"TCA3", "capture", complain_before_paths},
-    {"TCP2", "capture", complain_before_paths}, {"TRE4", "result", complain_before_paths},
+    {"TCP2", "capture", complain_before_paths}, {"TRE4", "result", complain_before_paths},   {"TRE5", "result", complain_before_totals},
 };
 
 /* The earlier layout of a file; null where it has none. */
@@ -67,6 +72,8 @@ const char *kind_by_mark(const struct bytes *file)
         return "capture";
     if (has_mark(file, result_heads))
         return "result";
+    if (has_mark(file, totals_heads))
+        return "totals";
     if (file->count >= 2 && file->at[0] == 0x9E && file->at[1] == 0x51)
         return "sheet";
     return before != NULL ? before->kind : NULL;

@@ -42,9 +42,9 @@ static const struct command commands[] = {
      "Writes what the sheet says a board holds afterwards: its records fed to zero memories and an empty log.\n"},
     {"run", 1, 1, 0, TAKES(OPTION_OUTPUT) | TAKES(OPTION_ALLOWANCE) | TAKES(OPTION_FROM) | TAKES(OPTION_NO_START) | TAKES(OPTION_WHY), false,
      command_run, "run CAPTURE [-o RESULT] [--allowance N] [--from RESULT] [--no-start] [--why]",
-     "Makes the calls of a capture, prints the answer, the steps and the packets closed of each run, and writes what the last\n"
-     "call leaves, with these numbers of the last run. A packet is closed by the last data of a GIF tag with EOP, or by a GIF\n"
-     "tag with EOP and NLOOP 0.\n"
+     "Makes the calls of a capture, prints the answer and the counts of each run, and writes what the last call leaves, with these\n"
+     "numbers of the last run. The counts are the steps, the packets closed, the VIF words taken and the NOPs among them, and QWC\n"
+     "by tag ID. A packet is closed by the last data of a GIF tag with EOP, or by a GIF tag with EOP and NLOOP 0.\n"
      "  --allowance N  the step allowance of each run, in place of the capture's\n"
      "  --from RESULT  begins with the state, memories and log of a result, in place of the capture's zeros; memories that it\n"
      "                 lacks and no run works on are lacking afterwards too\n"
@@ -65,7 +65,7 @@ static const struct command commands[] = {
      "Nothing is written. The exit status is that of run.\n"},
     {"play", 1, 1, 0, TAKES(OPTION_OUTPUT), false, command_play, "play SHEET [-o RESULT]",
      "Builds the chain of a test sheet at address 0 and runs it from reset on channel 1, over zero memories and an empty log.\n"
-     "Prints the answer, the steps and the packets closed, as run does.\n"},
+     "Prints the answer and the counts, as run does.\n"},
     {"check", 2, SIZE_MAX, 0,
      TAKES(OPTION_OUTPUT) | TAKES(OPTION_DATA) | TAKES(OPTION_CODE) | TAKES(OPTION_ALLOWANCE) | TAKES(OPTION_QUIET) | TAKES(OPTION_JSON), false, command_check,
      "check SHEET CHAIN.. [--data FILE] [--code FILE] [--allowance N] [-o RESULT] [--quiet] [--json]",
@@ -107,26 +107,37 @@ static const struct command commands[] = {
     {"report", 2, SIZE_MAX, 0, TAKES(OPTION_OUTPUT) | TAKES(OPTION_FROM) | TAKES(OPTION_ONLY) | TAKES(OPTION_UNFINISHED), true, command_report,
      "report RESULT BOARD.. -o PAGE [--from RESULT] [--only PARTS] [--unfinished]",
      "Writes the comparison of boards with a result as one HTML page, to be looked at, printed on A4 and kept: verdicts, files with\n"
-     "their SHA-256, the answer, steps and packets closed of RESULT, the first differences, maps of the memories and a plot of\n"
+     "their SHA-256, the answer and the counts of RESULT, the first differences, maps of the memories and a plot of\n"
      "board minus result.\n"
      "  --from RESULT  the memories that the transfer began with, zeros otherwise; the maps show what it left as it was\n"
      "  --only PARTS   compares these alone, as compare does\n"
      "  --unfinished   compares also where RESULT is of a run that did not end with done (0)\n"},
+    {"totals", 1, SIZE_MAX, 2, TAKES(OPTION_NEW) | TAKES(OPTION_ALLOWANCE) | TAKES(OPTION_JSON), false, command_totals,
+     "totals FILE [add RESULT or CAPTURE.. [--new] [--allowance N]] [--json]",
+     "Keeps exact sums over many runs: QWC by tag ID, VIF words taken, NOPs and packets closed, and shows them with the NOP share,\n"
+     "NOPs over VIF words in lowest terms (0/1 where there are none).\n"
+     "  add            adds runs: of a result its last one, of a capture each, which it runs for that; whatever their answers\n"
+     "  --new          begins new totals; without it FILE has to be there\n"
+     "  --allowance N  the step allowance of each run of a capture, in place of the capture's\n"
+     "  --json         prints JSON\n"
+     "All files are added or none: where one cannot be read, or a sum would pass 2^64 - 1 (54), FILE stays as it was.\n"
+     "A VIF word is a step of one word, of either unit, tag words and payload included; a NOP is one that is decoded as that code.\n"
+     "A sheet's meaning and a board's own dumps have no such counts.\n"},
     {"import", 0, 0, 0, TAKES(OPTION_OUTPUT) | PART_FILES, true, command_import,
      "import -o RESULT [--data FILE] [--code FILE] [--data0 FILE] [--code0 FILE] [--log FILE]",
      "Makes a result of a board's own dumps, any of the five: the bytes of VIF1's data and code memory (16,384 each), of VIF0's\n"
      "(--data0, --code0; 4,096 each) and of the log, whole entries of 24: path, register and value, 64 bits each. All are\n"
-     "little-endian. The result says which parts it has; its answer, steps and packets closed are 0.\n"},
+     "little-endian. The result says which parts it has; its answer and its counts are 0.\n"},
     {"export", 1, 1, 0, TAKES(OPTION_MAIN) | PART_FILES, false, command_export,
      "export FILE [--main FILE] [--data FILE] [--code FILE] [--data0 FILE] [--code0 FILE] [--log FILE]",
      "Writes the memories and the log of a result as such dumps, of the log the entries used; of a capture those that it begins\n"
      "with, and its main memory.\n"},
     {"dump", 1, 2, 2, 0, false, command_dump, "dump [KIND] FILE",
-     "Prints a file as text (docs/TEXT.md). KIND is sheet, chain, state, capture or result; it may be left out where the file\n"
-     "begins with a mark (sheet, capture, result).\n"},
+     "Prints a file as text (docs/TEXT.md). KIND is sheet, chain, state, capture, result or totals; it may be left out where the\n"
+     "file begins with a mark (sheet, capture, result, totals).\n"},
     {"assemble", 2, 2, 1, TAKES(OPTION_OUTPUT) | TAKES(OPTION_MAIN) | PART_FILES, true, command_assemble,
      "assemble KIND TEXT -o FILE [--main FILE] [--data FILE] [--code FILE] [--data0 FILE] [--code0 FILE] [--log FILE]",
-     "Writes the file that a text describes (docs/TEXT.md). KIND is sheet, chain, state, capture or result.\n"
+     "Writes the file that a text describes (docs/TEXT.md). KIND is sheet, chain, state, capture, result or totals.\n"
      "  --main FILE, --data FILE, --code FILE, --data0 FILE, --code0 FILE, --log FILE\n"
      "                main memory, VIF1's and VIF0's memories and the log of a capture from a raw file, in place of lines\n"},
 };

@@ -8,7 +8,7 @@ _Static_assert(TEJBORUN_VIF1_CODE_BYTES == 16384 && TEJBORUN_VIF0_CODE_BYTES == 
 _Static_assert(TEJBORUN_ENTRY_NUMBERS == 3 && TEJBORUN_LOG_NUMBERS == 196608, "the words of TEJBORUN_BAD_LOG");
 _Static_assert(TEJBORUN_SHEET_BYTES == 131072, "the words of TEJBORUN_LONG_SHEET");
 _Static_assert(TEJBORUN_CHAIN_BYTES == 1048576, "the words of TEJBORUN_LONG_EXPANSION");
-_Static_assert(TEJBORUN_BLOCK_WORDS == 95, "the words of TEJBORUN_SHORT");
+_Static_assert(TEJBORUN_BLOCK_WORDS == 95 && TEJBORUN_TOTALS == 11, "the words of TEJBORUN_SHORT");
 
 static const char *const messages[] = {
     [TEJBORUN_DONE] = "done",
@@ -43,9 +43,10 @@ static const char *const messages[] = {
     [TEJBORUN_DEEP_GROUP] = "a group inside eight others",
     [TEJBORUN_BAD_NUMBER] = "the register's number is above 7; 0 to 3 are ROW, 4 to 7 are COL",
     [TEJBORUN_UNIT_WAITS] = "a code of this unit waits for payload",
+    [TEJBORUN_TOTAL_FULL] = "a total would pass 2^64 - 1",
     [TEJBORUN_LONG_KEPT] = "the records kept are longer than the output",
     [TEJBORUN_MANY_RANGES] = "more ranges were dropped than their list holds",
-    [TEJBORUN_SHORT] = "a state block that is not 95 words, or a result with too few numbers",
+    [TEJBORUN_SHORT] = "a state block that is not 95 words, totals that are not 11 numbers, or counts or a result with too few",
     [TEJBORUN_ALLOWANCE] = "the step allowance is used",
     [TEJBORUN_INTERRUPT] = "stopped at an interrupt mark",
 };

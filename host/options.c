@@ -33,6 +33,7 @@ static const struct option_shape shapes[OPTIONS] = {
     [OPTION_COL] = {"--col", "I=VALUE", false},
     [OPTION_RANGES] = {"--ranges", "FILE", false},
     [OPTION_WHY] = {"--why", NULL, false},
+    [OPTION_NEW] = {"--new", NULL, false},
 };
 
 enum option part_option(enum part part)

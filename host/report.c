@@ -9,6 +9,7 @@
 #include <time.h>
 
 #include "command.h"
+#include "counts.h"
 #include "identity.h"
 #include "json.h"
 #include "numbers.h"
@@ -71,6 +72,19 @@ static void print_answer(FILE *page, const struct result *result)
     char text[RESULT_TEXT];
     result_words(result, text);
     print_row(page, "its run", text, "answer");
+}
+
+/* The counts of the result's run and the NOP share, where it has some: a sheet's meaning and a board's own dumps have none. */
+static void print_run_counts(FILE *page, const struct result *result)
+{
+    char text[TRAFFIC_TEXT];
+    if (!has_counts(result->counts))
+        return;
+    traffic_words(result->counts, text);
+    print_row(page, "its counts", text, "counts");
+    struct share share = nop_share(totals_of(result->counts));
+    snprintf(text, sizeof text, "%" PRIu64 "/%" PRIu64, share.nops, share.words);
+    print_row(page, "NOP share", text, "share");
 }
 
 static const char *verdict_class(const struct compared *compared)
@@ -232,6 +246,7 @@ static void print_head(FILE *page, const struct rack *rack)
     print_row(page, "date", now, "date");
     print_file(page, "result", rack->name, rack->result);
     print_answer(page, rack->result);
+    print_run_counts(page, rack->result);
     print_row(page, "software", "tejborun " TEJBORUN_VERSION, "version");
     print_row(page, "proof", proof_identity(), "sum");
     print_row(page, "library's SHA-256", library_sum(), "sum");

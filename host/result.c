@@ -43,17 +43,18 @@ int board_fits(const char *name, const struct board *board)
 struct result_head result_head_of(const struct result *result)
 {
     struct result_head head = {.mark = result_heads[0].fixed, .answer = result->answer, .state = result->board.state, .parts = result->parts};
-    split_number(result->steps, head.steps);
-    split_number(result->packets, head.packets);
+    for (size_t i = 0; i < TEJBORUN_COUNTS; i++)
+        split_number(result->counts[i], head.counts[i]);
     head.log_numbers = (result->parts & PART_BIT(PART_LOG)) != 0 ? (uint32_t)result->board.count.of[PART_LOG] : 0;
     return head;
 }
 
 struct result result_of_head(const struct result_head *head, struct board board)
 {
-    return (struct result){
-        .parts = head->parts, .answer = head->answer, .steps = join_words(head->steps), .packets = join_words(head->packets), .board = board,
-    };
+    struct result result = {.parts = head->parts, .answer = head->answer, .board = board};
+    for (size_t i = 0; i < TEJBORUN_COUNTS; i++)
+        result.counts[i] = join_words(head->counts[i]);
+    return result;
 }
 
 struct bytes result_bytes(const struct result *result)

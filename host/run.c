@@ -8,9 +8,11 @@
 #include "capture.h"
 #include "changes.h"
 #include "command.h"
+#include "counts.h"
 #include "kinds.h"
 #include "numbers.h"
 #include "progress.h"
+#include "run.h"
 #include "sheet.h"
 #include "tejborun.h"
 #include "why.h"
@@ -24,12 +26,13 @@ static int status_of(uint32_t answer)
     return answer == TEJBORUN_ALLOWANCE || answer == TEJBORUN_INTERRUPT ? STATUS_STOPPED : STATUS_REFUSED;
 }
 
-/* The steps and the packets of a run, to the line's end. */
+/* The counts of a run, to the line's end. */
 static void print_counts(const struct result *result)
 {
-    char packets[PACKETS_TEXT];
-    packets_words(result->packets, packets);
-    say("%" PRIu64 " %s; %s\n", result->steps, plural(result->steps, "step", "steps"), packets);
+    char traffic[TRAFFIC_TEXT];
+    uint64_t steps = result->counts[TEJBORUN_COUNT_STEPS];
+    traffic_words(result->counts, traffic);
+    say("%" PRIu64 " %s; %s\n", steps, plural(steps, "step", "steps"), traffic);
 }
 
 static void print_run(const struct result *result)
@@ -38,11 +41,20 @@ static void print_run(const struct result *result)
     print_counts(result);
 }
 
-/* Each makes its call and hands back the answer; quiet: says it only where it is refused. */
-static uint32_t make_start(size_t number, const uint32_t *words, struct board *board, bool quiet)
+/* What is said of calls: all, starts and sets that are refused, or nothing. */
+enum said { SAID_ALL, SAID_REFUSED, SAID_NOTHING };
+
+/* Whether it is said that a start or a set has this answer. */
+static bool is_said(enum said said, uint32_t answer)
+{
+    return said == SAID_ALL || (said == SAID_REFUSED && answer != TEJBORUN_DONE);
+}
+
+/* Each makes its call and hands back the answer. */
+static uint32_t make_start(size_t number, const uint32_t *words, struct board *board, enum said said)
 {
     uint32_t answer = tejborun_start(board_block(board), TEJBORUN_BLOCK_WORDS, words[1], words[2], words[3]);
-    if (quiet && answer == TEJBORUN_DONE)
+    if (!is_said(said, answer))
         return answer;
     say("call %zu, start on channel %" PRIu32 " at 0x%" PRIX32 ", TTE %" PRIu32 ": answer %" PRIu32 ", %s%s\n", number, words[1], words[2], words[3],
         answer, answer == TEJBORUN_DONE ? "started" : "refused: ", answer == TEJBORUN_DONE ? "" : tejborun_message(answer));
@@ -51,12 +63,12 @@ static uint32_t make_start(size_t number, const uint32_t *words, struct board *b
     return answer;
 }
 
-static uint32_t make_set(size_t number, const uint32_t *words, struct board *board, bool quiet)
+static uint32_t make_set(size_t number, const uint32_t *words, struct board *board, enum said said)
 {
     char what[REGISTER_TEXT];
     register_words(words[1], words[2], what);
     uint32_t answer = tejborun_set(board_block(board), TEJBORUN_BLOCK_WORDS, words[1], words[2], words[3]);
-    if (quiet && answer == TEJBORUN_DONE)
+    if (!is_said(said, answer))
         return answer;
     say("call %zu, set %s to 0x%08" PRIX32 ": answer %" PRIu32 ", %s%s\n", number, what, words[3], answer, answer == TEJBORUN_DONE ? "set" : "refused: ",
         answer == TEJBORUN_DONE ? "" : tejborun_message(answer));
@@ -65,14 +77,17 @@ static uint32_t make_set(size_t number, const uint32_t *words, struct board *boa
     return answer;
 }
 
-/* What runs work on beside the board; whose memories they were lent, by VIF; and why the last one stopped. Quiet: nothing is said of runs and whys. */
+/* What runs work on beside the board; whose memories they were lent, by VIF; why the last one stopped; and what takes the counts of each, or null. */
 struct lent {
     const uint8_t *main;
     size_t main_bytes;
-    bool quiet;
+    enum said said;
     bool memories[VIFS];
     bool has_run;
     struct why why;
+    take_run *take;
+    void *context;
+    int taken; /* the status */
 };
 
 /* A long run is made in slices of so many steps, each on what the one before left, and their counts are added: the same as one run, also where it is
@@ -86,16 +101,17 @@ static void run_slices(uint64_t allowance, struct lent *lent, struct result *res
     enum vif vif = lent_vif(&board->state);
     const size_t *count = board->count.of;
     lent->memories[vif] = true;
-    result->steps = result->packets = 0;
+    uint64_t *counts = result->counts, *steps = &counts[TEJBORUN_COUNT_STEPS];
+    memset(counts, 0, sizeof result->counts);
     show_progress(0);
     do {
-        uint64_t rest = allowance - result->steps, numbers[2] = {0};
+        uint64_t rest = allowance - *steps, numbers[TEJBORUN_COUNTS] = {0};
         result->answer = tejborun_run(lent->main, lent->main_bytes, board->data[vif], count[data_of(vif)], board->code[vif], count[code_of(vif)], board->log,
-                                      count[PART_LOG], board_block(board), TEJBORUN_BLOCK_WORDS, rest < SLICE ? rest : SLICE, numbers, 2);
-        result->steps += numbers[0];
-        result->packets += numbers[1];
-        show_progress(result->steps);
-    } while (result->answer == TEJBORUN_ALLOWANCE && result->steps < allowance && !is_interrupted());
+                                      count[PART_LOG], board_block(board), TEJBORUN_BLOCK_WORDS, rest < SLICE ? rest : SLICE, numbers, TEJBORUN_COUNTS);
+        for (size_t i = 0; i < TEJBORUN_COUNTS; i++)
+            counts[i] += numbers[i];
+        show_progress(*steps);
+    } while (result->answer == TEJBORUN_ALLOWANCE && *steps < allowance && !is_interrupted());
     end_progress();
 }
 
@@ -121,13 +137,15 @@ static void make_run(size_t number, uint64_t allowance, struct lent *lent, struc
     run_slices(allowance, lent, result);
     lent->has_run = true;
     lent->why = ask_why(lent->main, lent->main_bytes, &result->board);
-    if (!lent->quiet)
+    if (lent->said == SAID_ALL)
         say_run(number, allowance, lent, result);
+    if (lent->take != NULL)
+        lent->taken = lent->take(lent->context, result->counts);
 }
 
 static void make_why(size_t number, const struct lent *lent, const struct board *board)
 {
-    if (lent->quiet)
+    if (lent->said != SAID_ALL)
         return;
     struct why why = ask_why(lent->main, lent->main_bytes, board);
     say("call %zu, ", number);
@@ -145,7 +163,7 @@ static int make_calls(const struct words_given *given, const struct capture *cap
 {
     int status = STATUS_DONE, last = STATUS_STOPPED;
     watch_interrupts();
-    for (size_t i = 0; i < capture->head.calls && !is_interrupted(); i++) {
+    for (size_t i = 0; i < capture->head.calls && !is_interrupted() && lent->taken == STATUS_DONE; i++) {
         const uint32_t *words = capture->call[i].words;
         uint64_t allowance = given->option[OPTION_ALLOWANCE] != NULL ? given->allowance : join_words(words + 1);
         if (is_left_out(given, words))
@@ -157,7 +175,7 @@ static int make_calls(const struct words_given *given, const struct capture *cap
         } else if (words[0] == CALL_WHY) {
             make_why(i, lent, &result->board);
         } else {
-            status = worse(status, status_of((words[0] == CALL_START ? make_start : make_set)(i, words, &result->board, lent->quiet)));
+            status = worse(status, status_of((words[0] == CALL_START ? make_start : make_set)(i, words, &result->board, lent->said)));
         }
     }
     unwatch_interrupts();
@@ -186,12 +204,13 @@ static void say_last_why(struct lent *lent, const struct board *board)
 static int run_capture(const struct words_given *given, const struct capture *capture, struct board *board, unsigned parts)
 {
     uint8_t *main = capture_main(capture);
-    struct lent lent = {.main = main, .main_bytes = capture->head.main_bytes, .quiet = given->option[OPTION_QUIET] != NULL};
+    struct lent lent = {.main = main, .main_bytes = capture->head.main_bytes};
+    lent.said = given->option[OPTION_QUIET] != NULL ? SAID_REFUSED : SAID_ALL;
     struct result result = {.parts = parts, .board = copy_board(board)};
     int status = make_calls(given, capture, &lent, &result);
     if (!lent.memories[VIF0] && !lent.memories[VIF1])
         lent.memories[lent_vif(&result.board.state)] = true;
-    if (!lent.quiet)
+    if (lent.said == SAID_ALL)
         print_changes(board, &result.board, lent.memories);
     if (given->option[OPTION_WHY] != NULL)
         say_last_why(&lent, &result.board);
@@ -199,6 +218,17 @@ static int run_capture(const struct words_given *given, const struct capture *ca
     free(main);
     free_board(&result.board);
     return status;
+}
+
+int run_for_counts(const struct words_given *given, const struct capture *capture, take_run *take, void *context)
+{
+    uint8_t *main = capture_main(capture);
+    struct lent lent = {.main = main, .main_bytes = capture->head.main_bytes, .said = SAID_NOTHING, .take = take, .context = context};
+    struct result result = {.parts = PARTS_ALL, .board = copy_board(&capture->board)};
+    make_calls(given, capture, &lent, &result);
+    free(main);
+    free_board(&result.board);
+    return lent.taken == STATUS_DONE && is_interrupted() ? STATUS_STOPPED : lent.taken;
 }
 
 /* Whether the capture begins with anything but zero memories, an empty log and the reset state. */
@@ -270,19 +300,18 @@ static int play_sheet(const struct words_given *given, const struct bytes *sheet
 {
     static const bool lent[VIFS] = {[VIF1] = true};
     struct board *board = &result->board;
-    uint64_t numbers[3] = {0};
+    uint64_t numbers[1 + TEJBORUN_COUNTS] = {0};
     uint8_t *main = allocate(TEJBORUN_MAIN_BYTES, 1);
     tejborun_reset(board_block(board), TEJBORUN_BLOCK_WORDS);
     result->answer = tejborun_build_and_run(sheet->at, sheet->count, main, TEJBORUN_MAIN_BYTES, 0, board->data[VIF1], board->count.of[PART_DATA],
                                             board->code[VIF1], board->count.of[PART_CODE], board->log, board->count.of[PART_LOG], board_block(board),
-                                            TEJBORUN_BLOCK_WORDS, UINT64_MAX, numbers, 3);
+                                            TEJBORUN_BLOCK_WORDS, UINT64_MAX, numbers, 1 + TEJBORUN_COUNTS);
     free(main);
     if (is_sheet_refusal(result->answer) && is_text(sheet))
         complain(given->word[0], "it is text; assemble it first: tejborun assemble sheet %s -o SHEET", given->word[0]);
     if (is_sheet_refusal(result->answer))
-        return sheet_refused(given->word[0], result->answer, numbers[1]);
-    result->steps = numbers[0];
-    result->packets = numbers[2];
+        return sheet_refused(given->word[0], result->answer, numbers[0]);
+    memcpy(result->counts, numbers + 1, sizeof result->counts);
     print_run(result);
     print_changes(before, board, lent);
     return worse(status_of(result->answer), keep_result(given, result));

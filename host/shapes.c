@@ -181,11 +181,18 @@ const struct shape capture_heads[] = {
     END,
 };
 
+/* The sums of QWC by the tags' IDs, as numbers of counts or totals from one on. */
+#define QWC_FIELDS(FIELD, of, from)                                                                                                               \
+    FIELD("qwc.refe", of[from + 0], 0), FIELD("qwc.cnt", of[from + 1], 0), FIELD("qwc.next", of[from + 2], 0), FIELD("qwc.ref", of[from + 3], 0), \
+        FIELD("qwc.refs", of[from + 4], 0), FIELD("qwc.call", of[from + 5], 0), FIELD("qwc.ret", of[from + 6], 0), FIELD("qwc.end", of[from + 7], 0)
+
 #define RESULT(name, member, flags) MEMBER(struct result_text, name, member, flags, NULL)
 
 /* The state block has lines of its own. */
 #define RESULT_FIELDS                                                                                                                             \
-    RESULT("answer", head.answer, FIELD_SHOWN), RESULT("steps", head.steps, FIELD_SHOWN), RESULT("packets", head.packets, FIELD_SHOWN),           \
+    RESULT("answer", head.answer, FIELD_SHOWN), RESULT("steps", head.counts[TEJBORUN_COUNT_STEPS], FIELD_SHOWN),                                  \
+        RESULT("packets", head.counts[TEJBORUN_COUNT_PACKETS], FIELD_SHOWN), RESULT("words", head.counts[TEJBORUN_COUNT_WORDS], 0),               \
+        RESULT("nops", head.counts[TEJBORUN_COUNT_NOPS], 0), QWC_FIELDS(RESULT, head.counts, TEJBORUN_COUNT_QWC),                                 \
         RESULT("log-entries", log.entries, FIELD_SHOWN), RESULT("log-numbers", log.numbers, FIELD_BEFORE)
 
 /* The sets of parts by their sums: those of VIF1's memories and the log, alone and with VIF0's. */
@@ -198,12 +205,27 @@ static const struct names parts = {PARTS_ALL + 1, parts_texts};
 static const struct field result_head[] = {RESULT_FIELDS};
 static const struct field partial_result_head[] = {RESULT_FIELDS, MEMBER(struct result_text, "parts", head.parts, FIELD_SHOWN, &parts)};
 
-#define RESULT_MARK UINT32_C(0x35455254)
+#define RESULT_MARK UINT32_C(0x36455254)
 enum { RESULT_WORDS = TEJBORUN_WORDS_OF(struct result_text) };
 
 const struct shape result_heads[] = {
     {"result", RESULT_WORDS, UINT32_MAX, RESULT_MARK, LIST(result_head)},
     {"result", RESULT_WORDS, UINT32_MAX, RESULT_MARK, LIST(partial_result_head)},
+    END,
+};
+
+#define TOTALS(name, member, flags) MEMBER(struct totals_file, name, member, flags, NULL)
+
+static const struct field totals_head[] = {
+    TOTALS("runs", runs, FIELD_SHOWN),
+    TOTALS("packets", total[TEJBORUN_TOTAL_PACKETS], FIELD_SHOWN),
+    TOTALS("words", total[TEJBORUN_TOTAL_WORDS], FIELD_SHOWN),
+    TOTALS("nops", total[TEJBORUN_TOTAL_NOPS], FIELD_SHOWN),
+    QWC_FIELDS(TOTALS, total, TEJBORUN_TOTAL_QWC),
+};
+
+const struct shape totals_heads[] = {
+    {"totals", TEJBORUN_WORDS_OF(struct totals_file), UINT32_MAX, UINT32_C(0x314C5454), LIST(totals_head)},
     END,
 };
 

@@ -5,6 +5,7 @@
 #include "board.h"
 #include "capture.h"
 #include "fields.h"
+#include "totals.h"
 
 extern const struct shape dma_tags[];     /* by ID: every tag fits one */
 extern const struct shape vif_codes[];    /* a word that fits none is no code */
@@ -13,6 +14,7 @@ extern const struct shape record_heads[]; /* a sheet's, two words of which the l
 extern const struct shape calls[];        /* a capture's */
 extern const struct shape capture_heads[]; /* of a capture, and of a test case */
 extern const struct shape result_heads[];  /* of a whole result, and of one that lacks parts; they have one mark */
+extern const struct shape totals_heads[];  /* one: a totals file is nothing else */
 extern const struct shape state_blocks[];
 
 /* The length of a log in text: whole entries and the numbers beyond them; or, in text from before, the numbers, EARLIER_ENTRY_NUMBERS an entry. */

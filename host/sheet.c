@@ -126,7 +126,7 @@ static int feed_sheet(const char *name, const struct bytes *sheet, struct result
 {
     struct board *board = &result->board;
     uint64_t numbers[2] = {0};
-    int status = count_steps(name, sheet, &result->steps);
+    int status = count_steps(name, sheet, &result->counts[TEJBORUN_COUNT_STEPS]);
     if (status != STATUS_DONE)
         return status;
     tejborun_reset(board_block(board), TEJBORUN_BLOCK_WORDS);
@@ -148,9 +148,10 @@ int command_meaning(const struct words_given *given)
     status = feed_sheet(given->word[0], &sheet, &result);
     if (status == STATUS_DONE)
         status = write_result(given->option[OPTION_OUTPUT], &result);
+    uint64_t steps = result.counts[TEJBORUN_COUNT_STEPS];
     if (status == STATUS_DONE)
-        say("%s: the sheet's meaning, %" PRIu64 " %s, %" PRIu64 " log %s\n", given->option[OPTION_OUTPUT], result.steps, plural(result.steps, "step", "steps"),
-               board_used(&result.board), plural(board_used(&result.board), "entry", "entries"));
+        say("%s: the sheet's meaning, %" PRIu64 " %s, %" PRIu64 " log %s\n", given->option[OPTION_OUTPUT], steps, plural(steps, "step", "steps"),
+            board_used(&result.board), plural(board_used(&result.board), "entry", "entries"));
     free_board(&result.board);
     free(sheet.at);
     return status;

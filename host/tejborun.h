@@ -25,7 +25,7 @@
 extern "C" {
 #endif
 
-#define TEJBORUN_VERSION "0.3.0"
+#define TEJBORUN_VERSION "0.4.0"
 
 /* The memories of each VIF, and the lengths in which they are lent. */
 #define TEJBORUN_VIF1_QUADWORDS 1024u    /* of data memory */
@@ -48,6 +48,22 @@ extern "C" {
 #define TEJBORUN_MAIN_BYTES 1048576u  /* most bytes of main memory */
 #define TEJBORUN_SHEET_BYTES 131072u  /* most bytes of a sheet */
 #define TEJBORUN_CHAIN_BYTES 1048576u /* most bytes of a sheet's chain, groups expanded and the end tag included */
+
+/* The counts of a run, over its completed steps. VIF words are steps of one word, of either unit, tag words and payload included; a quadword that DIRECT or
+ * DIRECTHL takes is none. NOPs are words that are decoded as that code, whatever their other bits, and no words of payload. QWC is summed by the tag's ID, 0 to 7,
+ * each tag's whole in the step that reads it. Totals are the same sums over any runs, without the steps. */
+#define TEJBORUN_COUNT_STEPS 0u
+#define TEJBORUN_COUNT_PACKETS 1u
+#define TEJBORUN_COUNT_WORDS 2u
+#define TEJBORUN_COUNT_NOPS 3u
+#define TEJBORUN_COUNT_QWC 4u /* of ID 0; those of 1 to 7 follow */
+#define TEJBORUN_COUNTS 12u
+#define TEJBORUN_TOTAL_PACKETS 0u
+#define TEJBORUN_TOTAL_WORDS 1u
+#define TEJBORUN_TOTAL_NOPS 2u
+#define TEJBORUN_TOTAL_QWC 3u
+#define TEJBORUN_TOTALS 11u
+#define TEJBORUN_TAG_IDS 8u
 
 /* The answers: the scope document's numbers, and TEJBORUN_SHORT. */
 enum tejborun_answer {
@@ -96,11 +112,15 @@ enum tejborun_answer {
     TEJBORUN_BAD_NUMBER = 50, /* the number of a register above 7 */
     TEJBORUN_UNIT_WAITS = 51, /* a code of the unit waits for payload */
 
+    /* totals */
+    TEJBORUN_TOTAL_FULL = 54, /* a sum would pass 2^64 - 1 */
+
     /* salvage */
     TEJBORUN_LONG_KEPT = 55,   /* the records kept are longer than the output */
     TEJBORUN_MANY_RANGES = 56, /* more ranges were dropped than their list holds */
 
-    TEJBORUN_SHORT = 60, /* a state block that is not TEJBORUN_BLOCK_WORDS, or a result with fewer numbers than stated: nothing is changed */
+    TEJBORUN_SHORT = 60, /* a state block that is not TEJBORUN_BLOCK_WORDS, totals that are not TEJBORUN_TOTALS, or counts or a result with fewer numbers than
+                          * stated: nothing is changed */
 
     TEJBORUN_ALLOWANCE = 90, /* the allowance is used */
     TEJBORUN_INTERRUPT = 91  /* stopped at an interrupt mark */
@@ -162,7 +182,7 @@ uint32_t tejborun_start(uint32_t *block, size_t block_words, uint32_t channel, u
 uint32_t tejborun_set(uint32_t *block, size_t block_words, uint32_t unit, uint32_t number, uint32_t value);
 
 /* Runs the chain for at most so many steps. It is lent the memories of the state's channel: VIF0's where the block's channel is 0, VIF1's where it is anything
- * else. Answers 0, 90, 91 or the refusal. result[0]: the steps completed; result[1]: the packets closed, by GIF quadwords among these steps: the last data
+ * else. Answers 0, 90, 91 or the refusal. result[0] to result[11]: the counts, TEJBORUN_COUNTS of them; a packet is closed by a GIF quadword: the last data
  * quadword of a tag with EOP, or a tag with EOP and NLOOP 0. */
 uint32_t tejborun_run(const uint8_t *main, size_t main_bytes, uint32_t *data, size_t data_words, uint8_t *code, size_t code_bytes, uint64_t *log,
                       size_t log_numbers, uint32_t *block, size_t block_words, uint64_t allowance, uint64_t *result, size_t result_numbers);
@@ -187,8 +207,8 @@ uint32_t tejborun_why(const uint8_t *main, size_t main_bytes, const uint32_t *da
                       const uint64_t *log, size_t log_numbers, const uint32_t *block, size_t block_words, uint64_t *result, size_t result_numbers);
 
 /* Builds a sheet's chain at an address in main memory, starts it on channel 1 and runs it; it is lent VIF1's memories, whatever channel the block holds.
- * Answers the run's answer, or, before any memory is changed, 1 to 5 or the builder's refusal. result[0]: the steps completed; result[1]: the offset of the
- * refused record, 0 where there is none; result[2]: the packets closed, as of a run. */
+ * Answers the run's answer, or, before any memory is changed, 1 to 5 or the builder's refusal. result[0]: the offset of the refused record, 0 where there is
+ * none; result[1] to result[12]: the counts of the run. */
 uint32_t tejborun_build_and_run(const uint8_t *sheet, size_t sheet_bytes, uint8_t *main, size_t main_bytes, uint32_t address, uint32_t *data,
                                 size_t data_words, uint8_t *code, size_t code_bytes, uint64_t *log, size_t log_numbers, uint32_t *block,
                                 size_t block_words, uint64_t allowance, uint64_t *result, size_t result_numbers);
@@ -206,8 +226,8 @@ uint32_t tejborun_build_and_run(const uint8_t *sheet, size_t sheet_bytes, uint8_
  *   TEJBORUN_CHECK_ACCEPTED     nothing does.
  * The chain that tejborun_build makes of the sheet is accepted where allowance and log suffice. But where refused, memories and log are left as the run left them.
  * result[0]: the refusal; the run's answer; the lowest quadword, instruction or entry that differs; of TEJBORUN_CHECK_ENTRIES the run's number of entries; 0 where
- * accepted. result[1]: the offset of the refused record, 0 where there is none. result[2]: the entries used by the run; result[3]: the steps completed;
- * result[4]: the packets closed; these three are 0 where refused. */
+ * accepted. result[1]: the offset of the refused record, 0 where there is none. result[2]: the entries used by the run; result[3] to result[14]: its counts; these
+ * are 0 where refused. */
 #define TEJBORUN_CHECK_ACCEPTED 0u
 #define TEJBORUN_CHECK_REFUSED 1u
 #define TEJBORUN_CHECK_ANSWER 2u
@@ -215,9 +235,17 @@ uint32_t tejborun_build_and_run(const uint8_t *sheet, size_t sheet_bytes, uint8_
 #define TEJBORUN_CHECK_INSTRUCTION 4u
 #define TEJBORUN_CHECK_ENTRY 5u
 #define TEJBORUN_CHECK_ENTRIES 6u
-#define TEJBORUN_CHECK_NUMBERS 5u
+#define TEJBORUN_CHECK_NUMBERS (3u + TEJBORUN_COUNTS)
 uint32_t tejborun_check(const uint8_t *sheet, size_t sheet_bytes, const uint8_t *main, size_t main_bytes, uint32_t *data, size_t data_words, uint8_t *code,
                         size_t code_bytes, uint64_t *log, size_t log_numbers, uint64_t allowance, uint64_t *result, size_t result_numbers);
+
+/* Adds the counts of a run to totals, which have exactly TEJBORUN_TOTALS numbers. Answers 0; 54 where any sum would pass 2^64 - 1, and then no sum changes; or
+ * TEJBORUN_SHORT, also for counts of fewer than TEJBORUN_COUNTS numbers. The steps have no part in it. */
+uint32_t tejborun_add_totals(uint64_t *totals, size_t totals_numbers, const uint64_t *counts, size_t counts_numbers);
+
+/* The NOP share of totals, NOPs over VIF words in lowest terms. Answers 0 or TEJBORUN_SHORT. result[0] over result[1]: 0 over 1 where there are no words. The
+ * numbers of a run's counts from TEJBORUN_COUNT_PACKETS on are totals of that run alone. */
+uint32_t tejborun_nop_share(const uint64_t *totals, size_t totals_numbers, uint64_t *result, size_t result_numbers);
 
 /* What of two boards is compared: a sum of these. */
 #define TEJBORUN_PART_VIF1_DATA 1u

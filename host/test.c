@@ -108,7 +108,7 @@ struct lengths {
 enum { ENTRIES = 32 }; /* of a log */
 
 /* The numbers that are written: by a sheet's meaning, by a run, and by build and run, the most of a good result. */
-enum { MEANING_NUMBERS = 2, RUN_NUMBERS = 2, BUILD_AND_RUN_NUMBERS = 3 };
+enum { MEANING_NUMBERS = 2, RUN_NUMBERS = TEJBORUN_COUNTS, BUILD_AND_RUN_NUMBERS = 1 + TEJBORUN_COUNTS };
 
 static const struct lengths good = {
     256, TEJBORUN_VIF1_DATA_WORDS, TEJBORUN_VIF1_CODE_BYTES, ENTRIES * TEJBORUN_ENTRY_NUMBERS, TEJBORUN_BLOCK_WORDS, BUILD_AND_RUN_NUMBERS,
@@ -217,14 +217,14 @@ static bool kept_from(const struct bench *bench, size_t number)
 static bool ran(const struct bench *bench, uint64_t steps, uint64_t packets)
 {
     const uint64_t *result = numbers(&bench->lent[RESULT]);
-    return result[0] == steps && result[1] == packets && kept_from(bench, RUN_NUMBERS);
+    return result[TEJBORUN_COUNT_STEPS] == steps && result[TEJBORUN_COUNT_PACKETS] == packets && kept_from(bench, RUN_NUMBERS);
 }
 
 /* The same of build and run, with the offset of the refused record. */
 static bool built_and_ran(const struct bench *bench, uint64_t steps, uint64_t offset, uint64_t packets)
 {
-    const uint64_t *result = numbers(&bench->lent[RESULT]);
-    return result[0] == steps && result[1] == offset && result[2] == packets && kept_from(bench, BUILD_AND_RUN_NUMBERS);
+    const uint64_t *result = numbers(&bench->lent[RESULT]), *counts = result + 1;
+    return result[0] == offset && counts[TEJBORUN_COUNT_STEPS] == steps && counts[TEJBORUN_COUNT_PACKETS] == packets && kept_from(bench, BUILD_AND_RUN_NUMBERS);
 }
 
 static uint32_t call_meaning(struct bench *bench, uint64_t used)
@@ -274,6 +274,11 @@ static const uint8_t sheet[] = {
 };
 /* One number for each record, and one for the end tag; the GS record is a packet, which its last step closes. */
 enum { GS_END = 13 + 9 + 8, SHEET_STEPS = GS_END + 5 + 1, SHEET_CHAIN = 16 * (4 + 3 + 5 + 2 + 1), SHEET_ENTRIES = 3, SHEET_PACKETS = 1 };
+
+/* The counts of its run: five tags, three GIF quadwords, the other steps VIF words; NOPs before the codes and behind the instruction. */
+static const uint64_t sheet_counts[TEJBORUN_COUNTS] = {
+    SHEET_STEPS, SHEET_PACKETS, SHEET_STEPS - 5 - 3, 1 + 3 + 2 + 3 + 3, 0, SHEET_CHAIN / 16 - 5,
+};
 
 /* Whether the bench holds what the sheet means, its log entries from one on. */
 static bool holds_meaning(const struct bench *bench, size_t from)
@@ -1129,6 +1134,190 @@ static size_t set_word(uint32_t unit, uint32_t number)
 }
 _Static_assert(WORD(vif1.col) == WORD(vif1.row) + TEJBORUN_COL && WORD(vif0.col) == WORD(vif0.row) + TEJBORUN_COL, "COL lies behind ROW");
 
+/* What a step counts beside itself: a tag's QWC by its ID, a word, a word that is a NOP, or a quadword that closes a packet or does not. */
+enum counted { WORD_STEP = 8, NOP_STEP, QUADWORD_STEP, CLOSING_STEP };
+
+struct step {
+    unsigned what; /* a tag's ID, or one of the above */
+    uint64_t qwc;  /* of a tag */
+};
+
+/* The counts of the first steps. */
+static void count_steps(const struct step *steps, size_t from, size_t to, uint64_t counts[TEJBORUN_COUNTS])
+{
+    memset(counts, 0, TEJBORUN_COUNTS * sizeof *counts);
+    for (size_t i = from; i < to; i++) {
+        counts[TEJBORUN_COUNT_STEPS]++;
+        if (steps[i].what < TEJBORUN_TAG_IDS)
+            counts[TEJBORUN_COUNT_QWC + steps[i].what] += steps[i].qwc;
+        counts[TEJBORUN_COUNT_WORDS] += steps[i].what == WORD_STEP || steps[i].what == NOP_STEP;
+        counts[TEJBORUN_COUNT_NOPS] += steps[i].what == NOP_STEP;
+        counts[TEJBORUN_COUNT_PACKETS] += steps[i].what == CLOSING_STEP;
+    }
+}
+
+/* A chain whose steps are known, and the answer where it ends. */
+struct counted_chain {
+    uint32_t start[3]; /* channel, TADR, TTE */
+    const uint32_t *words;
+    size_t count, steps;
+    const struct step *step;
+    uint32_t answer;
+};
+
+/* Runs a counted chain with an allowance, then to its end: the counts of each run are those of its own steps. */
+static void try_counts(const struct counted_chain *chain, size_t allowance, bool end)
+{
+    struct bench bench;
+    struct lengths lengths = chain->start[0] == 0 ? good0 : good;
+    uint64_t counts[TEJBORUN_COUNTS];
+    lengths.main = 4 * chain->count;
+    new_bench(&bench, lengths, NULL, 0, end);
+    memcpy(bench.lent[MAIN].at, chain->words, lengths.main);
+    CHECK(tejborun_start(words(&bench.lent[BLOCK]), TEJBORUN_BLOCK_WORDS, chain->start[0], chain->start[1], chain->start[2]) == TEJBORUN_DONE);
+    remember_all(&bench);
+    size_t most = allowance < chain->steps ? allowance : chain->steps;
+    uint32_t answer = call_run(&bench, allowance);
+    CHECK(answer == (most < chain->steps || (allowance == chain->steps && chain->answer != TEJBORUN_DONE) ? TEJBORUN_ALLOWANCE : chain->answer));
+    count_steps(chain->step, 0, most, counts);
+    CHECK(memcmp(numbers(&bench.lent[RESULT]), counts, sizeof counts) == 0 && kept_from(&bench, RUN_NUMBERS));
+    CHECK(call_run(&bench, UINT64_MAX) == chain->answer);
+    count_steps(chain->step, most, chain->steps, counts);
+    CHECK(memcmp(numbers(&bench.lent[RESULT]), counts, sizeof counts) == 0 && kept_from(&bench, RUN_NUMBERS));
+    free_bench(&bench);
+}
+
+/* Tags of every ID with their words transferred: NOPs with other bits set, words of payload that are zero, in the tag too, and a quadword inside DIRECT. */
+static const uint32_t counted_words[] = {
+    0x10000001, 0, 0x00FF8009, 0x07000001, 0, 0x30000000, 0, 0,                            /* 0x00: cnt; NOP, MARK; NOP, STROW and two of its words */
+    0x20000002, 0x60, 0, 0, 0, 0, 0, 0x50000001, 0x8000, 0, 0, 0, 0, 0, 0, 0,              /* 0x20: next; the other two; NOPs, DIRECT, a GIF tag that closes */
+    0x30000001, 0x100, 0, 0, 0x40000001, 0x100, 0, 0,                                      /* 0x60: ref; 0x70: refs */
+    0x50000001, 0xC0, 0, 0, 0, 0, 0, 0, 0x00000001, 0x100, 0, 0, 0, 0, 0, 0,               /* 0x80: call; 0xA0: refe, the last tag */
+    0x60000001, 0, 0, 0, 0x07000001, 0x07000002, 0x07000003, 0x07000004, 0, 0, 0, 0, 0, 0, 0, 0, /* 0xC0: ret */
+    0, 0x07000005, 0x04000006, 0,                                                          /* 0x100: what ref, refs and refe refer to */
+};
+
+#define NOPS_2 {NOP_STEP, 0}, {NOP_STEP, 0}
+#define WORDS_2 {WORD_STEP, 0}, {WORD_STEP, 0}
+#define REFERRED {NOP_STEP, 0}, WORDS_2, {NOP_STEP, 0}
+
+static const struct step counted_steps[] = {
+    {1, 1}, {NOP_STEP, 0}, {WORD_STEP, 0}, {NOP_STEP, 0}, {WORD_STEP, 0}, WORDS_2,
+    {2, 2}, WORDS_2, {NOP_STEP, 0}, NOPS_2, {WORD_STEP, 0}, {CLOSING_STEP, 0},
+    {3, 1}, NOPS_2, REFERRED,
+    {4, 1}, NOPS_2, REFERRED,
+    {5, 1}, NOPS_2, NOPS_2, NOPS_2,
+    {6, 1}, NOPS_2, WORDS_2, WORDS_2,
+    {0, 1}, NOPS_2, REFERRED,
+};
+
+/* Codes of VIF0, of which the last is refused; and a tag and an image on channel 2, then a tag that is refused. */
+static const uint32_t vif0_words[] = {0x70000001, 0, 0, 0, 0x00120034, 0x01000101, 0, 0x02000000};
+static const struct step vif0_steps[] = {{7, 1}, {NOP_STEP, 0}, {WORD_STEP, 0}, {NOP_STEP, 0}};
+static const uint32_t gif_words[] = {0x10000003, 0, 0, 0, 0x8001, 0x08000000, 0, 0, 0, 0, 0, 0, 0x8000, 0, 0, 0, 0x30000005, 0x8, 0, 0};
+static const struct step gif_steps[] = {{1, 3}, {QUADWORD_STEP, 0}, {CLOSING_STEP, 0}, {CLOSING_STEP, 0}};
+
+#define LIST(name) name##_words, sizeof name##_words / sizeof(uint32_t), sizeof name##_steps / sizeof(struct step), name##_steps
+
+static void test_counts(bool end)
+{
+    static const struct counted_chain chains[] = {
+        {{1, 0, 1}, LIST(counted), TEJBORUN_DONE},
+        {{0, 0, 0}, LIST(vif0), TEJBORUN_BAD_CMD},
+        {{2, 0, 0}, LIST(gif), TEJBORUN_BAD_ADDR},
+    };
+    for (size_t i = 0; i < sizeof chains / sizeof chains[0]; i++)
+        for (size_t allowance = 0; allowance <= chains[i].steps + 1; allowance++)
+            try_counts(&chains[i], allowance, end);
+}
+
+/* Adds counts to totals in pages of their own, the counts only read. */
+static uint32_t add_totals(struct lent *totals, const struct lent *counts)
+{
+    remember(totals);
+    only_read(counts, true);
+    uint32_t answer = tejborun_add_totals(numbers(totals), totals->bytes / 8, numbers(counts), counts->bytes / 8);
+    only_read(counts, false);
+    CHECK(kept_outside(totals) && (answer == TEJBORUN_DONE || unchanged(totals)));
+    return answer;
+}
+
+/* Each sum up to 2^64 - 1 and beyond it: 54, and no sum changes. The steps have no part in it. */
+static void test_totals(bool end)
+{
+    struct lent totals = lend(8 * TEJBORUN_TOTALS, end), counts = lend(8 * TEJBORUN_COUNTS, end);
+    for (size_t i = 0; i < TEJBORUN_TOTALS; i++) {
+        for (size_t j = 0; j < TEJBORUN_TOTALS; j++) {
+            numbers(&totals)[j] = 100 + j;
+            numbers(&counts)[1 + j] = 1000 * (j + 1);
+        }
+        numbers(&counts)[TEJBORUN_COUNT_STEPS] = UINT64_MAX;
+        numbers(&totals)[i] = UINT64_MAX - 1000 * (i + 1);
+        CHECK(add_totals(&totals, &counts) == TEJBORUN_DONE);
+        for (size_t j = 0; j < TEJBORUN_TOTALS; j++)
+            CHECK(numbers(&totals)[j] == (j == i ? UINT64_MAX : 100 + j + 1000 * (j + 1)));
+        CHECK(add_totals(&totals, &counts) == TEJBORUN_TOTAL_FULL);
+        numbers(&counts)[1 + i] = 1;
+        CHECK(add_totals(&totals, &counts) == TEJBORUN_TOTAL_FULL);
+        numbers(&counts)[1 + i] = 0;
+        CHECK(add_totals(&totals, &counts) == TEJBORUN_DONE && numbers(&totals)[i] == UINT64_MAX);
+    }
+    give_back(&totals);
+    give_back(&counts);
+}
+
+/* Totals that are not eleven, counts that are fewer than twelve, a share that is fewer than two: nothing changes. Counts may be more. */
+static void test_short_totals(bool end)
+{
+    for (size_t i = 0; i < 2 * (TEJBORUN_COUNTS + 2); i++) {
+        struct lent totals = lend(8 * (i / 2), end), counts = lend(8 * TEJBORUN_COUNTS, end), result = lend(8 * (1 + i % 2), end);
+        bool is_short = i / 2 != TEJBORUN_TOTALS;
+        memset(totals.at, 0, totals.bytes);
+        CHECK(add_totals(&totals, &counts) == (is_short ? TEJBORUN_SHORT : TEJBORUN_DONE));
+        remember(&totals);
+        remember(&result);
+        uint32_t answer = tejborun_nop_share(numbers(&totals), i / 2, numbers(&result), 1 + i % 2);
+        CHECK(answer == (is_short || i % 2 == 0 ? TEJBORUN_SHORT : TEJBORUN_DONE) && unchanged(&totals));
+        CHECK(answer == TEJBORUN_SHORT ? unchanged(&result) : kept_outside(&result));
+        give_back(&totals);
+        totals = lend(8 * TEJBORUN_TOTALS, end);
+        give_back(&counts);
+        counts = lend(8 * (i / 2), end);
+        memset(totals.at, 0, totals.bytes);
+        CHECK(add_totals(&totals, &counts) == (i / 2 < TEJBORUN_COUNTS ? TEJBORUN_SHORT : TEJBORUN_DONE));
+        give_back(&totals);
+        give_back(&counts);
+        give_back(&result);
+    }
+    CHECK(tejborun_add_totals(NULL, 0, NULL, 0) == TEJBORUN_SHORT && tejborun_nop_share(NULL, 0, NULL, 0) == TEJBORUN_SHORT);
+}
+
+static void test_shares(void)
+{
+    static const uint64_t shares[][4] = {
+        /* NOPs, words, and the share */
+        {0, 0, 0, 1},
+        {0, 7, 0, 1},
+        {7, 7, 1, 1},
+        {4, 6, 2, 3},
+        {6, 4, 3, 2},
+        {5, 0, 0, 1},
+        {UINT64_MAX, UINT64_MAX, 1, 1},
+        {UINT64_MAX / 5, UINT64_MAX, 1, 5},
+        {UINT64_MAX - 1, UINT64_MAX, UINT64_MAX - 1, UINT64_MAX},
+        {UINT64_C(7540113804746346429), UINT64_C(12200160415121876738), UINT64_C(7540113804746346429), UINT64_C(12200160415121876738)},
+    };
+    for (size_t i = 0; i < sizeof shares / sizeof shares[0]; i++) {
+        uint64_t totals[TEJBORUN_TOTALS], result[3] = {9, 9, 9};
+        for (size_t j = 0; j < TEJBORUN_TOTALS; j++)
+            totals[j] = 1000 + j;
+        totals[TEJBORUN_TOTAL_NOPS] = shares[i][0];
+        totals[TEJBORUN_TOTAL_WORDS] = shares[i][1];
+        CHECK(tejborun_nop_share(totals, TEJBORUN_TOTALS, result, 3) == TEJBORUN_DONE && result[0] == shares[i][2] && result[1] == shares[i][3] && result[2] == 9);
+        CHECK(totals[0] == 1000 && totals[TEJBORUN_TOTALS - 1] == 1000 + TEJBORUN_TOTALS - 1);
+    }
+}
+
 /* A set on a reset block with a word of its own, and numbers in the words that mean nothing there: with 0 the register's word is the value, and no other word
  * is another than before. */
 static void try_set(size_t word, uint32_t held, const uint32_t *set, uint32_t answer, bool end)
@@ -1440,10 +1629,10 @@ static bool told(const struct bench *bench, uint64_t refusal, uint64_t address, 
            kept_from(bench, TEJBORUN_WHY_NUMBERS);
 }
 
-/* Lengths with room for what a why says and one number more. */
+/* Lengths with room for what a why and a run say and one number more. */
 static struct lengths for_why(struct lengths lengths)
 {
-    lengths.result = TEJBORUN_WHY_NUMBERS + 1;
+    lengths.result = RUN_NUMBERS + 1;
     return lengths;
 }
 
@@ -1795,7 +1984,8 @@ static void try_build_and_run(const uint8_t *bytes, size_t count, uint32_t addre
     CHECK(call_build_and_run(&bench, address, UINT64_MAX) == answer && all_kept_outside(&bench));
     CHECK(answer == TEJBORUN_DONE ? built_and_ran(&bench, SHEET_STEPS, 0, SHEET_PACKETS) : built_and_ran(&bench, 0, offset, 0));
     if (answer == TEJBORUN_DONE)
-        CHECK(holds_meaning(&bench, 2) && state(&bench.lent[BLOCK])->chain.used[0] == 2 + SHEET_ENTRIES);
+        CHECK(holds_meaning(&bench, 2) && state(&bench.lent[BLOCK])->chain.used[0] == 2 + SHEET_ENTRIES &&
+              memcmp(numbers(&bench.lent[RESULT]) + 1, sheet_counts, sizeof sheet_counts) == 0);
     else
         CHECK(all_unchanged(&bench));
     free_bench(&bench);
@@ -2010,7 +2200,7 @@ static void test_check(bool end)
         CHECK(call_check(&bench, cases[i].allowance) == (is_done ? TEJBORUN_CHECK_ACCEPTED : TEJBORUN_CHECK_ANSWER));
         const uint64_t *result = numbers(&bench.lent[RESULT]);
         CHECK(result[0] == cases[i].answer && result[1] == 0 && kept_from(&bench, TEJBORUN_CHECK_NUMBERS));
-        CHECK(!is_done || (holds_meaning(&bench, 0) && result[2] == SHEET_ENTRIES && result[3] == SHEET_STEPS && result[4] == SHEET_PACKETS));
+        CHECK(!is_done || (holds_meaning(&bench, 0) && result[2] == SHEET_ENTRIES && memcmp(result + 3, sheet_counts, sizeof sheet_counts) == 0));
         CHECK(left_by_run(&bench, cases[i].allowance, cases[i].answer));
         free_bench(&bench);
     }
@@ -2295,7 +2485,7 @@ static void test_messages(void)
         TEJBORUN_BAD_MARK,   TEJBORUN_BAD_KIND,    TEJBORUN_BAD_COUNT,  TEJBORUN_BAD_ADDRESS, TEJBORUN_CUT_RECORD,    TEJBORUN_BAD_PAD,
         TEJBORUN_LONG_SHEET, TEJBORUN_LONG_CHAIN,  TEJBORUN_SHORT,      TEJBORUN_ALLOWANCE,  TEJBORUN_INTERRUPT,      TEJBORUN_BAD_TOPS,
         TEJBORUN_BAD_MPG,    TEJBORUN_BAD_NUMBER,  TEJBORUN_UNIT_WAITS, TEJBORUN_LONG_KEPT,  TEJBORUN_MANY_RANGES,    TEJBORUN_LONG_EXPANSION,
-        TEJBORUN_DEEP_GROUP,
+        TEJBORUN_DEEP_GROUP, TEJBORUN_TOTAL_FULL,
     };
     enum { ANSWERS = sizeof answers / sizeof answers[0] };
     const char *none = tejborun_message(UINT32_MAX);
@@ -2362,6 +2552,9 @@ int main(void)
         test_gif_stops(end);
         test_packets(end);
         test_paths(end);
+        test_counts(end);
+        test_totals(end);
+        test_short_totals(end);
         test_set(end);
         test_wrong_set(end);
         test_waiting_set(end);
@@ -2389,6 +2582,7 @@ int main(void)
     test_unit_words();
     test_vif0_words();
     test_path_words();
+    test_shares();
     test_messages();
     test_used();
     test_sums();
@@ -2400,6 +2594,8 @@ int main(void)
     puts("groups: chain, steps, meaning and run of what they stand for; eight deep and nine; a chain of 1,048,576 bytes and a longer one; 255 times, eight deep");
     puts("salvage: sheets cut and broken at every byte, records inside others, the longest; just enough room and too little; 60, 46, 55, 56 in their order");
     puts("check: accepted with just enough steps and entries, over any memories; each kind of difference, the first of several; 60, 1 to 4, the sheet's in their order");
+    puts("counts: of every step, on each channel, with every allowance, stopped and gone on, before a refusal; a sheet's by build and run and by check");
+    puts("totals: each sum to 2^64 - 1 and beyond, 54 and no sum changed; 60; the NOP share in lowest terms, 0 over 1 without words");
     puts("state block: every word under its name");
     return 0;
 }

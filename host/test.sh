@@ -81,15 +81,15 @@ numbers() {
 }
 
 # The layout of files, from what the command itself writes: the bytes of a state block, the lengths of the memories and of the longest log, and the numbers of
-# a log entry. The head of a capture before the state block has 56 bytes, that of a test case and of a sheet case 48; a result has 24 before and 8 behind it. What a
-# run says before its state block, in a result of replay's and behind the mark of a result file, has 20: answer, steps, packets.
+# a log entry. The head of a capture before the state block has 56 bytes, that of a test case and of a sheet case 48; a result has 104 before and 8 behind it. What a
+# run says before its state block, in a result of replay's and behind the mark of a result file, has 100: the answer and twelve counts.
 layout() {
     echo 'state channel=1' > reset.txt
     echo capture > empty.txt
     expect 0 assemble state reset.txt -o reset.state
     expect 0 assemble capture empty.txt -o empty.capture
     block_bytes=$(($(wc -c < reset.state)))
-    head_bytes=56 case_head=48 run_head=20
+    head_bytes=56 case_head=48 run_head=100
     calls_at=$((head_bytes + block_bytes)) case_calls_at=$((case_head + block_bytes)) sheet_at=$((48 + block_bytes)) result_head=$((4 + run_head + block_bytes + 8))
     set -- $(words empty.capture 12 5)
     data_words=$1 code_bytes=$2 data0_words=$3 code0_bytes=$4 log_numbers=$5
@@ -112,6 +112,21 @@ round() {
 as_sheet() {
     # shellcheck disable=SC2059
     printf "$2" > "$1"
+}
+
+# run_words FILE OFFSET: the counts at an offset as they are printed after the answer: steps, packets, VIF words, NOPs, QWC by tag.
+run_words() {
+    words "$1" "$2" 24 | tr '\n' ' ' | awk '
+        function many(n, one) { return n == 1 ? n " " one : n " " one "s" }
+        {
+            for (i = 0; i < 12; i++) n[i] = $(2 * i + 1) + $(2 * i + 2) * 4294967296
+            split("refe cnt next ref refs call ret end", name, " ")
+            text = many(n[0], "step") "; " (n[1] == 0 ? "no packet closed" : many(n[1], "packet") " closed")
+            text = text "; " (n[2] == 0 ? "no VIF word" : many(n[2], "VIF word") ", " (n[3] == 0 ? "no NOP" : many(n[3], "NOP"))) "; QWC "
+            between = ""
+            for (i = 4; i < 12; i++) if (n[i] > 0) { text = text between name[i - 3] " " n[i]; between = ", " }
+            print text (between == "" ? "0" : "")
+        }'
 }
 
 # packets_words NUMBER: so many packets as they are printed.
@@ -159,7 +174,7 @@ state_words() {
 usage() {
     expect 0 --help
     says out 'tejborun build SHEET -o CHAIN'
-    for name in build steps salvage meaning run why play check set compare report dump assemble; do
+    for name in build steps salvage meaning run why play check set compare report totals dump assemble; do
         expect 0 "$name" --help
         says out "usage: tejborun $name"
         expect 2 "$name"
@@ -171,7 +186,7 @@ usage() {
     done
     expect 2
     expect 2 nonsense
-    says err 'no such command; known are build, steps, salvage, meaning, run, why, play, check, set, compare, report, import, export, dump, assemble'
+    says err 'no such command; known are build, steps, salvage, meaning, run, why, play, check, set, compare, report, totals, import, export, dump, assemble'
     expect 2 build a.sheet
     says err 'say with -o where to write'
     expect 2 build a.sheet -o
@@ -187,7 +202,7 @@ usage() {
     says err 'missing.sheet: cannot be opened'
     expect 2 steps .
     expect 2 dump nonsense err
-    says err 'give sheet, chain, state, capture or result'
+    says err 'give sheet, chain, state, capture, result or totals'
     expect 2 assemble nonsense err -o x
     absent b c x
     echo "usage: help, options and missing words"
@@ -222,7 +237,7 @@ bench_points() {
 
 # Every answer of the scope document has a meaning in words.
 meanings() {
-    for answer in 0 1 2 3 4 5 10 11 12 13 14 20 21 22 23 24 25 26 30 31 40 41 42 43 44 45 46 47 49 50 51 52 55 56 60 90 91; do
+    for answer in 0 1 2 3 4 5 10 11 12 13 14 20 21 22 23 24 25 26 30 31 40 41 42 43 44 45 46 47 49 50 51 52 54 55 56 60 90 91; do
         echo "result answer=$answer" > meaning.txt
         expect 0 assemble result meaning.txt -o meaning.result
         expect 0 dump meaning.result
@@ -234,7 +249,7 @@ meanings() {
     says meanings.txt '# data memory is not 4,096 words, of VIF0 (channel 0) not 1,024'
     says meanings.txt '# UNPACK with IMM bit 15 (TOPS) on VIF0'
     says meanings.txt "# the log's length is no multiple of 3, above 196,608 numbers or below three times the entries used"
-    says meanings.txt "# a state block that is not $((block_bytes / 4)) words, or a result with too few numbers"
+    says meanings.txt "# a state block that is not $((block_bytes / 4)) words, totals that are not 11 numbers, or counts or a result with too few"
     echo 'result answer=92' > meaning.txt
     expect 0 assemble result meaning.txt -o meaning.result
     expect 0 dump meaning.result
@@ -378,13 +393,14 @@ generated_sheets() {
 
 # replayed: reads the results of the case for its calls; sets where the last state block, the last run, each unit's memories and the log are, the exit status
 # that the calls have (3 where the last run stopped before the end or there is none, else 1 where a call was refused), and whether none did anything; the file runs
-# has answer, steps and packets of each run, the file whys the sentence of each why, the file given the state block that the case gives, with the registers set.
+# has answer and counts of each run in words, the file counted the counts, the file whys the sentence of each why, the file given the state block that the case gives, with the registers set.
 # The lengths: VIF1's data and code memory, the log, VIF0's data and code memory, the number of calls.
 replayed() {
     data=$1 code=$2 log=$3 data0=$4 code0=$5 calls=$6
     at=0 block=none run=none memories=none memories0=none log_at=none any_refused=0 last=90 idle=1
     channel=$(($(words case "$case_head" 1)))
     : > runs
+    : > counted
     : > whys
     slice case "$case_head" "$block_bytes" > given
     for call in $(seq 0 $((calls - 1))); do
@@ -411,7 +427,9 @@ replayed() {
             at=$((at + 4 + block_bytes))
         else
             run=$at last=$answer block=$((at + run_head))
-            echo "$answer $(($2 + ($3 << 32))) $(packets_words $(($4 + ($5 << 32))))" >> runs
+            echo "$answer $(run_words results $((at + 4)))" >> runs
+            words results $((at + 4)) 24 | tr '\n' ' ' >> counted
+            echo >> counted
             replayed_memories $((at + run_head + block_bytes))
             at=$((log_at + 8 * log))
         fi
@@ -505,7 +523,7 @@ wanted_memories() {
 
 # wanted_result FILE OFFSET: what the run of the case has to leave, from the results, with the state block of a file.
 wanted_result() {
-    printf 'TRE5'
+    printf 'TRE6'
     if test "$run" = none; then head -c "$run_head" /dev/zero; else slice results "$run" "$run_head"; fi
     slice "$1" "$2" "$block_bytes"
     slice case 20 4
@@ -543,12 +561,22 @@ one_capture() {
     # A refusal and a run without a step change no block: then the words that mean nothing may stand as they were given, where replay writes zero.
     if test $idle = 1 && ! cmp -s part wanted; then wanted_result given 0 > wanted; fi
     same part wanted "capture $number"
-    sed -n 's/^call .*, run .*: answer \([0-9]*\), .*; \([0-9]*\) steps*; /\1 \2 /p' said > got
+    sed -n 's/^call .*, run .*: answer \([0-9]*\), .*; \([0-9]* steps*; \)/\1 \2/p' said > got
     same got runs "what is said of the runs of capture $number"
     whys_said
     with_packets=$((with_packets + $(grep -vc 'no packet closed' runs)))
     case $memories0 in none) ;; *) on_vif0=$((on_vif0 + 1)) ;; esac
     round result result
+    totals_of_case
+}
+
+# totals_of_case: the totals of the case are the sums of replay's counts.
+totals_of_case() {
+    rm -f sums
+    expect 0 totals sums add case --new
+    awk '{ for (i = 1; i < 12; i++) sum[i] += $(2 * i + 1) + $(2 * i + 2) * 4294967296 } END { for (i = 1; i < 12; i++) print sum[i] + 0; print NR }' counted > wanted
+    words sums 4 24 | tr '\n' ' ' | awk '{ for (i = 0; i < 12; i++) print $(2 * i + 1) + $(2 * i + 2) * 4294967296 }' > got
+    same got wanted "the totals of capture $number"
 }
 
 generated_captures() {
@@ -566,7 +594,7 @@ generated_captures() {
         at_case=$((at_case + length)) number=$((number + 1))
     done
     test $with_whys -gt 0 || fail 'no why in the captures'
-    echo "generated captures: $tried of $number to text and back (capture, state, main memory, result), run as replay runs them; $on_vif0 with a run on VIF0," \
+    echo "generated captures: $tried of $number to text and back (capture, state, main memory, result), run and added as replay runs them; $on_vif0 with a run on VIF0," \
         "$with_packets runs that closed packets, $with_sets registers set, $with_whys whys"
 }
 
@@ -770,13 +798,31 @@ earlier() {
 
 # A result as it was written before packets were counted, two words shorter; its text without packets makes the result of today.
 earlier_of_run() {
-    { printf 'TRE3'; slice difference.result 4 12; tail -c +25 difference.result; } > broken
+    { printf 'TRE3'; slice difference.result 4 12; tail -c +105 difference.result; } > broken
     expect 2 compare difference.result broken
     says err "broken: a result from before $before_packets; "
-    "$command" dump difference.result | sed 's/ packets=0//' > earlier.txt
-    if grep packets earlier.txt; then fail 'packets in the text'; fi
-    expect 0 assemble result earlier.txt -o earlier.result
-    same earlier.result difference.result
+    "$command" dump difference.result > today.txt
+    says today.txt ' packets=0 words=1040 nops=6 qwc.cnt=259 qwc.end=1 '
+    sed 's/ words=[0-9]*//;s/ nops=[0-9]*//;s/ qwc.[a-z]*=[0-9]*//g' today.txt > without.txt
+    sed 's/ packets=0//' without.txt > earlier.txt
+    if grep -e packets -e words= -e nops= -e qwc earlier.txt; then fail 'counts in the text'; fi
+    { slice difference.result 0 24; head -c 80 /dev/zero; tail -c +105 difference.result; } > wanted
+    for text in without earlier; do
+        expect 0 assemble result $text.txt -o earlier.result
+        same earlier.result wanted 'text from before'
+    done
+}
+
+# Results as they were written before the totals, without words, NOPs and QWC.
+earlier_of_totals() {
+    before_totals='the totals: it has no counts of VIF words, NOPs and QWC'
+    earlier result TRE5 $((412 + 16384)) "$before_totals" compare difference.result broken
+    earlier result TRE5 412 "$before_totals" run difference.capture --from broken -o broken.out
+    earlier result TRE5 8 "$before_totals" totals month add broken --new
+    { printf 'TRE5'; slice difference.result 4 20; tail -c +105 difference.result; } > broken
+    expect 2 compare difference.result broken
+    says err "broken: a result from before $before_totals; "
+    absent month
 }
 
 # Files as they were written before entries had a path; their text makes those of today.
@@ -821,6 +867,7 @@ other_layouts() {
     earlier result TRE3 8 "$before_packets" export broken --data broken.out
     earlier_of_run
     earlier_of_paths
+    earlier_of_totals
     head -c 252 /dev/zero > broken
     expect 2 dump state broken
     says err 'broken: a state from before VIF0: its state has 63 words'
@@ -1263,7 +1310,7 @@ rack_json() {
         "$command" compare expected $words --json > out 2> err
         well_formed json out
     done
-    says out '"result": {"file": "expected", "answer": 0, "steps": 6, "packets": 3},'
+    says out '"result": {"file": "expected", "answer": 0, "steps": 6, "packets": 3, "words": 0, "nops": 0, "nop_share": {"nops": 0, "words": 1}, "qwc": {"refe": 0, '
     says out '"data": {"compared": 1024, "different": 1, "differences": ['
     says out '{"number": 9, "result": ["0x00000001", "0x00000002", "0x00000003", "0x00000004"], "board": ["0x00000000", "0x00000002", "0x00000003", "0x00000004"]}'
     says out '{"number": 1, "path_alone": false, "result": {"path": 2, "register": 0, "value": "0x0000000000000006"}, "board": {"path": 2, "register": 0, "value": "0x0000000000000007"}}'
@@ -1330,7 +1377,7 @@ long_runs() {
     expect 0 assemble capture endless.capture.txt -o endless.capture
     timeout --foreground --preserve-status -k 20 -s INT 1 "$command" run endless.capture -o stopped.result > out 2> err
     test $? = 3 || fail "Ctrl-C: $(cat err)"
-    grep -q 'run without limit: interrupted after [0-9]* steps; no packet closed$' out || fail "Ctrl-C: $(cat out)"
+    grep -q 'run without limit: interrupted after [0-9]* steps; no packet closed; no VIF word; QWC 0$' out || fail "Ctrl-C: $(cat out)"
     test ! -s err || fail 'progress where there is no terminal'
     expect 0 dump stopped.result
     says out 'result answer=90'
@@ -1816,7 +1863,8 @@ packets() {
     says out 'answer 0, done; 28 steps; 3 packets closed'
     words three.result 8 4 | grep -q '^ *28 *0 *3 *0$' || fail 'the packets in the result file'
     expect 0 dump three.result
-    says out "result answer=0 steps=28 packets=3 log-entries=$entries "
+    says out "result answer=0 steps=28 packets=3 "
+    says out " log-entries=$entries "
     round result three.result
     expect 0 meaning three.sheet -o three.meaning
     expect 0 dump three.meaning
@@ -1877,11 +1925,11 @@ packets_of_runs() {
     capture_of runs.capture "capture main-bytes=512\nstart channel=2\nrun allowance=7\nrun allowance=0\nrun\nrun\nstart channel=2\nrun allowance=2\nend qwc=15\n$gif_lines\n"
     expect 3 run runs.capture -o runs.result
     cat > wanted <<'END'
-call 1, run with allowance 7: answer 90, the step allowance is used; 7 steps; 2 packets closed
-call 2, run with allowance 0: answer 90, the step allowance is used; 0 steps; no packet closed
-call 3, run without limit: answer 0, done; 9 steps; 3 packets closed
-call 4, run without limit: answer 0, done; 0 steps; no packet closed
-call 6, run with allowance 2: answer 90, the step allowance is used; 2 steps; 1 packet closed
+call 1, run with allowance 7: answer 90, the step allowance is used; 7 steps; 2 packets closed; no VIF word; QWC end 15
+call 2, run with allowance 0: answer 90, the step allowance is used; 0 steps; no packet closed; no VIF word; QWC 0
+call 3, run without limit: answer 0, done; 9 steps; 3 packets closed; no VIF word; QWC 0
+call 4, run without limit: answer 0, done; 0 steps; no packet closed; no VIF word; QWC 0
+call 6, run with allowance 2: answer 90, the step allowance is used; 2 steps; 1 packet closed; no VIF word; QWC end 15
 END
     grep ', run ' out > got
     same got wanted 'the packets of each run'
@@ -1908,7 +1956,7 @@ packets_as_text() {
     expect 0 dump some
     says out 'result answer=0 steps=0 packets=3 log-entries=0 parts=data'
     bad_text result 1 "packets=0x10000000000000000: the field has 64 bits" 'result packets=0x10000000000000000\n'
-    bad_text result 1 "'result' has no field 'packet'; it has answer, steps, packets, log-entries, parts" 'result packet=3\n'
+    bad_text result 1 "'result' has no field 'packet'; it has answer, steps, packets, words, nops, qwc.refe, qwc.cnt, qwc.next, qwc.ref, qwc.refs, qwc.call, qwc.ret, qwc.end, log-entries, parts" 'result packet=3\n'
 }
 
 # Packets have no part in the verdict, and a result without says nothing of them; JSON has the number always.
@@ -1925,7 +1973,7 @@ packets_compared() {
     grep -qx 'one: answer 0, done; 6 steps; 1 packet closed' out || fail 'one packet'
     grep -qx 'none: answer 0, done; 1 step' out || fail 'a result without packets'
     expect 0 compare none one --json
-    says out '"result": {"file": "none", "answer": 0, "steps": 1, "packets": 0},'
+    says out '"result": {"file": "none", "answer": 0, "steps": 1, "packets": 0, "words": '
     expect 0 report none one -o page.html
     says page.html '<td class="answer">answer 0, done; 1 step</td>'
     expect 0 compare three.meaning three.result
@@ -2320,8 +2368,8 @@ set_in_files() {
     result_of small.part 'result parts=log\nentry 0 MSCAL 5\n'
     set_in small.capture "$head_bytes"
     set_in small.case "$case_head"
-    set_in small.result 24
-    set_in small.part 24
+    set_in small.result $((4 + run_head))
+    set_in small.part $((4 + run_head))
     as_sheet small.sheet '\236\121\4\0\5\0'
     expect 2 set small.sheet --row 0=1 -o bad.out
     says err 'small.sheet: no state: it begins with the mark of a sheet'
@@ -3152,10 +3200,10 @@ checks() {
     round chain short.chain
     expect 0 check all.sheet short.chain
     printf '%s\n' 'short.chain: accepted: it leaves what all.sheet means' "  224 bytes, 208 shorter than our chain's 432" \
-        "  35 steps, 31 fewer than our chain's 66; 1 packet closed" > wanted
+        "  35 steps, 31 fewer than our chain's 66; 1 packet closed; 28 VIF words, 3 NOPs; QWC end 13" > wanted
     same out wanted 'what is said of a chain that is accepted'
     expect 0 check all.sheet ours.chain
-    printf '%s\n' 'ours.chain: accepted: it leaves what all.sheet means' '  432 bytes, as long as our chain' '  66 steps, as many as our chain; 1 packet closed' > wanted
+    printf '%s\n' 'ours.chain: accepted: it leaves what all.sheet means' '  432 bytes, as long as our chain' '  66 steps, as many as our chain; 1 packet closed; 52 VIF words, 17 NOPs; QWC cnt 19' > wanted
     same out wanted 'what is said of our own chain'
     check_differences
     check_stops
@@ -3193,7 +3241,7 @@ check_differences() {
 check_answers() {
     checked_so 1 's/STCYCL cl=1 wl=1/STCYCL cl=1 wl=0/' "different: the run's answer is 22: UNPACK with WL 0" '  refused 22 at 0x00000014: UNPACK with WL 0' \
         "  224 bytes, 208 shorter than our chain's 432"
-    test "$(tail -n 1 out)" = '  2 steps; no packet closed' || fail "the steps of a refused run: $(tail -n 1 out)"
+    test "$(tail -n 1 out)" = '  2 steps; no packet closed; 1 VIF word, no NOP; QWC end 13' || fail "the steps of a refused run: $(tail -n 1 out)"
     checked_so 1 '/^  NOP$/{N;s/\(.*\)\n\(.*\)/\2\n\1/;}' "different: the run's answer is 24: $(message 24)" '  refused 24 at 0x0000006C: '
     checked_so 1 's/qwc=13/qwc=12/' "different: the run logged 5 entries, the sheet means 7"
     checked_so 1 's/qwc=13/qwc=14/' "different: the run's answer is 14: payload or pending words lie outside main memory" \
@@ -3215,7 +3263,7 @@ check_stops() {
         # shellcheck disable=SC2086
         expect 3 check all.sheet short.chain $form
         printf '%s\n' "short.chain: no verdict: the run's answer is 90: the step allowance is used" '  the allowance was 34 steps; --allowance gives another' \
-            "  224 bytes, 208 shorter than our chain's 432" '  34 steps; 1 packet closed' > wanted
+            "  224 bytes, 208 shorter than our chain's 432" '  34 steps; 1 packet closed; 27 VIF words, 2 NOPs; QWC end 13' > wanted
         same out wanted 'what is said of a used allowance'
     done
     expect 3 check all.sheet short.chain --allowance 0
@@ -3362,11 +3410,11 @@ check_rack() {
     expect 2 check all.sheet "$odd" late.chain refused.chain fewer.chain mark.chain none missing --json
     well_formed json out
     says out '"sheet": {"file": "all.sheet", "chain_bytes": 432, "chain_steps": 66, "entries": 7},'
-    says out '"na\"m\\e\u0009<&>\uFFFD", "verdict": "accepted", "status": 0, "bytes": 224, "steps": 35, "packets": 1, "entries": 7}'
+    says out '"na\"m\\e\u0009<&>\uFFFD", "verdict": "accepted", "status": 0, "bytes": 224, "entries": 7, "steps": 35, "packets": 1, "words": 28, "nops": 3, "nop_share": {"nops": 3, "words": 28}, "qwc": {"refe": 0, "cnt": 0, "next": 0, "ref": 0, "refs": 0, "call": 0, "ret": 0, "end": 13, "all": 13}}'
     says out '"difference": {"kind": "quadword", "number": 16, "words": "quadword 16 differs", "expected": ["0x00000000", "0x3F800000", "0x00000000", "0x3F800000"], "found": ["0x3F800000", "0x00000000", "0x00000000", "0x00000000"]}}'
     says out '"difference": {"kind": "answer", "number": 22, "words": "the run'"'"'s answer is 22: UNPACK with WL 0", "why": "refused 22 at 0x00000014: UNPACK with WL 0"}}'
     says out '"difference": {"kind": "entries", "number": 6, "words": "the run logged 6 entries, the sheet means 7"}}'
-    says out '"verdict": "no verdict", "status": 3, "bytes": 224, "steps": 32, "packets": 1, "entries": 6,'
+    says out '"verdict": "no verdict", "status": 3, "bytes": 224, "entries": 6, "steps": 32, "packets": 1, "words": 25, "nops": 1, '
     says out '"difference": {"kind": "answer", "number": 91, "words": "the run'"'"'s answer is 91: stopped at an interrupt mark"}}'
     says out '"verdict": "refused", "status": 1, "refusal": 1, "offset": 0}'
     says out '"verdict": "not read", "status": 2}'
@@ -3377,6 +3425,270 @@ check_rack() {
     says out '"verdict": "refused", "status": 1, "refusal": 41, "offset": 6}'
     expect 0 check all.sheet short.chain --json -o left.result
     well_formed json out
+}
+
+# total FILE FIELD: a field of totals as text, 0 where it is not there.
+total() {
+    "$command" dump totals "$1" | tr ' ' '\n' | sed -n "s/^$2=//p" | grep . || echo 0
+}
+
+# totals_are FILE LINE: the totals as text.
+totals_are() {
+    "$command" dump totals "$1" | sed 's/  #.*//' > got
+    echo "totals $2" > wanted
+    same got wanted "the totals of $1"
+}
+
+# Totals of many runs: from results and captures, as a table, JSON and text; all or nothing.
+totals() {
+    expect 0 assemble sheet "$here/../examples/all-kinds.sheet.txt" -o all.sheet
+    expect 0 play all.sheet -o played.result
+    says out 'answer 0, done; 66 steps; 1 packet closed; 52 VIF words, 17 NOPs; QWC cnt 19'
+    expect 0 dump played.result
+    says out 'result answer=0 steps=66 packets=1 words=52 nops=17 qwc.cnt=19 log-entries='
+    totals_shown
+    totals_of_captures
+    totals_kept
+    totals_full
+    totals_many
+    counts_shown
+    echo "totals: of results and of each run of captures, a hundred files; QWC, VIF words, NOPs, packets and the NOP share; 54 and bad files leave them as they were; text, JSON, page"
+}
+
+totals_shown() {
+    rm -f month
+    expect 0 totals month add played.result --new
+    says out 'month: 1 run of 1 file added, 1 in all'
+    expect 0 totals month
+    printf '%s\n' 'month: 1 run' '  QWC refe                         0' '  QWC cnt                         19' '  QWC next                         0' \
+        '  QWC ref                          0' '  QWC refs                         0' '  QWC call                         0' \
+        '  QWC ret                          0' '  QWC end                          0' '  QWC in all                      19' \
+        '  VIF words                       52' '  NOPs                            17' '  packets                          1' '  NOP share     17/52' > wanted
+    same out wanted 'totals as a table'
+    test "$(wc -c < month)" -eq 100 || fail 'a totals file has 100 bytes'
+    test "$(slice month 0 4)" = TTL1 || fail 'the mark of a totals file'
+    totals_are month 'runs=1 packets=1 words=52 nops=17 qwc.cnt=19'
+    round totals month
+    expect 0 totals month --json
+    well_formed json out
+    says out '"file": "month", "runs": 1,'
+    says out '"packets": 1, "words": 52, "nops": 17, "nop_share": {"nops": 17, "words": 52}, "qwc": {"refe": 0, "cnt": 19, "next": 0, "ref": 0, "refs": 0, "call": 0, "ret": 0, "end": 0, "all": 19}'
+    expect 0 totals - < month
+    says out '-: 1 run'
+    expect 0 totals new-month add --new
+    says out 'new-month: 0 runs of 0 files added, 0 in all'
+    expect 0 totals new-month
+    says out '  NOP share     0/1'
+    totals_are new-month 'runs=0 packets=0 words=0 nops=0'
+    for words in '10 4 2/5' '7 0 0/1' '0 0 0/1' '6 6 1/1'; do
+        set -- $words
+        echo "totals words=$1 nops=$2" > share.txt
+        expect 0 assemble totals share.txt -o share
+        expect 0 totals share
+        says out "  NOP share     $3"
+    done
+    echo 'totals qwc.refe=0xFFFFFFFFFFFFFFFF qwc.cnt=0xFFFFFFFFFFFFFFFF qwc.next=0xFFFFFFFFFFFFFFFF qwc.ref=0xFFFFFFFFFFFFFFFF qwc.refs=0xFFFFFFFFFFFFFFFF qwc.call=0xFFFFFFFFFFFFFFFF qwc.ret=0xFFFFFFFFFFFFFFFF qwc.end=0xFFFFFFFFFFFFFFFF' > most.txt
+    expect 0 assemble totals most.txt -o most
+    round totals most
+    expect 0 totals most
+    says out '  QWC in all   147573952589676412920'
+    says out '  QWC end       18446744073709551615'
+    totals_texts
+}
+
+totals_texts() {
+    bad_text totals 1 "'result': the line is 'totals'" 'result\n'
+    bad_text totals 2 "'totals': totals are one line" 'totals\ntotals\n'
+    bad_text totals 1 "'totals' has no field 'steps'; it has runs, packets, words, nops, qwc.refe, qwc.cnt, qwc.next, qwc.ref, qwc.refs, qwc.call, qwc.ret, qwc.end" 'totals steps=1\n'
+    bad_text result 1 "words=0x10000000000000000: the field has 64 bits" 'result words=0x10000000000000000\n'
+    : > nothing.txt
+    expect 2 assemble totals nothing.txt -o bad.out
+    says err "nothing.txt: has no line 'totals'"
+}
+
+# A capture of several runs, stopped, refused and on each channel: each is added. The same runs one after another, as results, give the same.
+totals_of_captures() {
+    cat > several.txt <<'END'
+capture
+start
+run allowance=3
+run
+start channel=2 tadr=0x40
+run
+start channel=0 tadr=0x80
+run
+start channel=7
+run
+end qwc=2
+  NOP
+  STROW
+    word 0 0
+    word 0 0
+  NOP irq=1
+  STMOD mode=3
+at 0x40
+end qwc=1
+giftag nloop=0 eop=1
+at 0x80
+cnt qwc=1
+  NOP
+  NOP num=5
+  ITOP itop=1
+  NOP
+end qwc=0
+END
+    expect 0 assemble capture several.txt -o several.capture
+    expect 1 run several.capture -o several.result
+    says out 'call 1, run with allowance 3: answer 90, the step allowance is used; 3 steps; no packet closed; 2 VIF words, 1 NOP; QWC end 2'
+    says out 'call 2, run without limit: answer 91, stopped at an interrupt mark; 5 steps; no packet closed; 5 VIF words, 1 NOP; QWC 0'
+    says out 'call 4, run without limit: answer 0, done; 2 steps; 1 packet closed; no VIF word; QWC end 1'
+    says out 'call 6, run without limit: answer 0, done; 6 steps; no packet closed; 4 VIF words, 3 NOPs; QWC cnt 1'
+    says out 'call 8, run without limit: answer 0, done; 0 steps; no packet closed; no VIF word; QWC 0'
+    rm -f month
+    expect 0 totals month add several.capture --new
+    test "$(cat out)" = 'month: 5 runs of 1 file added, 5 in all' || fail "what is said of a capture that is added: $(cat out)"
+    test ! -s err || fail "said of a capture that is added: $(cat err)"
+    totals_are month 'runs=5 packets=1 words=11 nops=5 qwc.cnt=1 qwc.end=3'
+    expect 0 totals month add several.capture --allowance 1
+    totals_are month 'runs=10 packets=1 words=13 nops=7 qwc.cnt=2 qwc.end=6'
+    expect 0 totals month add several.result played.result
+    says out 'month: 2 runs of 2 files added, 12 in all'
+    totals_are month 'runs=12 packets=2 words=65 nops=24 qwc.cnt=21 qwc.end=6'
+    expect 0 assemble capture "$here/../examples/paths.capture.txt" -o paths.capture
+    rm -f month
+    expect 0 totals month add paths.capture --new
+    totals_are month 'runs=2 packets=2 words=8 nops=5 qwc.end=8'
+    expect 0 meaning all.sheet -o meant
+    cp month before
+    expect 0 totals month add meant
+    test "$(total month runs)" = 3 && test "$(total month words)" = "$(total before words)" || fail "a sheet's meaning is added"
+    printf 'capture\nstart\nrun\nnext addr=0\n' > endless.txt
+    expect 0 assemble capture endless.txt -o endless.capture
+    cp month before
+    timeout --foreground --preserve-status -k 20 -s INT 1 "$command" totals month add played.result endless.capture > out 2> err
+    test $? = 3 || fail "Ctrl-C: $(cat err)"
+    says err 'endless.capture: interrupted'
+    same month before 'totals where a capture is interrupted'
+}
+
+# Nothing is added where a file is bad, given twice, or the totals themselves.
+totals_kept() {
+    rm -f month
+    expect 2 totals month add played.result
+    says err 'month: cannot be opened: No such file or directory; --new begins new totals'
+    says err 'nothing is added to month'
+    absent month
+    expect 2 totals month
+    expect 0 totals month add played.result --new
+    expect 2 totals month add several.result --new
+    says err 'month: is there already: leave --new out to add to it'
+    cp month before
+    cp played.result again.result
+    ln -sf played.result link.result
+    head -c 500 played.result > cut.result
+    for words in 'played.result played.result' 'played.result link.result' 'played.result missing' 'played.result cut.result again.result' 'month' 'played.result all.sheet' \
+        'played.result before' 'several.txt' 'played.result reset.state' ''; do
+        # shellcheck disable=SC2086
+        expect 2 totals month add $words
+        same month before "totals where '$words' is added"
+    done
+    expect 2 totals month add played.result before
+    says err 'before: no result and no capture: it begins with the mark of totals'
+    expect 2 totals month add several.txt
+    says err 'several.txt: it is text; assemble it first: '
+    expect 2 totals month add played.result link.result
+    says err 'are the same file'
+    expect 2 totals month add
+    says err 'say what is added'
+    expect 2 totals month plus played.result
+    says err "'plus': after the totals comes add, or nothing"
+    expect 2 totals month --new
+    expect 2 totals month --allowance 5
+    expect 2 totals - add played.result --new
+    expect 2 totals missing/month add played.result --new
+    slice month 0 99 > cut
+    { cat month; printf x; } > longer
+    for file in cut longer; do
+        cp $file broken
+        expect 2 totals broken
+        says err "broken: damaged totals: $(($(wc -c < $file))) bytes; they have 100"
+        expect 2 totals broken add played.result
+        same broken $file 'damaged totals'
+    done
+    expect 2 totals played.result
+    says err 'played.result: no totals: it does not begin with the mark TTL1, but with that of a result'
+    expect 2 compare played.result month
+    says err 'month: no result: '
+    same month before
+}
+
+# 54: each sum alone, by a result and by a run of a capture; the file stays byte for byte, also where other files went before.
+totals_full() {
+    for field in packets words nops qwc.refe qwc.cnt qwc.next qwc.ref qwc.refs qwc.call qwc.ret qwc.end; do
+        printf 'totals runs=7 %s=18446744073709551614\n' $field > full.txt
+        expect 0 assemble totals full.txt -o full
+        result_of one "result steps=18446744073709551615 $field=1"
+        result_of two "result $field=2"
+        cp full before
+        expect 1 totals full add one two
+        says err 'two: refused 54: a total would pass 2^64 - 1'
+        says err 'nothing is added to full'
+        test ! -s out || fail 'something is said of totals that are refused'
+        same full before "totals refused with 54 by $field"
+        expect 0 totals full add one
+        test "$(total full $field)" = 0xFFFFFFFFFFFFFFFF || fail "the most of $field"
+        test "$(total full runs)" = 8 || fail 'the runs that were added'
+        cp full before
+        expect 1 totals full add one
+        same full before "totals refused with 54 by $field"
+    done
+    echo 'totals nops=18446744073709551611' > full.txt
+    expect 0 assemble totals full.txt -o full
+    cp full before
+    expect 1 totals full add played.result several.capture
+    says err 'played.result: refused 54: '
+    expect 1 totals full add several.capture
+    says err 'several.capture: refused 54: '
+    same full before 'totals refused with 54 at the last run of a capture'
+    echo 'totals runs=18446744073709551615' > full.txt
+    expect 0 assemble totals full.txt -o full
+    cp full before
+    expect 1 totals full add played.result
+    says err 'the number of runs would pass 2^64 - 1'
+    same full before
+}
+
+# A hundred files at once.
+totals_many() {
+    mkdir -p month-of
+    for i in $(seq 100); do
+        if test $((i % 2)) = 0; then cp played.result month-of/$i; else cp several.capture month-of/$i; fi
+    done
+    rm -f month
+    expect 0 totals month add --new month-of/*
+    says out 'month: 300 runs of 100 files added, 300 in all'
+    totals_are month 'runs=300 packets=100 words=3150 nops=1100 qwc.cnt=1000 qwc.end=150'
+    expect 0 totals month
+    says out '  NOP share     22/63'
+    cp month before
+    printf x > month-of/99
+    expect 2 totals month add month-of/*
+    same month before 'totals where the last of a hundred is bad'
+}
+
+# The counts in JSON and on the page; a result without has none there.
+counts_shown() {
+    expect 0 meaning all.sheet -o meant
+    expect 0 compare played.result meant --json
+    well_formed json out
+    says out '"answer": 0, "steps": 66, "packets": 1, "words": 52, "nops": 17, "nop_share": {"nops": 17, "words": 52}, "qwc": {"refe": 0, "cnt": 19,'
+    expect 0 report played.result meant -o page.html
+    well_formed page page.html
+    says page.html '1 packet closed; 52 VIF words, 17 NOPs; QWC cnt 19'
+    says page.html '17/52'
+    expect 0 report meant played.result -o page.html
+    well_formed page page.html
+    if grep -F 'NOP share' page.html >&2; then fail 'the NOP share of a meaning'; fi
 }
 
 # What is given twice; and every one of 65,536 differences shown in a moment.
@@ -3398,7 +3710,7 @@ repeated() {
 }
 
 for name in ${TESTS:-layout state_words usage bench_points meanings refused_sheets examples comparisons damaged_files other_layouts bad_texts entries_used \
-    unfinished beginnings one_file outputs dashes repeated rack messages long_runs conventions report dumps vif0 packets paths registers whys groups checks salvages generated_sheets generated_captures}; do
+    unfinished beginnings one_file outputs dashes repeated rack messages long_runs conventions report dumps vif0 packets paths registers whys groups checks totals salvages generated_sheets generated_captures}; do
     "$name"
 done
 echo "host/test.sh: all as it has to be"

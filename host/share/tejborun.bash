@@ -1,8 +1,8 @@
 # Completion of tejborun's words for bash.
 _tejborun() {
     local word=${COMP_WORDS[COMP_CWORD]} command=${COMP_WORDS[1]}
-    local commands='build steps salvage meaning run why play check set compare report import export dump assemble help'
-    local kinds='sheet chain state capture result'
+    local commands='build steps salvage meaning run why play check set compare report totals import export dump assemble help'
+    local kinds='sheet chain state capture result totals'
     local parts='data code data0 code0 log'
     local registers='0= 1= 2= 3='
     local options='--help'
@@ -14,6 +14,7 @@ _tejborun() {
     salvage) options='-o --output --ranges --quiet --json --help' ;;
     set) options='-o --output --unit --row --col --help' ;;
     compare) options='--only --all --unfinished --quiet --json --help' ;;
+    totals) options='--new --allowance --json --help' ;;
     report) options='-o --output --from --only --unfinished --help' ;;
     import) options='-o --output --data --code --data0 --code0 --log --help' ;;
     export) options='--main --data --code --data0 --code0 --log --help' ;;
@@ -25,6 +26,8 @@ _tejborun() {
         mapfile -t COMPREPLY < <(compgen -W "$commands" -- "$word")
     elif test "$COMP_CWORD" = 2 && { test "$command" = dump || test "$command" = assemble; }; then
         mapfile -t COMPREPLY < <(compgen -W "$kinds" -- "$word"; compgen -f -- "$word")
+    elif test "$COMP_CWORD" = 3 && test "$command" = totals && test "${word#-}" = "$word"; then
+        mapfile -t COMPREPLY < <(compgen -W 'add' -- "$word")
     elif test "${COMP_WORDS[COMP_CWORD - 1]}" = --only; then
         mapfile -t COMPREPLY < <(compgen -W "$parts" -- "$word")
     elif test "${COMP_WORDS[COMP_CWORD - 1]}" = --unit; then
