@@ -1,4 +1,5 @@
 // Reads check cases from standard input and writes what each leaves (docs/FORMATS.md, "Check cases").
+use blocks::emit_counts;
 use cases::LOG_NUMBERS;
 use cases::emit_memories;
 use cases::fill_memories;
@@ -40,8 +41,8 @@ fn tell_result(out: &mut [u8; 65536], at: usize, r: CheckResult) -> usize {
     let b = emit_long(out, a, supplier::number(answer));
     let c = emit(out, b, low_word(supplier::offset(answer) as u64));
     let d = emit_long(out, c, r.used);
-    let e = emit_long(out, d, r.counts.steps);
-    emit_long(out, e, r.counts.packets)
+    let counts = r.counts;
+    emit_counts(out, d, counts)
 }
 
 // A case on its sheet and memories.

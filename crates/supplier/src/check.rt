@@ -32,7 +32,7 @@ fn copy_bytes(from: &[u8], to: &mut [u8])
 fn refused(number: u32, offset: usize) -> CheckResult
     ensures { λ r. ⌜ r ≡ refusedWith number offset ⌝ }
 {
-    let counts = fields::steps_alone(0);
+    let counts = fields::no_counts();
     CheckResult {
         answer: CheckAnswer::Refused { number, offset },
         used: 0,

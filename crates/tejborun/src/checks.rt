@@ -1,5 +1,5 @@
 // A supplier's chain beside a sheet.
-use super::results::put_five;
+use super::results::put_after_three;
 ghost use mathlib.Core.Path.{_≡_};
 ghost use Rattle.memories.specs.Lengths.{lent};
 ghost use Rattle.tejborun.specs.Checks.{left, checkCall};
@@ -17,18 +17,18 @@ pub extern "C" fn tejborun_check(
     ensures { λ r. ⌜ left r (lent (now («data» .exit)) (now (code .exit)) (now (log .exit))) (now (result .exit))
         ≡ checkCall (now (sheet .entry)) (now (main .entry)) (lent (now («data» .entry)) (now (code .entry)) (now (log .entry))) allowance (now (result .entry)) ⌝ }
 {
-    if result.len() < 5 {
+    if result.len() < 15 {
         return 60;
     }
     let r = supplier::check_chain(sheet, main, data, code, log, allowance);
     let answer = r.answer;
-    put_five(
+    let counts = r.counts;
+    put_after_three(
         result,
         supplier::number(answer),
         supplier::offset(answer) as u64,
         r.used,
-        r.counts.steps,
-        r.counts.packets,
+        counts,
     );
     supplier::kind(answer)
 }

@@ -44,6 +44,17 @@ pub(crate) fn put_after(result: &mut [u64], a: u64, c: Counts)
     put_counts(&mut result[1..], c);
 }
 
+// Three numbers, and a run's counts after them.
+pub(crate) fn put_after_three(result: &mut [u64], a: u64, b: u64, c: u64, counts: Counts)
+    requires { ⌜ 15 ≤ length (now result) ⌝ }
+    ensures { λ _. ⌜ now (result .exit) ≡ written (a ∷ b ∷ c ∷ countNumbers counts) (now (result .entry)) ⌝ }
+{
+    result[0] = a;
+    result[1] = b;
+    result[2] = c;
+    put_counts(&mut result[3..], counts);
+}
+
 pub(crate) fn put_four(result: &mut [u64], a: u64, b: u64, c: u64, d: u64)
     requires { ⌜ 4 ≤ length (now result) ⌝ }
     ensures { λ _. ⌜ now (result .exit) ≡ written (a ∷ b ∷ c ∷ d ∷ []) (now (result .entry)) ⌝ }
@@ -52,17 +63,6 @@ pub(crate) fn put_four(result: &mut [u64], a: u64, b: u64, c: u64, d: u64)
     result[1] = b;
     result[2] = c;
     result[3] = d;
-}
-
-pub(crate) fn put_five(result: &mut [u64], a: u64, b: u64, c: u64, d: u64, e: u64)
-    requires { ⌜ 5 ≤ length (now result) ⌝ }
-    ensures { λ _. ⌜ now (result .exit) ≡ written (a ∷ b ∷ c ∷ d ∷ e ∷ []) (now (result .entry)) ⌝ }
-{
-    result[0] = a;
-    result[1] = b;
-    result[2] = c;
-    result[3] = d;
-    result[4] = e;
 }
 
 pub(crate) fn put_ten(
