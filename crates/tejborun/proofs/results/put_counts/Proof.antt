@@ -6,7 +6,7 @@ use Rattle.tejborun.proofs.results.put_counts.Statement.{statement}
 use Rattle.tejborun.proofs.results.put_counts.Tie as tie
 
 returns : tie.Need-returns
-returns c = numbers-stored _ _ (c .pre)
+returns c = numbers-stored _ _ (c .before .pre)
 
 pub put-counts-spec : {M : Type 1} → statement M
 put-counts-spec =

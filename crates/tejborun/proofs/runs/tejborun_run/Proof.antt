@@ -12,7 +12,7 @@ returns-2 c = run-short _ _ _ _ _ (c .before .if1 .left) (c .if2 .taken)
 returns-3 : tie.Need-returns-3
 returns-3 c =
     let w = c .before .before .before in
-    let p = w .before .before .before .before in
+    let p = w .before .before .before .before .before in
     let told = p .before in
     let s = told .before .before .before .before .before .before .before .before .before in
     let r = s .before .before .before .before .before in
