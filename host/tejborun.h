@@ -4,9 +4,10 @@
  * where the number is 0), aligned for its type, and no buffer that is written may overlap another one of the same call. What const points to is only
  * read. Nothing is kept between calls, nothing is allocated, and no function prints or stops the program.
  *
- * An answer is a number of the scope document, or TEJBORUN_SHORT; tejborun_build may answer a length, and tejborun_compare, tejborun_why and tejborun_check have
- * answers of their own. A call that is refused at once changes no memory and no log, a run that is refused after some steps leaves what those steps left; the result is
- * written in both cases, but not with TEJBORUN_SHORT, which is tested before all else. Numbers of a result beyond those stated are never written.
+ * An answer is a number of the scope document, or TEJBORUN_SHORT; tejborun_build may answer a length, and tejborun_compare, tejborun_why and tejborun_check
+ * have answers of their own. A call that is refused at once changes no memory and no log, a run that is refused after some steps leaves what those steps
+ * left; the result is written in both cases, but not with TEJBORUN_SHORT, which is tested before all else. Numbers of a result beyond those stated are never
+ * written.
  *
  * state_shape.h has the words of a state block by name, docs/FORMATS.md says what they hold; a struct tejborun_state is lent as (uint32_t *)&state. A start, a
  * build and run, and a run that completes a step write the state that they leave, in which the words that mean nothing are zero. What is refused before it begins,
@@ -49,9 +50,9 @@ extern "C" {
 #define TEJBORUN_SHEET_BYTES 131072u  /* most bytes of a sheet */
 #define TEJBORUN_CHAIN_BYTES 1048576u /* most bytes of a sheet's chain, groups expanded and the end tag included */
 
-/* The counts of a run, over its completed steps. VIF words are steps of one word, of either unit, tag words and payload included; a quadword that DIRECT or
- * DIRECTHL takes is none. NOPs are words that are decoded as that code, whatever their other bits, and no words of payload. QWC is summed by the tag's ID, 0 to 7,
- * each tag's whole in the step that reads it. Totals are the same sums over any runs, without the steps. */
+/* The counts of a run, over its completed steps. VIF words are steps of one word, of either unit, tag words and payload included; a quadword that DIRECT
+ * or DIRECTHL takes is none. NOPs are words that are decoded as that code, whatever their other bits, and no words of payload. QWC is summed by the tag's
+ * ID, 0 to 7, each tag's whole in the step that reads it. Totals are the same sums over any runs, without the steps. */
 #define TEJBORUN_COUNT_STEPS 0u
 #define TEJBORUN_COUNT_PACKETS 1u
 #define TEJBORUN_COUNT_WORDS 2u
@@ -213,10 +214,10 @@ uint32_t tejborun_build_and_run(const uint8_t *sheet, size_t sheet_bytes, uint8_
                                 size_t data_words, uint8_t *code, size_t code_bytes, uint64_t *log, size_t log_numbers, uint32_t *block,
                                 size_t block_words, uint64_t allowance, uint64_t *result, size_t result_numbers);
 
-/* Whether a chain does what a sheet means. The chain is in main memory, at address 0. It is run from the reset state, started on channel 1 at address 0 without
- * tag transfer, for at most so many steps, over VIF1's memories as they are lent and a log of which no entry is used. It is accepted exactly if the sheet is valid,
- * the run ends with 0, and both memories and the log then are the sheet's meaning of the memories as they stood before the run. Answers TEJBORUN_SHORT, or the
- * first of these that applies:
+/* Whether a chain does what a sheet means. The chain is in main memory, at address 0. It is run from the reset state, started on channel 1 at address 0
+ * without tag transfer, for at most so many steps, over VIF1's memories as they are lent and a log of which no entry is used. It is accepted exactly if the
+ * sheet is valid, the run ends with 0, and both memories and the log then are the sheet's meaning of the memories as they stood before the run. Answers
+ * TEJBORUN_SHORT, or the first of these that applies:
  *   TEJBORUN_CHECK_REFUSED      1 to 4 for the lengths, then the sheet's refusal (40 to 46, 49, 52): nothing is run, no memory is changed,
  *   TEJBORUN_CHECK_ANSWER       the run's answer is not 0: 90, 91 or a refusal,
  *   TEJBORUN_CHECK_QUADWORD     a quadword of data memory differs from the meaning,
@@ -224,10 +225,11 @@ uint32_t tejborun_build_and_run(const uint8_t *sheet, size_t sheet_bytes, uint8_
  *   TEJBORUN_CHECK_ENTRY        a log entry that both have does, in one of its three numbers,
  *   TEJBORUN_CHECK_ENTRIES      the number of entries does,
  *   TEJBORUN_CHECK_ACCEPTED     nothing does.
- * The chain that tejborun_build makes of the sheet is accepted where allowance and log suffice. But where refused, memories and log are left as the run left them.
- * result[0]: the refusal; the run's answer; the lowest quadword, instruction or entry that differs; of TEJBORUN_CHECK_ENTRIES the run's number of entries; 0 where
- * accepted. result[1]: the offset of the refused record, 0 where there is none. result[2]: the entries used by the run; result[3] to result[14]: its counts; these
- * are 0 where refused. */
+ * The chain that tejborun_build makes of the sheet is accepted where allowance and log suffice. But where refused, memories and log are left as the run left
+ * them.
+ * result[0]: the refusal; the run's answer; the lowest quadword, instruction or entry that differs; of TEJBORUN_CHECK_ENTRIES the run's number of entries; 0
+ * where accepted. result[1]: the offset of the refused record, 0 where there is none. result[2]: the entries used by the run; result[3] to result[14]: its
+ * counts; these are 0 where refused. */
 #define TEJBORUN_CHECK_ACCEPTED 0u
 #define TEJBORUN_CHECK_REFUSED 1u
 #define TEJBORUN_CHECK_ANSWER 2u

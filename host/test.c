@@ -1313,7 +1313,8 @@ static void test_shares(void)
             totals[j] = 1000 + j;
         totals[TEJBORUN_TOTAL_NOPS] = shares[i][0];
         totals[TEJBORUN_TOTAL_WORDS] = shares[i][1];
-        CHECK(tejborun_nop_share(totals, TEJBORUN_TOTALS, result, 3) == TEJBORUN_DONE && result[0] == shares[i][2] && result[1] == shares[i][3] && result[2] == 9);
+        CHECK(tejborun_nop_share(totals, TEJBORUN_TOTALS, result, 3) == TEJBORUN_DONE);
+        CHECK(result[0] == shares[i][2] && result[1] == shares[i][3] && result[2] == 9);
         CHECK(totals[0] == 1000 && totals[TEJBORUN_TOTALS - 1] == 1000 + TEJBORUN_TOTALS - 1);
     }
 }
@@ -2148,7 +2149,8 @@ static void try_edits(const struct edit *edits, uint32_t kind, uint64_t number, 
 }
 
 /* The words of the sheet's chain that are edited: codes, vectors, the instruction and the second GS write. */
-enum { AT_NOP = 4, AT_STCYCL = 5, AT_UNPACK = 7, AT_VECTOR_0 = 8, AT_VECTOR_1 = 12, AT_INSTRUCTION = 24, AT_REGISTER = 42, AT_VALUE = 44, AT_BEFORE = 54, AT_MSCAL = 55 };
+enum { AT_NOP = 4, AT_STCYCL = 5, AT_UNPACK = 7, AT_VECTOR_0 = 8, AT_VECTOR_1 = 12, AT_INSTRUCTION = 24, AT_REGISTER = 42, AT_VALUE = 44 };
+enum { AT_BEFORE = 54, AT_MSCAL = 55 };
 
 /* Each kind of difference, and of several the first in the order of kinds, the lowest of a kind. */
 static void test_check_kinds(bool end)
