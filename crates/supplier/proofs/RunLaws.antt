@@ -7,6 +7,7 @@ use borrow.Author.Tests.{eqb-true, not-false}
 use lib.ListN.{length}
 use lib.Dec.{eqb}
 use Rattle.fields.specs.declared.Counts.{Counts}
+use Rattle.fields.specs.declared.UnitCounts.{UnitCounts}
 use Rattle.fields.specs.Fields.{if}
 use Rattle.fields.specs.Memory.{quadwordAt}
 use Rattle.fields.specs.Refusals.{mainLength}
@@ -54,12 +55,12 @@ module _ (main : List ℕ) (s : State) (m : Lent) where
 
   vif-keeps : (a : ℕ) (t : TagWords) (p : ℕ → Payload) → Keeps s (vifGiven main a t p s m)
   unfolding vifGiven
-  vif-keeps a t p = go (vifTook (fedUnit s) main a s m .answer)
+  vif-keeps a t p = go (vifTook (fedUnit s) main a s m .answer) _
     where
-      go : (b : VifAnswer) → Keeps s (afterVif (fedUnit s) b (vifTook (fedUnit s) main a s m) t p s m)
-      go (Word i) = record { channel = refl }
-      go (Quadword i c) = record { channel = refl }
-      go (VifRefused n) = record { channel = refl }
+      go : (b : VifAnswer) (k : UnitCounts) → Keeps s (afterVif (fedUnit s) b k (vifTook (fedUnit s) main a s m) t p s m)
+      go (Word i) k = record { channel = refl }
+      go (Quadword i c) k = record { channel = refl }
+      go (VifRefused n) k = record { channel = refl }
 
   gif-keeps : (a : ℕ) (p : Payload) → Keeps s (gifGiven main a p s m)
   unfolding gifGiven

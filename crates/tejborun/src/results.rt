@@ -49,10 +49,22 @@ pub(crate) fn put_after_three(result: &mut [u64], a: u64, b: u64, c: u64, counts
     requires { ⌜ 15 ≤ length (now result) ⌝ }
     ensures { λ _. ⌜ now (result .exit) ≡ written (a ∷ b ∷ c ∷ countNumbers counts) (now (result .entry)) ⌝ }
 {
+    let q = counts.qwc;
     result[0] = a;
     result[1] = b;
     result[2] = c;
-    put_counts(&mut result[3..], counts);
+    result[3] = counts.steps;
+    result[4] = counts.packets;
+    result[5] = counts.words;
+    result[6] = counts.nops;
+    result[7] = q.id0;
+    result[8] = q.id1;
+    result[9] = q.id2;
+    result[10] = q.id3;
+    result[11] = q.id4;
+    result[12] = q.id5;
+    result[13] = q.id6;
+    result[14] = q.id7;
 }
 
 pub(crate) fn put_four(result: &mut [u64], a: u64, b: u64, c: u64, d: u64)

@@ -10,7 +10,7 @@ returns-2 : tie.Need-returns-2
 returns-2 c =
     let w = c .before .before .before in
     let n = w .before .before in
-    let k = n .before .before .before .before .before .before .before .before in
+    let k = n .before .before .before .before .before .before .before .before .before in
     check-told _ _ _ _ _ (k .before .before .before .before .if1 .left) (k .check-chain .ensures) (n .number .ensures) (w .before .offset .ensures) (w .put-after-three .ensures)
     (c .kind .ensures)
 
