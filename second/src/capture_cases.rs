@@ -29,7 +29,7 @@ pub const HEADER: usize = STATE_AT + STATE_WORDS;
 /// The words of a call.
 const CALL: usize = 4;
 /// The words of a run's result before the state block.
-const RUN_HEAD: usize = 1 + COUNTS_WORDS;
+const RUN_HEAD: usize = 1 + run_counts::WORDS;
 /// The words of a why's result.
 pub const WHY_WORDS: usize = 7;
 
@@ -480,26 +480,10 @@ fn run_case(case: &Case, index: usize, results: &mut Results, counts: &mut Count
                 results.check_why(&standing, &why);
             }
             Call::Run { allowance } => {
-                let before = standing.block();
-                counts.begin_run(&standing);
-                let log_length = standing.log.len();
-                let mut trace = Trace::default();
-                let watch = |old: &State, new: &State, tried: Result<Step, u32>| {
-                    if let Ok(step) = tried {
-                        trace.add(old, &main, step.closed());
-                    }
-                    counts.note_step(old, new, tried, log_length);
-                };
-                let stop = standing.run(allowance, watch);
-                counts.note_run(&before, allowance, &stop, &standing);
-                let mut wrong = history::wrong_counts(&trace, &stop);
-                if let Some(history) = &mut history {
-                    let last = history.last;
-                    wrong = history.add(&trace, &stop, &standing).or(wrong);
-                    counts.note_history(history, last, &stop, &standing);
-                }
+                let history = history.as_mut();
+                let (stop, wrong) = run_traced(&mut standing, allowance, &main, history, counts);
                 put_word(out, stop.answer);
-                put_counts(out, &stop.counts);
+                stop.counts.write(out);
                 put_block(out, &standing);
                 if case.whole {
                     write_memories(out, &standing);
@@ -512,16 +496,34 @@ fn run_case(case: &Case, index: usize, results: &mut Results, counts: &mut Count
     }
 }
 
-/// The words of a run's counts.
-pub const COUNTS_WORDS: usize = 2 * run_counts::NUMBERS;
-
-pub fn put_counts(out: &mut Vec<u8>, counts: &RunCounts) {
-    counts.numbers().iter().for_each(|&n| put_number(out, n));
-}
-
-/// The counts that start at a word.
-pub fn read_counts(bytes: &[u8], at: usize) -> RunCounts {
-    RunCounts::of_numbers(std::array::from_fn(|i| number(bytes, at + 2 * i)))
+/// Runs the chain; each step is noted and traced. With it what is wrong with the counts, or with the
+/// runs since the last start that was accepted.
+fn run_traced(
+    standing: &mut Standing,
+    allowance: u64,
+    main: &[u8],
+    history: Option<&mut History>,
+    counts: &mut Counts,
+) -> (Stop, Option<String>) {
+    let before = standing.block();
+    counts.begin_run(standing);
+    let log_length = standing.log.len();
+    let mut trace = Trace::default();
+    let watch = |old: &State, new: &State, tried: Result<Step, u32>| {
+        if let Ok(step) = tried {
+            trace.add(old, main, step.closed());
+        }
+        counts.note_step(old, new, tried, log_length);
+    };
+    let stop = standing.run(allowance, watch);
+    counts.note_run(&before, allowance, &stop, standing);
+    let mut wrong = history::wrong_counts(&trace, &stop);
+    if let Some(history) = history {
+        let last = history.last;
+        wrong = history.add(&trace, &stop, standing).or(wrong);
+        counts.note_history(history, last, &stop, standing);
+    }
+    (stop, wrong)
 }
 
 fn put_why(out: &mut Vec<u8>, why: &Why) {
@@ -587,7 +589,7 @@ pub fn describe_result(bytes: &[u8], call: &Call, case: &Case) -> String {
     }
     let mut text = format!("answer {}", word(bytes, 0));
     if head == RUN_HEAD {
-        let counts = read_counts(bytes, 1);
+        let counts = RunCounts::read(bytes, 1);
         text.push_str(&format!(", {}", run_counts::describe(&counts)));
     }
     let block = std::array::from_fn(|i| word(bytes, head + i));

@@ -1,12 +1,12 @@
 //! Check case files and their results.
 
-use crate::capture_cases::{put_counts, COUNTS_WORDS};
 use crate::case_results::Results;
 use crate::check::{check, Checked};
 use crate::check_counts::Counts;
 use crate::check_sentences::broken;
 use crate::compare;
 use crate::memory::cases::{MOST_CODE, MOST_DATA, MOST_LOG, MOST_MAIN};
+use crate::run_counts;
 use crate::sheet_cases::{put_bytes, Filled};
 use crate::words::{number, put_number, put_word, word, WORD};
 
@@ -85,7 +85,7 @@ impl Outcome {
         put_number(out, verdict.number());
         put_word(out, verdict.offset() as u32);
         put_number(out, self.checked.used);
-        put_counts(out, &self.checked.counts);
+        self.checked.counts.write(out);
         self.memories.write(out);
     }
 }
@@ -154,7 +154,7 @@ fn layout(case: &Case) -> [(&'static str, usize); 8] {
         ("the number", 2),
         ("the offset", 1),
         ("the entries used", 2),
-        ("the counts", COUNTS_WORDS),
+        ("the counts", run_counts::WORDS),
         ("data memory", case.data_length as usize),
         ("code memory", case.code_length.div_ceil(4) as usize),
         ("the log", 2 * case.log_length as usize),
@@ -197,7 +197,6 @@ pub fn describe_case(case: &Case) -> String {
 #[cfg(test)]
 mod tests {
     use super::*;
-    use crate::capture_cases::read_counts;
     use crate::check::Verdict;
     use crate::sheet::{CODE_BYTES, DATA_WORDS};
 
@@ -266,7 +265,7 @@ mod tests {
         let result = own(&case(0x9400_0005));
         assert_eq!(words(&result)[..8], [2, 91, 0, 0, 1, 0, 2, 0]);
         assert_eq!(
-            read_counts(&result, 6).numbers(),
+            run_counts::RunCounts::read(&result, 6).numbers(),
             [2, 0, 1, 0, 0, 0, 0, 0, 0, 0, 0, 1]
         );
         assert_eq!(words(&result)[HEAD + 8_192..], [0, 0, 256, 0, 5, 0]);

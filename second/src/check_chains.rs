@@ -193,7 +193,7 @@ fn shortest_packet(body: &[u8]) -> Vec<Quad> {
     let same = registers.iter().all(|&register| register == registers[0]);
     let n = values.len();
     if same && registers[0] == IMAGE_REGISTER && n % 2 == 0 {
-        let tag = [0x8000 | n as u32 / 2, 2 << 26, 0, 0];
+        let tag = [0x8000 | (n as u32 / 2), 2 << 26, 0, 0];
         return with_values(tag, &values);
     }
     let listed = registers

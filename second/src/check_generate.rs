@@ -18,6 +18,7 @@ use crate::sheet::{self, record_bytes, CODE_BYTES, DATA_WORDS};
 use crate::sheet_edges::edge_cases;
 use crate::sheet_random::{enough, good_record, random_sheet, sheet_of, CODE, DATA, GS, START};
 use crate::vif_generate::code_word;
+use std::collections::HashMap;
 
 /// One case in so many is large.
 const LARGE_EVERY: u64 = 50;
@@ -115,34 +116,26 @@ pub fn cases(seed: u64, count: u64) -> Vec<Made> {
     all
 }
 
-/// The sheets at the edges that are refused; some of each number come first.
+/// The sheets at the edges that are refused; a few of each number come first.
 fn refused_edges(random: &mut Random) -> Vec<Vec<u8>> {
     let edges = edge_cases(random).into_iter().map(|case| case.sheet);
     let groups = group_edge_cases(random).into_iter().map(|case| case.sheet);
-    let short = |sheet: &Vec<u8>| sheet.len() < 2_000 && sheet::records(sheet).is_err();
-    let mut all: Vec<Vec<u8>> = edges.chain(groups).filter(short).collect();
+    let short = edges.chain(groups).filter(|sheet| sheet.len() < 2_000);
+    let mut all: Vec<(u32, Vec<u8>)> = short
+        .filter_map(|sheet| Some((sheet::records(&sheet).err()?.0, sheet)))
+        .collect();
     for at in (1..all.len()).rev() {
         all.swap(at, random.below(at as u64 + 1) as usize);
     }
-    all.sort_by_key(|sheet| sheet::records(sheet).err().map(|refusal| refusal.0));
-    let mut sorted = std::mem::take(&mut all).into_iter().peekable();
-    let (mut first, mut rest) = (Vec::new(), Vec::new());
-    let (mut number, mut taken) = (0, 0);
-    while let Some(sheet) = sorted.next() {
-        let refusal = sheet::records(&sheet).err().map_or(0, |refusal| refusal.0);
-        taken = if refusal == number { taken + 1 } else { 0 };
-        number = refusal;
-        if taken < 3 {
-            first.push(sheet);
-        } else {
-            rest.push(sheet);
-        }
+    let mut met: HashMap<u32, usize> = HashMap::new();
+    let mut turns: Vec<(usize, Vec<u8>)> = Vec::new();
+    for (refusal, sheet) in all {
+        let before = met.entry(refusal).or_default();
+        turns.push(((*before).min(3), sheet));
+        *before += 1;
     }
-    for at in (1..rest.len()).rev() {
-        rest.swap(at, random.below(at as u64 + 1) as usize);
-    }
-    first.extend(rest);
-    first
+    turns.sort_by_key(|(turn, _)| *turn);
+    turns.into_iter().map(|(_, sheet)| sheet).collect()
 }
 
 /// The chain that our builder makes, as quadwords.
@@ -410,7 +403,7 @@ fn held_again(random: &mut Random) -> Case {
     let fill = random.number();
     let back = held_part(random, fill);
     let away = other_body(random, &back);
-    let made = vec![away.clone(), back.clone()];
+    let made = [away.clone(), back.clone()];
     let other = match random.below(4) {
         0 => vec![],
         1 => vec![away],
@@ -460,6 +453,17 @@ fn refused_step(random: &mut Random) -> Case {
     if random.percent(40) {
         return refused_tag(random, flat.clone(), payload);
     }
+    let piece = refused_codes(random);
+    match after {
+        true => payload.extend(piece),
+        false => payload = [piece, payload].concat(),
+    }
+    let chain = laid_out(random, &payload);
+    case_of(random, flat.clone(), &chain)
+}
+
+/// Quadwords of which a word or a GIF quadword is refused.
+fn refused_codes(random: &mut Random) -> Vec<Quad> {
     let any = random.word() & 0xFFFF;
     let words = match random.below(7) {
         0 => [
@@ -488,12 +492,7 @@ fn refused_step(random: &mut Random) -> Case {
             [1; 4],
         ]);
     }
-    match after {
-        true => payload.extend(piece),
-        false => payload = [piece, payload].concat(),
-    }
-    let chain = laid_out(random, &payload);
-    case_of(random, flat.clone(), &chain)
+    piece
 }
 
 /// The payload in a tag, and a tag after it that is refused.

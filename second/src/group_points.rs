@@ -1,6 +1,5 @@
 //! Points about sheets of the second edition, worked by hand.
 
-use crate::capture_cases::put_counts;
 use crate::group_sheets::{edition, group, nested};
 use crate::refusals;
 use crate::run_counts::RunCounts;
@@ -362,7 +361,7 @@ fn put_refusal(out: &mut Vec<u8>, (number, offset): Refusal) {
 /// Part 4 of a case whose run is refused: nothing has changed.
 fn put_refused_run(out: &mut Vec<u8>, case: &Case, refusal: Refusal) {
     put_refusal(out, refusal);
-    put_counts(out, &RunCounts::default());
+    RunCounts::default().write(out);
     case.state.iter().for_each(|&word| put_word(out, word));
     Filled::new(case).write(out);
     put_bytes(out, &case.main());

@@ -225,8 +225,10 @@ fn checked_name(channel: u32, at: usize, pending: bool) -> String {
     format!("since a start on channel {channel}, {stopped}, {pending} pending")
 }
 
+type Is = fn(u32) -> bool;
+
 /// The answers after which a chain is run again.
-const AGAIN: [(fn(u32) -> bool, &str); 5] = [
+const AGAIN: [(Is, &str); 5] = [
     (|answer| answer == chain::DONE, "done"),
     (|answer| answer == chain::ALLOWANCE_USED, "stopped by 90"),
     (|answer| answer == chain::INTERRUPT, "interrupted"),

@@ -1,11 +1,14 @@
 //! What a run counts over its completed steps.
 
 use crate::chain::Step;
+use crate::words::{number, put_number};
 
 /// The tags' IDs.
 pub const IDS: usize = 8;
 /// The numbers of a run's counts.
 pub const NUMBERS: usize = 4 + IDS;
+/// Their words in a file.
+pub const WORDS: usize = 2 * NUMBERS;
 
 #[derive(Clone, Copy, PartialEq, Eq, Debug, Default)]
 pub struct RunCounts {
@@ -53,6 +56,15 @@ impl RunCounts {
             nops,
             qwc,
         }
+    }
+
+    pub fn write(&self, out: &mut Vec<u8>) {
+        self.numbers().iter().for_each(|&n| put_number(out, n));
+    }
+
+    /// Those that start at a word.
+    pub fn read(bytes: &[u8], at: usize) -> RunCounts {
+        RunCounts::of_numbers(std::array::from_fn(|i| number(bytes, at + 2 * i)))
     }
 
     /// The counts of two runs, one after the other.

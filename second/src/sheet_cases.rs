@@ -1,6 +1,5 @@
 //! Sheet case files and their results.
 
-use crate::capture_cases::{put_counts, COUNTS_WORDS};
 use crate::case_results::Results;
 use crate::chain::{self, State};
 use crate::compare;
@@ -193,7 +192,7 @@ impl Outcome {
         self.meant.memories.write(out);
 
         put_answer(out, self.ran.answer.map(|answer| (answer, 0)));
-        put_counts(out, &self.ran.counts);
+        self.ran.counts.write(out);
         self.ran.state.iter().for_each(|&w| put_word(out, w));
         self.ran.memories.write(out);
         put_bytes(out, &self.ran.main);
@@ -340,7 +339,7 @@ pub fn layout(case: &Case) -> [Vec<(&'static str, usize)>; 4] {
     let head = [("answer", 1), ("offset", 1)];
     let with = |pieces: &[(&'static str, usize)]| [&head[..], pieces].concat();
     let meaning = [&[("entries used", 2)][..], &memories].concat();
-    let run = [("counts", COUNTS_WORDS), ("state block", STATE_WORDS)];
+    let run = [("counts", run_counts::WORDS), ("state block", STATE_WORDS)];
     let run = [&run[..], &memories].concat();
     let main = [("main memory", words(case.main_length))];
     [

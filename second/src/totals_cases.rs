@@ -1,9 +1,8 @@
 //! Totals case files and their results.
 
-use crate::capture_cases::{put_counts, read_counts, COUNTS_WORDS};
 use crate::case_results::Results;
 use crate::compare;
-use crate::run_counts::RunCounts;
+use crate::run_counts::{self, RunCounts};
 use crate::totals::{add_totals, nop_share, Totals, SUMS};
 use crate::totals_counts::Counts;
 use crate::totals_sentences::broken;
@@ -28,7 +27,7 @@ impl Case {
         put_word(out, MARK);
         put_word(out, self.added.len() as u32);
         self.totals.iter().for_each(|&sum| put_number(out, sum));
-        self.added.iter().for_each(|counts| put_counts(out, counts));
+        self.added.iter().for_each(|counts| counts.write(out));
     }
 }
 
@@ -70,14 +69,14 @@ pub fn first_case(bytes: &[u8]) -> Option<(Case, usize)> {
         return None;
     }
     let additions = word(bytes, 1) as usize;
-    let end = HEADER + COUNTS_WORDS * additions;
+    let end = HEADER + run_counts::WORDS * additions;
     if bytes.len() < end * WORD {
         return None;
     }
-    let counts = (HEADER..end).step_by(COUNTS_WORDS);
+    let counts = (HEADER..end).step_by(run_counts::WORDS);
     let case = Case {
         totals: std::array::from_fn(|i| number(bytes, 2 + 2 * i)),
-        added: counts.map(|at| read_counts(bytes, at)).collect(),
+        added: counts.map(|at| RunCounts::read(bytes, at)).collect(),
     };
     Some((case, end * WORD))
 }
@@ -200,7 +199,7 @@ mod tests {
         let given = results(&empty, &mut Counts::default());
         assert_eq!((given.bytes, given.starts), (vec![], vec![0]));
         empty[4..8].copy_from_slice(&65_536_u32.to_le_bytes());
-        empty.resize(WORD * (HEADER + COUNTS_WORDS * 65_536), 0);
+        empty.resize(WORD * (HEADER + run_counts::WORDS * 65_536), 0);
         assert_eq!(first_case(&empty), None);
         empty[4..8].copy_from_slice(&65_535_u32.to_le_bytes());
         assert_eq!(first_case(&empty).unwrap().0.added.len(), 65_535);

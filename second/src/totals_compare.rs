@@ -115,22 +115,27 @@ fn damaged(cases: &[Made], seed: u64) -> Vec<(String, Vec<u8>)> {
         cut(&mut made, random.below(file.len() as u64) as usize);
     }
     for index in [0, last / 2, last] {
-        let mut spoil = |name: &str, at: usize, value: u32| {
-            let mut bytes = file.clone();
-            let at = starts[index] + WORD * at;
-            bytes[at..at + WORD].copy_from_slice(&value.to_le_bytes());
-            made.push((format!("case {index}, {name}"), bytes));
-        };
-        let additions = word(&file[starts[index]..], 1);
-        spoil("mark with its first bit flipped", 0, MARK ^ 1);
-        spoil("mark with its last bit flipped", 0, MARK ^ 1 << 31);
-        spoil("n at its limit", 1, MOST_ADDITIONS);
-        spoil("n one above its limit", 1, MOST_ADDITIONS + 1);
-        spoil("n the greatest", 1, u32::MAX);
-        spoil("n one more", 1, additions + 1);
-        spoil("n one less", 1, additions.saturating_sub(1));
+        spoil_case(&mut made, &file, starts[index], index);
     }
     made
+}
+
+/// Files in which one word of a case is changed.
+fn spoil_case(made: &mut Vec<(String, Vec<u8>)>, file: &[u8], start: usize, index: usize) {
+    let mut spoil = |name: &str, at: usize, value: u32| {
+        let mut bytes = file.to_vec();
+        let at = start + WORD * at;
+        bytes[at..at + WORD].copy_from_slice(&value.to_le_bytes());
+        made.push((format!("case {index}, {name}"), bytes));
+    };
+    let additions = word(&file[start..], 1);
+    spoil("mark with its first bit flipped", 0, MARK ^ 1);
+    spoil("mark with its last bit flipped", 0, MARK ^ 1 << 31);
+    spoil("n at its limit", 1, MOST_ADDITIONS);
+    spoil("n one above its limit", 1, MOST_ADDITIONS + 1);
+    spoil("n the greatest", 1, u32::MAX);
+    spoil("n one more", 1, additions + 1);
+    spoil("n one less", 1, additions.saturating_sub(1));
 }
 
 #[cfg(test)]

@@ -111,7 +111,7 @@ fn near(random: &mut Random, sums: u64, beyond: u64) -> Case {
         totals[at] = random.pick(&[u64::MAX - few, u64::MAX, u64::MAX >> 1, few, totals[at]]);
         let room = u64::MAX - totals[at];
         let more = random.pick(&[1, 1, few]) * beyond;
-        numbers[at + 1] = room.checked_add(more).unwrap_or(u64::MAX);
+        numbers[at + 1] = room.saturating_add(more);
     }
     numbers[0] = random.pick(&[numbers[0], u64::MAX]);
     let mut added = vec![RunCounts::of_numbers(numbers)];
