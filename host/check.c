@@ -28,6 +28,11 @@ bool was_done(const struct checked *chain)
     return was_run(chain) && chain->kind != TEJBORUN_CHECK_ANSWER;
 }
 
+bool run_refused(const struct checked *chain)
+{
+    return chain->kind == TEJBORUN_CHECK_ANSWER && chain->number != TEJBORUN_ALLOWANCE && chain->number != TEJBORUN_INTERRUPT;
+}
+
 /* Asks the library whether the chain does what the sheet means. */
 static void ask(const struct checks *checks, const struct bytes *file, struct checked *chain)
 {
@@ -47,7 +52,7 @@ static enum chain_end end_of(const struct checked *chain)
 {
     if (chain->kind == TEJBORUN_CHECK_ACCEPTED)
         return CHAIN_ACCEPTED;
-    if (chain->kind == TEJBORUN_CHECK_ANSWER && (chain->number == TEJBORUN_ALLOWANCE || chain->number == TEJBORUN_INTERRUPT))
+    if (chain->kind == TEJBORUN_CHECK_ANSWER && chain->number == TEJBORUN_ALLOWANCE)
         return CHAIN_STOPPED;
     return chain->kind == TEJBORUN_CHECK_REFUSED || chain->kind == TEJBORUN_SHORT ? CHAIN_REFUSED : CHAIN_DIFFERENT;
 }
@@ -88,11 +93,10 @@ static int check_chain_file(const char *name, const struct bytes *file)
 static int keep_run(const struct words_given *given, const struct checks *checks, const struct bytes *file, struct checked *chain)
 {
     const char *output = given->option[OPTION_OUTPUT];
-    bool is_refused = chain->kind == TEJBORUN_CHECK_ANSWER && chain->end == CHAIN_DIFFERENT;
-    if (!was_run(chain) || (output == NULL && !is_refused))
+    if (!was_run(chain) || (output == NULL && !run_refused(chain)))
         return STATUS_DONE;
     struct result result = run_again(checks, file);
-    if (is_refused)
+    if (run_refused(chain))
         chain->why = ask_why(file->at, file->count, &result.board);
     int status = output != NULL ? write_result(output, &result) : STATUS_DONE;
     free_board(&result.board);

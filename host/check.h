@@ -5,7 +5,7 @@
 #include "board.h"
 #include "why.h"
 
-/* How a chain ends: stopped is without a verdict, by a used allowance or an interrupt mark. */
+/* How a chain ends: stopped is without a verdict, by a used allowance. */
 enum chain_end { CHAIN_ACCEPTED, CHAIN_DIFFERENT, CHAIN_STOPPED, CHAIN_REFUSED, CHAIN_NOT_READ, CHAIN_ENDS };
 
 /* A chain's file, and what the library says of it. */
@@ -38,6 +38,9 @@ struct checks {
 /* Whether the run was made, and whether to its end. */
 bool was_run(const struct checked *chain);
 bool was_done(const struct checked *chain);
+
+/* Whether a step of the run was refused. */
+bool run_refused(const struct checked *chain);
 
 /* Each prints a chain, and after the last one what is to be said of all. */
 typedef void show_checked(const struct checks *checks, const struct checked *chain);

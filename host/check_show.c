@@ -51,7 +51,7 @@ static void show_difference(const struct checks *checks, const struct checked *c
         show_unit(&pair, part, chain->number);
     else if (chain->kind == TEJBORUN_CHECK_ENTRIES)
         show_lengths(&pair);
-    else if (chain->end == CHAIN_DIFFERENT)
+    else if (run_refused(chain))
         say_why("  ", &chain->why);
     else if (chain->number == TEJBORUN_ALLOWANCE)
         say("  the allowance was %" PRIu64 " %s; --allowance gives another\n", checks->allowance, plural(checks->allowance, "step", "steps"));
@@ -158,7 +158,7 @@ static void say_json_difference(const struct checks *checks, const struct checke
         say(", \"found\": ");
         print_unit_json(&chain->left, part, chain->number);
     }
-    if (chain->kind == TEJBORUN_CHECK_ANSWER && chain->end == CHAIN_DIFFERENT) {
+    if (run_refused(chain)) {
         char why[WHY_TEXT];
         why_words(&chain->why, why);
         say(", \"why\": ");

@@ -82,7 +82,7 @@ static const struct command commands[] = {
      "  --json         prints JSON\n"
      "Main memory is the chain's file and nothing behind it: a chain that reads beyond its file is refused (10, 14), and a file\n"
      "that is empty, no whole quadwords or longer than 1,048,576 bytes too (1). The log is empty, with room for 65,536 entries.\n"
-     "The exit status is 0 where all are accepted, 1 where one differs or is refused, 3 where a run stopped before its end (90, 91).\n"},
+     "The exit status is 0 where all are accepted, 1 where one differs or is refused, 3 where the allowance stopped a run (90).\n"},
     {"set", 1, 1, 0, TAKES(OPTION_OUTPUT) | TAKES(OPTION_UNIT) | TAKES(OPTION_ROW) | TAKES(OPTION_COL), true, command_set,
      "set FILE -o FILE [--unit N] [--row I=VALUE].. [--col I=VALUE]..",
      "Sets ROW and COL in the state that a file holds, and writes the file with it; all else stays. FILE is a state, a capture\n"

@@ -4,7 +4,7 @@
  * where the number is 0), aligned for its type, and no buffer that is written may overlap another one of the same call. What const points to is only
  * read. Nothing is kept between calls, nothing is allocated, and no function prints or stops the program.
  *
- * An answer is a number of the scope document, or TEJBORUN_SHORT; tejborun_build may answer a length, and tejborun_compare, tejborun_why and tejborun_check
+ * An answer is a number of enum tejborun_answer; tejborun_build may answer a length, and tejborun_compare, tejborun_why and tejborun_check
  * have answers of their own. A call that is refused at once changes no memory and no log, a run that is refused after some steps leaves what those steps
  * left; the result is written in both cases, but not with TEJBORUN_SHORT, which is tested before all else. Numbers of a result beyond those stated are never
  * written.
@@ -170,7 +170,7 @@ uint32_t tejborun_meaning(const uint8_t *sheet, size_t sheet_bytes, uint32_t *da
 uint32_t tejborun_reset(uint32_t *block, size_t block_words);
 
 /* Starts a chain: channel 0 (VIF0), 1 (VIF1) or 2 (the GIF), the address of the first tag, tag transfer 0 or 1. Answers 0, 5 or TEJBORUN_SHORT. A tag
- * transfer above 1 changes nothing. */
+ * transfer above 1 is refused with 5. */
 uint32_t tejborun_start(uint32_t *block, size_t block_words, uint32_t channel, uint32_t tadr, uint32_t tte);
 
 /* The registers that are set, by their numbers: ROW 0 to 3, then COL 0 to 3. */

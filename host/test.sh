@@ -3255,9 +3255,9 @@ message() {
     "$command" assemble result message.txt -o message.result && "$command" dump message.result | sed -n '1s/.*# //p'
 }
 
-# Runs that stop before their end: no verdict.
+# Runs that stop before their end: at an interrupt mark different, by the allowance no verdict.
 check_stops() {
-    checked_so 3 's/MSCAL imm=2047/MSCAL imm=2047 irq=1/' "no verdict: the run's answer is 91: stopped at an interrupt mark" '  32 steps; 1 packet closed'
+    checked_so 1 's/MSCAL imm=2047/MSCAL imm=2047 irq=1/' "different: the run's answer is 91: stopped at an interrupt mark" '  32 steps; 1 packet closed'
     expect 0 check all.sheet short.chain --allowance 35
     for form in '--allowance 34' --allowance=34; do
         # shellcheck disable=SC2086
@@ -3392,13 +3392,15 @@ check_rack() {
     same out wanted 'the rows of chains'
     expect 0 check all.sheet short.chain ours.chain
     says out '2 chains beside all.sheet: 2 accepted'
-    expect 3 check all.sheet short.chain mark.chain late.chain
+    expect 1 check all.sheet short.chain mark.chain late.chain
+    says out '3 chains beside all.sheet: 1 accepted, 2 different'
+    expect 3 check all.sheet short.chain endless.chain late.chain --allowance 100
     says out '3 chains beside all.sheet: 1 accepted, 1 different, 1 no verdict'
     expect 2 check all.sheet short.chain mark.chain none missing
     says out 'none         refused 1'
     says out 'missing      not read'
-    says out '4 chains beside all.sheet: 1 accepted, 1 no verdict, 1 refused, 1 not read'
-    for words in '0 short.chain' '1 late.chain' '1 short.chain none' '3 mark.chain late.chain' '2 missing late.chain'; do
+    says out '4 chains beside all.sheet: 1 accepted, 1 different, 1 refused, 1 not read'
+    for words in '0 short.chain' '1 late.chain' '1 short.chain none' '1 mark.chain late.chain' '3 endless.chain late.chain' '2 missing late.chain'; do
         set -- $words
         wanted=$1
         shift
@@ -3414,7 +3416,7 @@ check_rack() {
     says out '"difference": {"kind": "quadword", "number": 16, "words": "quadword 16 differs", "expected": ["0x00000000", "0x3F800000", "0x00000000", "0x3F800000"], "found": ["0x3F800000", "0x00000000", "0x00000000", "0x00000000"]}}'
     says out '"difference": {"kind": "answer", "number": 22, "words": "the run'"'"'s answer is 22: UNPACK with WL 0", "why": "refused 22 at 0x00000014: UNPACK with WL 0"}}'
     says out '"difference": {"kind": "entries", "number": 6, "words": "the run logged 6 entries, the sheet means 7"}}'
-    says out '"verdict": "no verdict", "status": 3, "bytes": 224, "entries": 6, "steps": 32, "packets": 1, "words": 25, "nops": 1, '
+    says out '"verdict": "different", "status": 1, "bytes": 224, "entries": 6, "steps": 32, "packets": 1, "words": 25, "nops": 1, '
     says out '"difference": {"kind": "answer", "number": 91, "words": "the run'"'"'s answer is 91: stopped at an interrupt mark"}}'
     says out '"verdict": "refused", "status": 1, "refusal": 1, "offset": 0}'
     says out '"verdict": "not read", "status": 2}'

@@ -171,9 +171,9 @@ module _ (sheet main : List ℕ) (m : Lent) (allowance : ℕ) where
 
     answer-says : (a : Answer) → run .answer ≡ a → Says sheet main m allowance (judged a (run .after .memories) (run .after .state .used) meant)
     answer-says Done e = told-says e (told run meant (left-fits main m entered allowance) meant-mem meant-code)
-    answer-says Allowance e = stopped rs contents e (λ z. absurd (let y : _≡_ {A = ℕ} 0 1 = cc in omega arith))
-    answer-says Interrupt e = stopped rs contents e (λ z. absurd (let y : _≡_ {A = ℕ} 0 1 = cc in omega arith))
-    answer-says (RunRefused n) e = stopped rs contents e (λ z. absurd (let y : _≡_ {A = ℕ} 0 1 = cc in omega arith))
+    answer-says Allowance e = stopped rs entered contents e (λ z. absurd (let y : _≡_ {A = ℕ} 0 1 = cc in omega arith))
+    answer-says Interrupt e = stopped rs entered contents e (λ z. absurd (let y : _≡_ {A = ℕ} 0 1 = cc in omega arith))
+    answer-says (RunRefused n) e = stopped rs entered contents e (λ z. absurd (let y : _≡_ {A = ℕ} 0 1 = cc in omega arith))
 
     equal-checked : run .answer ≡ Done → Equal run meant → checkOf sheet main m allowance .answer ≡ Accepted
     unfolding checkOf if
@@ -197,7 +197,7 @@ module _ (sheet main : List ℕ) (m : Lent) (allowance : ℕ) where
   says-accepted (matches w) e = w
   says-accepted (refused-entry q z) e = absurd (let y : _≡_ {A = ℕ} 0 1 = cc in omega arith)
   says-accepted (refused-sheet z q) e = absurd (let y : _≡_ {A = ℕ} 0 1 = cc in omega arith)
-  says-accepted (stopped rs c q z) e = absurd (let y : _≡_ {A = ℕ} 0 1 = cc in omega arith)
+  says-accepted (stopped rs n c q z) e = absurd (let y : _≡_ {A = ℕ} 0 1 = cc in omega arith)
   says-accepted (differs rs c d (quadword f)) e = absurd (let y : _≡_ {A = ℕ} 0 1 = cc in omega arith)
   says-accepted (differs rs c d (instruction p f)) e = absurd (let y : _≡_ {A = ℕ} 0 1 = cc in omega arith)
   says-accepted (differs rs c d (entry p q f)) e = absurd (let y : _≡_ {A = ℕ} 0 1 = cc in omega arith)

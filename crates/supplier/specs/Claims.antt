@@ -74,7 +74,8 @@ pub data Says (sheet main : List ℕ) (m : Lent) (allowance : ℕ) : CheckAnswer
   -- "then the sheet's"
   refused-sheet : {n offset : ℕ} → entryRefusal main m begun ≡ 0 → contentsOf sheet ≡ refused n offset → Says sheet main m allowance (Refused n offset)
   -- "the run's answer"
-  stopped : {a : Answer} (rs : List Record) → contentsOf sheet ≡ valid rs → runFromReset main allowance m .answer ≡ a → (a ≡ Done → ⊥)
+  stopped : {a : Answer} (rs : List Record) → entryRefusal main m begun ≡ 0 → contentsOf sheet ≡ valid rs → runFromReset main allowance m .answer ≡ a
+      → (a ≡ Done → ⊥)
       → Says sheet main m allowance (Stopped a)
   differs : {a : CheckAnswer} (rs : List Record) → contentsOf sheet ≡ valid rs → runFromReset main allowance m .answer ≡ Done
       → Differs (runFromReset main allowance m) (meantFrom rs (m .mem) (m .code)) a
