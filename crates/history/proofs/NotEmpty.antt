@@ -19,7 +19,7 @@ use Rattle.chain.specs.Tags.{nextStack, usesAddr, payloadAt as placedAt, nextTa
 use Rattle.chain.specs.Start.{resetState, startOf}
 use Rattle.chain.specs.Step.{vifGiven, gifGiven, payloadStep, stepOf}
 use Rattle.chain.specs.Run.{done, stepsOf, runOf}
-use Rattle.totals.specs.Totals.{passes, anyPasses, numbersOf, addOf}
+use Rattle.totals.specs.Totals.{noTotals, passes, anyPasses, numbersOf, addOf}
 use Rattle.history.specs.Trace.{tag, payload, payloadAt, eventOf, stepsTrace, traceOf}
 use Rattle.history.specs.History.{History, begins, runs}
 use Rattle.history.specs.Totalled.{Totalled, begins as begins-total, runs as runs-total}
@@ -68,7 +68,7 @@ pub not-empty : History bytes (tag 0x1000_0001 ∷ payload 1 ∷ payload 1 ∷ [
 not-empty = rw (← events) several-runs
 
 -- and with totals: one QWC under ID 1, two VIF words, both NOPs
-pub not-empty-totals : Totalled bytes taken totalsAfter (third .after .state)
+pub not-empty-totals : Totalled bytes noTotals taken totalsAfter (third .after .state)
 unfolding opened totalsAfter addOf
 not-empty-totals =
     runs-total (lent [] [] []) 9 (runs-total (first .after .memories) 9 (runs-total blank 2 (begins-total resetState 1 0 false refl) refl) refl) refl

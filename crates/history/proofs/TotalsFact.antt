@@ -7,7 +7,7 @@ use Rattle.fields.specs.declared.Counts.{Counts}
 use Rattle.fields.specs.declared.Qwc.{Qwc}
 use Rattle.fields.specs.Counts.{qwcUnder, plusQwc, totalQwc}
 use Rattle.fields.specs.Fields.{bits}
-use Rattle.fields.proofs.CountLaws.{total-none, total-plus, total-under}
+use Rattle.fields.proofs.CountLaws.{plus-qwc-none, plus-plus-qwc, total-none, total-plus, total-under}
 use Rattle.fields.proofs.FieldLaws.{bits-below}
 use Rattle.chain.specs.declared.State.{State}
 use Rattle.chain.specs.Tags.{qwcOf, idOf}
@@ -43,21 +43,23 @@ total-read (e ∷ es) = total-plus (qwcsIn e) (qwcsRead es) ∙ rw (total-one e,
 -- ---- the fact with totals
 
 -- its history
-pub history-of : {main : List ℕ} {es : List Event} {t : Totals} {s : State} → Totalled main es t s → History main es s
+pub history-of : {main : List ℕ} {before : Totals} {es : List Event} {t : Totals} {s : State} → Totalled main before es t s → History main es s
 history-of (begins-total s channel tadr tte e) = begins s channel tadr tte e
 history-of (runs-total m allowance h e) = runs m allowance (history-of h)
 
-totals-by-id : {main : List ℕ} {es : List Event} {t : Totals} {s : State} → Totalled main es t s → t .qwc ≡ qwcsRead es
+totals-by-id : {main : List ℕ} {before : Totals} {es : List Event} {t : Totals} {s : State} → Totalled main before es t s → t .qwc ≡ plusQwc (before .qwc) (qwcsRead es)
 unfolding sumOf
-totals-by-id (begins-total s channel tadr tte e) = refl
-totals-by-id {main} (runs-total {es} {t} {s} m allowance h e) =
+totals-by-id {before = before} (begins-total s channel tadr tte e) = sym (plus-qwc-none (before .qwc))
+totals-by-id {main} {before} (runs-total {es} {t} {s} m allowance h e) =
     ap (λ (x : Totals). x .qwc) (added-exact t (runOf main allowance s m .counts) e)
-    ∙ rw (totals-by-id h, run-kept main allowance s m .counts) (sym (qwcs-append es (traceOf main allowance s m)))
+    ∙ rw (totals-by-id h, run-kept main allowance s m .counts) (plus-plus-qwc (before .qwc) (qwcsRead es) (qwcsRead (traceOf main allowance s m)))
+    ∙ ap (plusQwc (before .qwc)) (sym (qwcs-append es (traceOf main allowance s m)))
 
--- where no 54 came, the totals of QWC are those of the tags in the history
-pub totals-fact : {main : List ℕ} {es : List Event} {t : Totals} {s : State} → Totalled main es t s → TotalsTrue es t s
-totals-fact {es = es} h =
+-- where no 54 came, what the totals of QWC have grown by is that of the tags in the history
+pub totals-fact : {main : List ℕ} {before : Totals} {es : List Event} {t : Totals} {s : State} → Totalled main before es t s → TotalsTrue before es t s
+totals-fact {before = before} {es = es} h =
     let q = totals-by-id h in
     let b = history-fact (history-of h) .balance in
     let w = total-read es in
+    let p = total-plus (before .qwc) (qwcsRead es) in
     record { by-id = q; balance = rw q (omega arith) }
