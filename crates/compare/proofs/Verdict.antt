@@ -79,7 +79,13 @@ entries-equal true a b = (
 )
 entries-equal false a b = (λ h t. absurd (never t refl), λ h. (rw (smaller-same 0), refl))
 
--- a unit's test, by the counts
+-- no count of a comparison is above 0, and both boards have as many entries
+pub record NoneDiffers (c : Comparison) : Type 0 where
+  pub quadwords : (u : VifUnit) → foundOf u c .quadwords .count ≡ 0
+  pub instructions : (u : VifUnit) → foundOf u c .instructions .count ≡ 0
+  pub entries : c .entries .count ≡ 0
+  pub used : c .used .first ≡ c .used .second
+
 unit-same : (f : UnitFound) → (unitSame f ≡ true) ↔ ((f .quadwords .count ≡ 0) × (f .instructions .count ≡ 0))
 unfolding unitSame
 unit-same f = (
@@ -87,8 +93,33 @@ unit-same f = (
   λ h. rw (h .0, h .1),
 )
 
+-- the verdict, by the counts
+module _ (c : Comparison) where
+  units-same : (unitSame (c .vif1) && unitSame (c .vif0)) ≡ true → (u : VifUnit) → unitSame (foundOf u c) ≡ true
+  units-same h Vif1 = and-left _ _ h
+  units-same h Vif0 = and-right (unitSame (c .vif1)) _ h
+
+  pub same-none : sameOf c ≡ true → NoneDiffers c
+  unfolding sameOf
+  same-none h =
+      let m = unitSame (c .vif1) && unitSame (c .vif0) in
+      let l = and-left (m && eqb (c .entries .count) 0) _ h in
+      let k : (u : VifUnit) → unitSame (foundOf u c) ≡ true = units-same (and-left m _ l) in
+      record {
+        quadwords = λ u. unit-same (foundOf u c) .0 (k u) .0;
+        instructions = λ u. unit-same (foundOf u c) .0 (k u) .1;
+        entries = eqb-true _ _ (and-right m _ l);
+        used = eqb-true (c .used .first) (c .used .second) (and-right (m && eqb (c .entries .count) 0) _ h);
+      }
+
+  pub none-same : NoneDiffers c → sameOf c ≡ true
+  unfolding sameOf
+  none-same h =
+      let u : (u : VifUnit) → unitSame (foundOf u c) ≡ true = λ u. unit-same (foundOf u c) .1 (h .quadwords u, h .instructions u) in
+      rw (u Vif1, u Vif0, h .entries, eq-eqb (c .used .first) (c .used .second) (h .used))
+
 module _ (parts : ℕ) (a b : Board) (c : Comparison) (e : compareOf parts a b ≡ Compared c) where
-  compared : (refusal parts a b ≡ 0) × (c ≡ comparisonOf parts a b)
+  pub compared : (refusal parts a b ≡ 0) × (c ≡ comparisonOf parts a b)
   unfolding compareOf
   compared =
       if-ind-by (λ (r : CompareAnswer). r ≡ Compared c → (refusal parts a b ≡ 0) × (c ≡ comparisonOf parts a b)) (eqb (refusal parts a b) 0)
@@ -158,7 +189,7 @@ module _ (parts : ℕ) (a b : Board) (c : Comparison) (e : compareOf parts a b �
         memory-equal (asks parts (dataPart u)) 4 (quadwords u) (memoriesOf u a .mem) (memoriesOf u b .mem) (accepted parts a b (compared .0) .units u .mem) in
         (λ z. m .0 (s .0 z), λ h. s .1 (m .1 h))
 
-    code-equal : (foundOf u c .instructions .count ≡ 0) ↔ (Asked parts (codePart u) → memoriesOf u a .code ≡ memoriesOf u b .code)
+    pub code-equal : (foundOf u c .instructions .count ≡ 0) ↔ (Asked parts (codePart u) → memoriesOf u a .code ≡ memoriesOf u b .code)
     unfolding codeRefused
     code-equal =
         let s = instructions-say u .none in
@@ -166,34 +197,33 @@ module _ (parts : ℕ) (a b : Board) (c : Comparison) (e : compareOf parts a b �
         memory-equal (asks parts (codePart u)) 8 (instructions u) (memoriesOf u a .code) (memoriesOf u b .code) (accepted parts a b (compared .0) .units u .code) in
         (λ z. m .0 (s .0 z), λ h. s .1 (m .1 h))
 
-  units-same : (unitSame (c .vif1) && unitSame (c .vif0)) ≡ true → (u : VifUnit) → unitSame (foundOf u c) ≡ true
-  units-same h Vif1 = and-left _ _ h
-  units-same h Vif0 = and-right (unitSame (c .vif1)) _ h
-
-  same-equal : sameOf c ≡ true → EqualIn parts a b
-  unfolding sameOf
-  same-equal h =
-      let m = unitSame (c .vif1) && unitSame (c .vif0) in
-      let l = and-left (m && eqb (c .entries .count) 0) _ h in
-      let n = eqb-true (c .used .first) (c .used .second) (and-right (m && eqb (c .entries .count) 0) _ h) in
-      let k : (u : VifUnit) → unitSame (foundOf u c) ≡ true = units-same (and-left m _ l) in
-      record {
-        mem = λ u. data-equal u .0 (unit-same (foundOf u c) .0 (k u) .0);
-        code = λ u. code-equal u .0 (unit-same (foundOf u c) .0 (k u) .1);
-        log =
-            entries-equal (asks parts logPart) a b .0 (entries-say .none .0 (eqb-true _ _ (and-right m _ l)), sym (used-is .0) ∙ n ∙ used-is .1);
-      }
-
-  equal-same : EqualIn parts a b → sameOf c ≡ true
-  unfolding sameOf
-  equal-same h =
-      let u : (u : VifUnit) → unitSame (foundOf u c) ≡ true = λ u. unit-same (foundOf u c) .1 (data-equal u .1 (h .mem u), code-equal u .1 (h .code u)) in
-      let l = entries-equal (asks parts logPart) a b .1 (h .log) in
-      let n : c .used .first ≡ c .used .second = used-is .0 ∙ l .1 ∙ sym (used-is .1) in
-      rw (u Vif1, u Vif0, entries-say .none .1 (l .0), eq-eqb (c .used .first) (c .used .second) n)
+  pub log-equal : ((c .entries .count ≡ 0) × (c .used .first ≡ c .used .second)) ↔ (Asked parts logPart → EqualEntries a b)
+  log-equal =
+      let s = entries-say .none in
+      let m = entries-equal (asks parts logPart) a b in (
+        λ h. m .0 (s .0 (h .0), sym (used-is .0) ∙ h .1 ∙ used-is .1),
+        λ h. let l = m .1 h in (s .1 (l .0), used-is .0 ∙ l .1 ∙ sym (used-is .1)),
+      )
 
   pub verdict : (sameOf c ≡ true) ↔ EqualIn parts a b
-  verdict = (same-equal, equal-same)
+  verdict = (
+    λ h.
+        let n = same-none c h in
+        record {
+          mem = λ u. data-equal u .0 (n .quadwords u);
+          code = λ u. code-equal u .0 (n .instructions u);
+          log = log-equal .0 (n .entries, n .used);
+        },
+    λ h.
+        let l = log-equal .1 (h .log) in
+        none-same c
+        (record {
+          quadwords = λ u. data-equal u .1 (h .mem u);
+          instructions = λ u. code-equal u .1 (h .code u);
+          entries = l .0;
+          used = l .1;
+        }),
+  )
 
 -- ---- all parts
 

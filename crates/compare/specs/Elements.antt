@@ -3,7 +3,7 @@
 use Prim.Native.Nat.{ℕ, _+_, _*_}
 use mathlib.Core.Bool.{Bool, not}
 use mathlib.Core.List.{List}
-use lib.ListN.{getD}
+use lib.ListN.{getD, drop}
 use lib.Dec.{eqb}
 use Rattle.compare.specs.declared.Found.{Found}
 use Rattle.compare.specs.Tests.{holdsOfSome, howMany, firstOf}
@@ -34,3 +34,9 @@ found first count = record { first = first; count = count }
 -- the first of n elements that differs, and how many do
 unfoldable pub foundIn : ℕ → List ℕ → List ℕ → ℕ → Found
 foundIn size a b n = found (firstDiffering size a b n) (countDiffering size a b n)
+
+-- the same of the n elements from an element on: the first that differs, from + n where none does, and how many do
+unfoldable pub foundFrom : ℕ → ℕ → List ℕ → List ℕ → ℕ → Found
+foundFrom size from a b n =
+    let f = foundIn size (drop (size * from) a) (drop (size * from) b) n in
+    found (from + f .first) (f .count)

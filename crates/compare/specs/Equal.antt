@@ -6,10 +6,11 @@ use mathlib.Core.List.{List}
 use lib.ListN.{length, take, drop}
 use Rattle.gif.specs.Log.{entrySize, logMost}
 use Rattle.memories.specs.declared.VifUnit.{VifUnit}
-use Rattle.memories.specs.Units.{dataWords, codeBytes}
+use Rattle.memories.specs.Units.{quadwords, dataWords, codeBytes}
 use Rattle.compare.specs.declared.Found.{Found}
 use Rattle.compare.specs.Parts.{dataPart, codePart, logPart, allParts, Asked}
 use Rattle.compare.specs.Boards.{Board, memoriesOf}
+use Rattle.compare.specs.Within.{within}
 
 -- ---- boards that are not refused
 
@@ -17,6 +18,12 @@ use Rattle.compare.specs.Boards.{Board, memoriesOf}
 pub record InRange (parts : ℕ) : Type 0 where
   pub some : 1 ≤ parts
   pub most : parts ≤ allParts
+
+-- a range of quadwords of the data memories that are asked for
+pub record RangeOf (parts first last : ℕ) : Type 0 where
+  pub order : first ≤ last
+  pub some : (u : VifUnit) × Asked parts (dataPart u)
+  pub inside : (u : VifUnit) → Asked parts (dataPart u) → last < quadwords u
 
 -- a log that is not refused
 pub record WholeLog (log : List ℕ) (used : ℕ) : Type 0 where
@@ -40,6 +47,12 @@ pub record EqualEntries (a b : Board) : Type 0 where
 -- the parts that are asked for are equal
 pub record EqualIn (parts : ℕ) (a b : Board) : Type 0 where
   pub mem : (u : VifUnit) → Asked parts (dataPart u) → memoriesOf u a .mem ≡ memoriesOf u b .mem
+  pub code : (u : VifUnit) → Asked parts (codePart u) → memoriesOf u a .code ≡ memoriesOf u b .code
+  pub log : Asked parts logPart → EqualEntries a b
+
+-- the same with a range of quadwords: of data memories the words in it are equal
+pub record EqualWithin (parts first last : ℕ) (a b : Board) : Type 0 where
+  pub mem : (u : VifUnit) → Asked parts (dataPart u) → within first last (memoriesOf u a .mem) ≡ within first last (memoriesOf u b .mem)
   pub code : (u : VifUnit) → Asked parts (codePart u) → memoriesOf u a .code ≡ memoriesOf u b .code
   pub log : Asked parts logPart → EqualEntries a b
 

@@ -13,6 +13,7 @@ use Rattle.compare.specs.declared.elements.Memory.{Memory}
 use Rattle.compare.specs.declared.elements.Memory.the-variants.{Data, Code, Log}
 use Rattle.compare.specs.Elements.{found}
 use Rattle.compare.specs.Boards.{Memories, dataRefused, codeRefused}
+use Rattle.compare.specs.Within.{beyond}
 
 -- one of three lists
 abbrev pub listOf : Memory → List ℕ → List ℕ → List ℕ → List ℕ
@@ -30,6 +31,12 @@ pub record Inside (n : ℕ) (a b : List ℕ) : Type 0 where
 pub record UnitFits (parts : ℕ) (u : VifUnit) (a b : Memories) : Type 0 where
   pub mem : dataRefused parts u (a .mem) (b .mem) ≡ false
   pub code : codeRefused parts u (a .code) (b .code) ≡ false
+
+-- a range lies in a unit's data memories, which are not refused, where they are asked for
+pub record RangeFits (parts : ℕ) (u : VifUnit) (first last : ℕ) (a b : List ℕ) : Type 0 where
+  pub order : first ≤ last
+  pub inside : beyond parts u last ≡ false
+  pub mem : dataRefused parts u a b ≡ false
 
 -- what is found in the elements below i, and in element i
 unfoldable pub foundAfter : Found → ℕ → Bool → Found

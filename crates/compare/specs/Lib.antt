@@ -3,5 +3,6 @@ pub mod Tests
 pub mod Elements
 pub mod Parts
 pub mod Boards
+pub mod Within
 pub mod Equal
 pub mod Inner

@@ -4,7 +4,7 @@ use super::Found;
 ghost use mathlib.Core.Path.{_≡_};
 ghost use Prim.Native.Nat.{_+_, _*_, _<_, _≤_};
 ghost use Rattle.compare.specs.Tests.{holdsOfSome};
-ghost use Rattle.compare.specs.Elements.{notEqual, numberDiffers, foundIn};
+ghost use Rattle.compare.specs.Elements.{notEqual, numberDiffers, foundIn, foundFrom};
 ghost use Rattle.compare.specs.Inner.{listOf, Inside, foundAfter};
 
 pub(crate) enum Memory {
@@ -131,4 +131,26 @@ pub(crate) fn found_in(
         i += 1;
     }
     f
+}
+
+// What is found in n quadwords of data memories from one on.
+pub(crate) fn found_from(
+    first: usize,
+    n: usize,
+    da: &[u32],
+    ca: &[u8],
+    la: &[u64],
+    db: &[u32],
+    cb: &[u8],
+    lb: &[u64],
+) -> Found
+    requires { ⌜ Inside (4 * (first + n)) (now da) (now db) ⌝ }
+    ensures { λ r. ⌜ r ≡ foundFrom 4 first (now (da .entry)) (now (db .entry)) n ⌝ }
+{
+    let at = 4 * first;
+    let f = found_in(Memory::Data, 4, n, &da[at..], ca, la, &db[at..], cb, lb);
+    Found {
+        first: first as u64 + f.first,
+        count: f.count,
+    }
 }

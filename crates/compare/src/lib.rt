@@ -4,11 +4,16 @@ mod boards;
 mod elements;
 mod lengths;
 mod parts;
+mod within;
 
 use boards::compare_asked;
+use fields::refusals;
 use lengths::refusal;
+use within::comparison_within;
+use within::range_refused;
 ghost use mathlib.Core.Path.{_≡_};
 ghost use Rattle.compare.specs.Boards.{memories, board, compareOf, unitSame, sameOf};
+ghost use Rattle.compare.specs.Within.{compareWithin};
 
 // The parts of a board, which are asked for by their sum.
 pub const VIF1_DATA: u32 = 1;
@@ -110,6 +115,70 @@ pub fn compare(
         parts,
     );
     CompareAnswer::Compared(found)
+}
+
+// The same with data memories compared in quadwords first to last alone. A range that is none, of no data memory, or not inside one that is asked for is refused
+// with the parts.
+pub fn compare_within(
+    d1a: &[u32],
+    c1a: &[u8],
+    d0a: &[u32],
+    c0a: &[u8],
+    la: &[u64],
+    ua: u64,
+    d1b: &[u32],
+    c1b: &[u8],
+    d0b: &[u32],
+    c0b: &[u8],
+    lb: &[u64],
+    ub: u64,
+    parts: u32,
+    first: u64,
+    last: u64,
+) -> CompareAnswer
+    ensures { λ r. ⌜ r
+        ≡ compareWithin parts first last
+        (board (memories (now (d1a .entry)) (now (c1a .entry))) (memories (now (d0a .entry)) (now (c0a .entry))) (now (la .entry)) ua)
+        (board (memories (now (d1b .entry)) (now (c1b .entry))) (memories (now (d0b .entry)) (now (c0b .entry))) (now (lb .entry)) ub) ⌝ }
+{
+    if range_refused(parts, first, last) {
+        return CompareAnswer::Refused(refusals::OUT_OF_RANGE);
+    }
+    match compare(
+        d1a,
+        c1a,
+        d0a,
+        c0a,
+        la,
+        ua,
+        d1b,
+        c1b,
+        d0b,
+        c0b,
+        lb,
+        ub,
+        parts,
+    ) {
+        CompareAnswer::Compared(whole) => CompareAnswer::Compared(comparison_within(
+            d1a,
+            c1a,
+            d0a,
+            c0a,
+            la,
+            ua,
+            d1b,
+            c1b,
+            d0b,
+            c0b,
+            lb,
+            ub,
+            parts,
+            first,
+            last,
+            whole,
+        )),
+        CompareAnswer::Refused(number) => CompareAnswer::Refused(number),
+    }
 }
 
 fn unit_same(found: UnitFound) -> bool
