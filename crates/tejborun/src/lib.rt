@@ -10,6 +10,7 @@ mod sheets;
 mod sums;
 
 pub use boards::tejborun_compare;
+pub use boards::tejborun_compare_within;
 pub use checks::tejborun_check;
 pub use play::tejborun_build_and_run;
 pub use reasons::tejborun_why;
