@@ -8,7 +8,7 @@ use Rattle.memories.specs.declared.VifUnit.{VifUnit}
 use Rattle.memories.specs.declared.VifUnit.the-variants.{Vif0, Vif1}
 use Rattle.compare.specs.Parts.{dataPart, codePart, logPart, asks}
 use Rattle.compare.specs.Tests.{holdsOfSome, howMany, firstOf}
-use Rattle.compare.specs.Elements.{numberDiffers, differs, found, foundIn}
+use Rattle.compare.specs.Elements.{numberDiffers, differs, found, foundIn, foundFrom}
 
 -- four entries, of which the last three differ: one in its path, one in its register, one in its value
 pub three-differ :
@@ -25,6 +25,16 @@ none-differs = refl
 pub last-word : foundIn 4 (1 ∷ 2 ∷ 3 ∷ 4 ∷ []) (1 ∷ 2 ∷ 3 ∷ 5 ∷ []) 1 ≡ found 0 1
 unfolding foundIn firstOf howMany differs numberDiffers holdsOfSome if
 last-word = refl
+
+-- quadwords 1 to 2 of three, of which the outer ones differ
+pub range-found : foundFrom 4 1 (9 ∷ 2 ∷ 3 ∷ 4 ∷ 1 ∷ 2 ∷ 3 ∷ 4 ∷ 1 ∷ 2 ∷ 3 ∷ 4 ∷ []) (1 ∷ 2 ∷ 3 ∷ 4 ∷ 1 ∷ 2 ∷ 3 ∷ 4 ∷ 1 ∷ 2 ∷ 9 ∷ 4 ∷ []) 2 ≡ found 2 1
+unfolding foundFrom foundIn firstOf howMany differs numberDiffers holdsOfSome if
+range-found = refl
+
+-- and quadword 1 alone
+pub range-same : foundFrom 4 1 (9 ∷ 2 ∷ 3 ∷ 4 ∷ 1 ∷ 2 ∷ 3 ∷ 4 ∷ []) (1 ∷ 2 ∷ 3 ∷ 4 ∷ 1 ∷ 2 ∷ 3 ∷ 4 ∷ []) 1 ≡ found 2 0
+unfolding foundFrom foundIn firstOf howMany differs numberDiffers holdsOfSome if
+range-same = refl
 
 -- 13 asks for VIF1's data memory, the log and VIF0's data memory
 pub thirteen-data : (u : VifUnit) → asks 13 (dataPart u) ≡ true

@@ -26,7 +26,7 @@ use Rattle.compare.specs.Inner.{UnitFits}
 pub asked-passed : {asked test : Bool} → (asked && test) ≡ false → asked ≡ true → test ≡ false
 asked-passed h t = rw t at h
 
-passed-asked : (asked : Bool) {test : Bool} → (asked ≡ true → test ≡ false) → (asked && test) ≡ false
+pub passed-asked : (asked : Bool) {test : Bool} → (asked ≡ true → test ≡ false) → (asked && test) ≡ false
 passed-asked true h = h refl
 passed-asked false h = refl
 

@@ -1,20 +1,18 @@
 -- What the comparison says of two boards in a range of quadwords; "same" holds exactly if the words of these quadwords, and all else that is asked for, are equal.
-use mathlib.Core.Path.{_≡_, refl, sym, ap, _∙_}
-use mathlib.Core.Bool.{Bool, true, false, not, _||_}
+use mathlib.Core.Path.{_≡_, refl, ap, _∙_}
+use mathlib.Core.Bool.{Bool, true, false, _||_}
 use mathlib.Core.Logic.{_↔_}
 use mathlib.Core.List.{List}
-use Prim.Native.Nat.{ℕ, _+_, _*_, _-_, _<_, _≤_}
+use Prim.Native.Nat.{ℕ, _+_, _*_, _-_}
 use native.Mathlib.Omega.{arith}
-use lib.ListN.{length, drop, length-drop}
-use lib.Dec.{leb, ltb}
-use borrow.Author.Tests.{lt-ltb, le-ltb, lt-leb, le-leb, leb-false}
+use lib.ListN.{drop, length-drop}
+use borrow.Author.Tests.{le-ltb, lt-leb, leb-false}
 use Rattle.fields.specs.Fields.{if}
 use Rattle.fields.specs.Refusals.{outOfRange}
-use Rattle.fields.proofs.ChoiceLaws.{if-ind-by}
+use Rattle.fields.proofs.ChoiceLaws.{if-ind-by, or-later}
 use Rattle.memories.specs.declared.VifUnit.{VifUnit}
 use Rattle.memories.specs.declared.VifUnit.the-variants.{Vif0, Vif1}
 use Rattle.memories.specs.Units.{quadwords}
-use Rattle.compare.specs.declared.Found.{Found}
 use Rattle.compare.specs.declared.Comparison.{Comparison}
 use Rattle.compare.specs.declared.CompareAnswer.{CompareAnswer}
 use Rattle.compare.specs.declared.CompareAnswer.the-variants.{Compared, Refused}
@@ -26,9 +24,51 @@ use Rattle.compare.specs.Equal.{InRange, RangeOf, Whole, EqualEntries, E
 use Rattle.compare.specs.Inner.{Inside, RangeFits}
 use Rattle.compare.proofs.TestLaws.{never}
 use Rattle.compare.proofs.ListLaws.{found-says}
-use Rattle.compare.proofs.LengthLaws.{asked-passed}
-use Rattle.compare.proofs.Verdict.{NoneDiffers, same-none, none-same, code-equal, log-equal}
+use Rattle.compare.proofs.LengthLaws.{asked-passed, passed-asked}
+use Rattle.compare.proofs.Verdict.{whole-compared, compared-whole, same-none, none-same, code-equal, log-equal}
 use Rattle.compare.proofs.WithinLaws.{range-passed, range-fits, range-inside}
+
+-- ---- which are compared: a range of the data memories that are asked for and boards that are whole in the parts, and no others
+
+asked-one : (p q : Bool) (P : VifUnit → Bool) → P Vif1 ≡ p → P Vif0 ≡ q → (p || q) ≡ true → (u : VifUnit) × (P u ≡ true)
+asked-one true q P e d h = (Vif1, e)
+asked-one false q P e d h = (Vif0, d ∙ h)
+
+one-asked : (P : VifUnit → Bool) (u : VifUnit) → P u ≡ true → (P Vif1 || P Vif0) ≡ true
+one-asked P Vif1 h = rw h
+one-asked P Vif0 h = or-later (P Vif1) _ h
+
+module _ (parts first last : ℕ) where
+  passed-range : rangeRefused parts first last ≡ false → RangeOf parts first last
+  unfolding beyond
+  passed-range h =
+      let r = range-passed parts first last h in
+      record {
+        order = r .order;
+        some = asked-one (asks parts (dataPart Vif1)) (asks parts (dataPart Vif0)) (λ (u : VifUnit). asks parts (dataPart u)) refl refl (r .some);
+        inside = λ u t. leb-false (quadwords u) last (asked-passed (r .inside u) t);
+      }
+
+  range-inside-of : RangeOf parts first last → (u : VifUnit) → beyond parts u last ≡ false
+  unfolding beyond
+  range-inside-of r u = passed-asked (asks parts (dataPart u)) (λ t. lt-leb (quadwords u) last (r .inside u t))
+
+  range-accepted : RangeOf parts first last → rangeRefused parts first last ≡ false
+  unfolding rangeRefused
+  range-accepted r =
+      let k : (asks parts (dataPart Vif1) || asks parts (dataPart Vif0)) ≡ true =
+      one-asked (λ (u : VifUnit). asks parts (dataPart u)) (r .some .0) (r .some .1) in
+      rw (le-ltb last first (r .order), k, range-inside-of r Vif1, range-inside-of r Vif0)
+
+  pub no-range : (a b : Board) → (RangeOf parts first last → ⊥) → compareWithin parts first last a b ≡ Refused outOfRange
+  unfolding compareWithin
+  no-range a b n =
+      if-ind-by (λ (x : CompareAnswer). x ≡ Refused outOfRange) (rangeRefused parts first last) (λ t. refl) (λ f. absurd (n (passed-range f)))
+
+  pub range-whole : (a b : Board) → InRange parts → RangeOf parts first last → Whole parts a → Whole parts b
+      → compareWithin parts first last a b ≡ Compared (comparisonWithin parts first last a b (comparisonOf parts a b))
+  unfolding compareWithin if
+  range-whole a b i r v w = rw (range-accepted r, whole-compared parts a b i v w)
 
 -- ---- one unit
 
@@ -122,6 +162,12 @@ module _ (parts first last : ℕ) (a b : Board) (c : Comparison) where
     log-within : ((c .entries .count ≡ 0) × (c .used .first ≡ c .used .second)) ↔ (Asked parts logPart → EqualEntries a b)
     unfolding comparisonWithin
     log-within = rw (whole .1 .1) (log-equal parts a b (whole .0) (whole .1 .0))
+
+    pub compared-range : RangeOf parts first last
+    compared-range = passed-range parts first last (compared-within .0)
+
+    pub compared-whole-within : Whole parts a × Whole parts b
+    compared-whole-within = compared-whole parts a b (whole .0) (whole .1 .0)
 
     pub verdict-within : (sameOf c ≡ true) ↔ EqualWithin parts first last a b
     verdict-within = (

@@ -1,12 +1,12 @@
 -- The comparison in a range of quadwords.
-use mathlib.Core.Path.{_≡_, refl, sym, _∙_}
-use mathlib.Core.Bool.{Bool, true, false, not, _&&_, _||_}
+use mathlib.Core.Path.{_≡_, sym, _∙_}
+use mathlib.Core.Bool.{Bool, true, false, not, _||_}
 use mathlib.Core.List.{List}
 use Prim.Native.Nat.{ℕ, _+_, _*_, _-_, _<_, _≤_}
 use native.Mathlib.Omega.{arith}
 use lib.ListN.{length, take, drop, length-drop}
 use lib.Seq.{take-all}
-use lib.Dec.{leb, ltb}
+use lib.Dec.{ltb}
 use borrow.Author.Tests.{leb-false, ltb-false, not-false}
 use Rattle.fields.specs.Fields.{if}
 use Rattle.fields.specs.Refusals.{outOfRange}
@@ -21,8 +21,8 @@ use Rattle.compare.specs.declared.CompareAnswer.{CompareAnswer}
 use Rattle.compare.specs.declared.CompareAnswer.the-variants.{Compared, Refused}
 use Rattle.compare.specs.Elements.{differs, found, foundIn, foundFrom}
 use Rattle.compare.specs.Parts.{dataPart, asks}
-use Rattle.compare.specs.Boards.{Board, memoriesOf, dataRefused, refusal, compareOf, comparisonOf}
-use Rattle.compare.specs.Within.{rangeSize, beyond, rangeRefused, quadwordsWithin, comparisonWithin, answerWithin, compareWithin}
+use Rattle.compare.specs.Boards.{Board, memoriesOf, dataRefused, compareOf}
+use Rattle.compare.specs.Within.{beyond, rangeRefused, quadwordsWithin, answerWithin, compareWithin}
 use Rattle.compare.specs.Inner.{Inside, RangeFits}
 use Rattle.compare.proofs.TestLaws.{first-is}
 use Rattle.compare.proofs.LengthLaws.{asked-passed, lengths-right, accepted}

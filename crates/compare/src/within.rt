@@ -9,7 +9,6 @@ use super::parts::asks;
 use super::parts::data_part;
 use memories::VifUnit;
 ghost use mathlib.Core.Path.{_≡_};
-ghost use Prim.Native.Nat.{_≤_};
 ghost use Rattle.memories.specs.declared.VifUnit.the-variants.{Vif0, Vif1};
 ghost use Rattle.compare.specs.Boards.{memories, board};
 ghost use Rattle.compare.specs.Within.{beyond, rangeRefused, quadwordsWithin, withQuadwords, comparisonWithin};
