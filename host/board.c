@@ -131,10 +131,17 @@ size_t get_part(const uint8_t *bytes, struct board *board, enum part part, size_
     return part_bytes(part, elements);
 }
 
+/* The memories, the log and the entries used of a board, as the library's calls take them. */
+#define BOARD_LENT(board)                                                                                                                             \
+    (board)->data[VIF1], (board)->count.of[PART_DATA], (board)->code[VIF1], (board)->count.of[PART_CODE], (board)->data[VIF0],                        \
+        (board)->count.of[PART_DATA0], (board)->code[VIF0], (board)->count.of[PART_CODE0], (board)->log, (board)->count.of[PART_LOG], board_used(board)
+
+uint32_t compare_boards_within(const struct board *a, const struct board *b, unsigned parts, const struct range *quadwords, uint64_t numbers[TEJBORUN_COMPARED])
+{
+    return tejborun_compare_within(BOARD_LENT(a), BOARD_LENT(b), parts, quadwords->first, quadwords->last, numbers, TEJBORUN_COMPARED);
+}
+
 uint32_t compare_boards(const struct board *a, const struct board *b, unsigned parts, uint64_t numbers[TEJBORUN_COMPARED])
 {
-    const size_t *n = a->count.of, *m = b->count.of;
-    return tejborun_compare(a->data[VIF1], n[PART_DATA], a->code[VIF1], n[PART_CODE], a->data[VIF0], n[PART_DATA0], a->code[VIF0], n[PART_CODE0], a->log,
-                            n[PART_LOG], board_used(a), b->data[VIF1], m[PART_DATA], b->code[VIF1], m[PART_CODE], b->data[VIF0], m[PART_DATA0],
-                            b->code[VIF0], m[PART_CODE0], b->log, m[PART_LOG], board_used(b), parts, numbers, TEJBORUN_COMPARED);
+    return tejborun_compare(BOARD_LENT(a), BOARD_LENT(b), parts, numbers, TEJBORUN_COMPARED);
 }

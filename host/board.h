@@ -54,6 +54,15 @@ unsigned parts_of(enum vif vif);
 const char *parts_words(unsigned parts);
 const char *parts_names(unsigned parts);
 
+/* The parts that are data memories. */
+#define PARTS_DATA (PART_BIT(PART_DATA) | PART_BIT(PART_DATA0))
+
+/* The quadwords of data memories that are compared, the last included; all where none are given. */
+struct range {
+    bool is_given;
+    uint64_t first, last;
+};
+
 /* How many elements of each part. */
 struct counts {
     size_t of[PARTS];
@@ -118,8 +127,9 @@ size_t put_part(uint8_t *bytes, const struct board *board, enum part part, size_
 size_t get_part(const uint8_t *bytes, struct board *board, enum part part, size_t elements);
 size_t part_bytes(enum part part, size_t elements);
 
-/* Compares parts by the library: its answer, and its numbers. */
+/* Compares parts by the library, of data memories all quadwords or those given: its answer, and its numbers. */
 uint32_t compare_boards(const struct board *a, const struct board *b, unsigned parts, uint64_t numbers[TEJBORUN_COMPARED]);
+uint32_t compare_boards_within(const struct board *a, const struct board *b, unsigned parts, const struct range *quadwords, uint64_t numbers[TEJBORUN_COMPARED]);
 
 /* Whether a result file can keep a board of these lengths; complains if not. */
 int board_fits(const char *name, const struct board *board);

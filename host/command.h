@@ -21,6 +21,7 @@ enum option {
     OPTION_LOG,
     OPTION_ALL,
     OPTION_ONLY,
+    OPTION_QUADWORDS,
     OPTION_UNFINISHED,
     OPTION_QUIET,
     OPTION_JSON,
@@ -46,7 +47,8 @@ struct words_given {
     const char **word;           /* without the options */
     const char *option[OPTIONS]; /* their values, empty for those without; null where not given */
     uint64_t allowance;
-    unsigned only; /* parts; all where not given */
+    unsigned only; /* parts; all where not given, VIF1's data memory where only quadwords are */
+    struct range quadwords;
     uint32_t unit; /* 0 or 1, 1 where not given */
     size_t settings;
     struct setting setting[SETTINGS]; /* in the order given */

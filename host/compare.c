@@ -8,6 +8,21 @@
 #include "command.h"
 #include "words.h"
 
+void compared_words(const struct comparison *comparison, char words[COMPARED_TEXT])
+{
+    const struct range *range = &comparison->quadwords;
+    unsigned others = comparison->parts & ~PARTS_DATA;
+    char last[32] = "";
+    if (!range->is_given) {
+        snprintf(words, COMPARED_TEXT, "%s", parts_words(comparison->parts));
+        return;
+    }
+    if (range->last > range->first)
+        snprintf(last, sizeof last, " to %" PRIu64, range->last);
+    snprintf(words, COMPARED_TEXT, "%s%s%s %" PRIu64 "%s of %s", others != 0 ? parts_words(others) : "", others != 0 ? " and in " : "",
+             plural(range->last + 1 - range->first, "quadword", "quadwords"), range->first, last, parts_words(comparison->parts & PARTS_DATA));
+}
+
 void verdict_words(const struct rack *rack, const struct compared *compared, char words[VERDICT_TEXT])
 {
     static const char *const finished[VERDICTS] = {"equal", "equal", "different", "refused", "no verdict"};
@@ -16,10 +31,12 @@ void verdict_words(const struct rack *rack, const struct compared *compared, cha
     const struct comparison *comparison = &compared->comparison;
     const char *const *texts = rack->result->answer == TEJBORUN_DONE ? finished : unfinished;
     const char *text = compared->board == NULL ? "not read" : texts[comparison->verdict];
-    if (compared->board == NULL || !is_compared(comparison->verdict) || comparison->parts == PARTS_ALL)
+    char in[COMPARED_TEXT];
+    compared_words(comparison, in);
+    if (compared->board == NULL || !is_compared(comparison->verdict) || is_whole(comparison))
         snprintf(words, VERDICT_TEXT, "%s", text);
     else
-        snprintf(words, VERDICT_TEXT, "%s%s in %s", text, comparison->verdict == VERDICT_DIFFERENT ? "; compared" : "", parts_words(comparison->parts));
+        snprintf(words, VERDICT_TEXT, "%s%s in %s", text, comparison->verdict == VERDICT_DIFFERENT ? "; compared" : "", in);
 }
 
 void path_alone_words(const struct found *found, char words[PATHS_TEXT])
@@ -41,11 +58,17 @@ void result_words(const struct result *result, char words[RESULT_TEXT])
              plural(steps, "step", "steps"), packets[0] != 0 ? "; " : "", packets);
 }
 
+/* Whether parts are asked for by name: quadwords are those of data memory. */
+static bool names_parts(const struct words_given *given)
+{
+    return given->option[OPTION_ONLY] != NULL || given->quadwords.is_given;
+}
+
 /* Says which parts are lacking. */
 static void complain_of_parts(const struct words_given *given, const struct rack *rack, const struct compared *compared)
 {
     const char *has = parts_words(rack->result->parts), *board_has = parts_words(compared->board->parts);
-    if (given->option[OPTION_ONLY] != NULL)
+    if (names_parts(given))
         complain("compare", "%s: no verdict: asked for %s; %s has %s, %s %s", compared->name, parts_words(given->only), rack->name, has, compared->name,
                  board_has);
     else
@@ -86,7 +109,7 @@ static void compare_board(const struct words_given *given, show_compared *show, 
     struct result board;
     struct compared compared = {.name = name, .status = read_result(name, &board)};
     if (compared.status == STATUS_DONE) {
-        const struct wanted wanted = {given->only, given->option[OPTION_ONLY] != NULL, given->option[OPTION_UNFINISHED] != NULL};
+        const struct wanted wanted = {given->only, names_parts(given), given->option[OPTION_UNFINISHED] != NULL, given->quadwords};
         compared.board = &board;
         compared.comparison = compare_results(rack->result, &board, &wanted);
         compared.status = status_of_verdict(compared.comparison.verdict);

@@ -31,6 +31,10 @@ struct words_given;
 /* Compares every board of the words, from the second on, with the rack's result; shows each where a function is given. */
 void compare_rack(const struct words_given *given, show_compared *show, struct rack *rack);
 
+/* What was compared, in words: "VIF1's code memory and log", "quadwords 0 to 15 of VIF1's data memory". */
+enum { COMPARED_TEXT = 192 };
+void compared_words(const struct comparison *comparison, char words[COMPARED_TEXT]);
+
 /* A verdict in words, with the parts where not all were compared: "equal in VIF1's data memory"; the same for a board that cannot be read. */
 enum { VERDICT_TEXT = 256 };
 void verdict_words(const struct rack *rack, const struct compared *compared, char words[VERDICT_TEXT]);

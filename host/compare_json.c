@@ -62,6 +62,8 @@ static int print_parts(const struct rack *rack, const struct compared *compared)
         between = ", ";
     }
     printf("]");
+    if (compared->comparison.quadwords.is_given)
+        printf(", \"quadwords\": {\"first\": %" PRIu64 ", \"last\": %" PRIu64 "}", compared->comparison.quadwords.first, compared->comparison.quadwords.last);
     for (size_t i = 0; i < PARTS; i++)
         if (has_part(&compared->comparison, part_order[i]))
             status = worse(status, print_part(rack, compared, part_order[i]));

@@ -50,8 +50,10 @@ static void print_counts(const struct comparison *comparison)
         printf("%s%" PRIu64 " %s%s%s", between, found->count, shape->whose, plural(found->count, shape->one, shape->many), paths);
         between = ", ";
     }
-    if (comparison->parts != PARTS_ALL)
-        printf("%scompared in %s", between[0] != 0 ? "; " : "", parts_words(comparison->parts));
+    char in[COMPARED_TEXT];
+    compared_words(comparison, in);
+    if (!is_whole(comparison))
+        printf("%scompared in %s", between[0] != 0 ? "; " : "", in);
 }
 
 /* A row with a difference. */

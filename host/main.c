@@ -91,11 +91,12 @@ static const struct command commands[] = {
      "  --row I=VALUE  sets ROW I, 0 to 3, to a word, as 0=0x3F800000 or 3=-1; may be given for each\n"
      "  --col I=VALUE  sets COL I, the same\n"
      "While a code of the unit waits for payload they are not set (51); where one is refused, nothing is written.\n"},
-    {"compare", 2, SIZE_MAX, 0, TAKES(OPTION_ALL) | TAKES(OPTION_ONLY) | TAKES(OPTION_UNFINISHED) | TAKES(OPTION_QUIET) | TAKES(OPTION_JSON), false,
-     command_compare, "compare RESULT BOARD.. [--only PARTS] [--all] [--unfinished] [--quiet] [--json]",
+    {"compare", 2, SIZE_MAX, 0, TAKES(OPTION_ALL) | TAKES(OPTION_ONLY) | TAKES(OPTION_QUADWORDS) | TAKES(OPTION_UNFINISHED) | TAKES(OPTION_QUIET) | TAKES(OPTION_JSON), false,
+     command_compare, "compare RESULT BOARD.. [--only PARTS] [--quadwords A-B] [--all] [--unfinished] [--quiet] [--json]",
      "Compares the memories of VIF1 and VIF0 and the log of boards with those of a result, in the parts that both have. Of one\n"
      "board it shows the first difference of each and how many there are; several boards have a row each and a summary.\n"
      "  --only PARTS  compares these alone, some of data, code, data0, code0, log with commas; one that is lacking: no verdict\n"
+     "  --quadwords A-B  of data memory compares quadwords A to B alone, as 0-15, 0x10-0x1F or 7: VIF1's, or those of --only\n"
      "  --all         shows every difference, not only the first of each\n"
      "  --unfinished  compares also where RESULT is of a run that did not end with done (0)\n"
      "  --quiet       prints no verdict: the exit status has it\n"
@@ -104,13 +105,14 @@ static const struct command commands[] = {
      "of the GIF, 0 for a program start), register and value; where entries differ in the path alone, that is said. Answer,\n"
      "step count and packets closed are shown and not compared; a sheet's meaning and a board's own dumps have no packets.\n"
      "Registers are neither.\n"},
-    {"report", 2, SIZE_MAX, 0, TAKES(OPTION_OUTPUT) | TAKES(OPTION_FROM) | TAKES(OPTION_ONLY) | TAKES(OPTION_UNFINISHED), true, command_report,
-     "report RESULT BOARD.. -o PAGE [--from RESULT] [--only PARTS] [--unfinished]",
+    {"report", 2, SIZE_MAX, 0, TAKES(OPTION_OUTPUT) | TAKES(OPTION_FROM) | TAKES(OPTION_ONLY) | TAKES(OPTION_QUADWORDS) | TAKES(OPTION_UNFINISHED), true, command_report,
+     "report RESULT BOARD.. -o PAGE [--from RESULT] [--only PARTS] [--quadwords A-B] [--unfinished]",
      "Writes the comparison of boards with a result as one HTML page, to be looked at, printed on A4 and kept: verdicts, files with\n"
      "their SHA-256, the answer and the counts of RESULT, the first differences, maps of the memories and a plot of\n"
      "board minus result.\n"
      "  --from RESULT  the memories that the transfer began with, zeros otherwise; the maps show what it left as it was\n"
      "  --only PARTS   compares these alone, as compare does\n"
+     "  --quadwords A-B  compares these of data memory alone, as compare does; the maps show all\n"
      "  --unfinished   compares also where RESULT is of a run that did not end with done (0)\n"},
     {"totals", 1, SIZE_MAX, 2, TAKES(OPTION_NEW) | TAKES(OPTION_ALLOWANCE) | TAKES(OPTION_JSON), false, command_totals,
      "totals FILE [add RESULT or CAPTURE.. [--new] [--allowance N]] [--json]",

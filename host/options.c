@@ -1,4 +1,5 @@
 /* The words and options of a command. */
+#include <stdio.h>
 #include <stdlib.h>
 #include <string.h>
 
@@ -25,6 +26,7 @@ static const struct option_shape shapes[OPTIONS] = {
     [OPTION_LOG] = {"--log", "FILE", true},
     [OPTION_ALL] = {"--all", NULL, false},
     [OPTION_ONLY] = {"--only", "PARTS", false},
+    [OPTION_QUADWORDS] = {"--quadwords", "A-B", false},
     [OPTION_UNFINISHED] = {"--unfinished", NULL, false},
     [OPTION_QUIET] = {"--quiet", NULL, false},
     [OPTION_JSON] = {"--json", NULL, false},
@@ -112,6 +114,37 @@ static int take_parts(const struct command *command, const char *names, unsigned
     }
 }
 
+/* Reads a range of quadwords: its first and its last, or one alone. A status. */
+static int take_range(const struct command *command, const char *text, struct range *range)
+{
+    char first[32];
+    size_t length = strcspn(text, "-");
+    const char *last = text[length] != 0 ? text + length + 1 : first;
+    snprintf(first, sizeof first, "%.*s", (int)length, text);
+    *range = (struct range){.is_given = true};
+    if (length >= sizeof first || !read_number(first, &range->first) || !read_number(last, &range->last) || range->first > range->last)
+        return complain(command->name, "'%s' are no quadwords: give the first and the last, as 0-15 or 0x10-0x1F, or one alone", text);
+    return STATUS_DONE;
+}
+
+/* Whether the quadwords lie in the data memories that are asked for: VIF1's where none are named. A status. */
+static int check_range(const struct command *command, struct words_given *given)
+{
+    const struct range *range = &given->quadwords;
+    if (!range->is_given)
+        return STATUS_DONE;
+    if (given->option[OPTION_ONLY] == NULL)
+        given->only = PART_BIT(PART_DATA);
+    if ((given->only & PARTS_DATA) == 0)
+        return complain(command->name, "--quadwords are of data memory: --only %s names none", given->option[OPTION_ONLY]);
+    for (size_t part = 0; part < PARTS; part++) {
+        size_t quadwords = part_shapes[part].usual / part_shapes[part].unit_elements;
+        if ((given->only & PARTS_DATA & PART_BIT(part)) != 0 && range->last >= quadwords)
+            return complain(command->name, "--quadwords %s: %s has quadwords 0 to %zu", given->option[OPTION_QUADWORDS], part_shapes[part].words, quadwords - 1);
+    }
+    return STATUS_DONE;
+}
+
 /* Reads a unit: 0 or 1. A status. */
 static int take_unit(const struct command *command, const char *text, uint32_t *unit)
 {
@@ -145,6 +178,8 @@ static int take_value(const struct command *command, size_t option, const char *
         return STATUS_DONE;
     case OPTION_ONLY:
         return take_parts(command, value, &given->only);
+    case OPTION_QUADWORDS:
+        return take_range(command, value, &given->quadwords);
     case OPTION_UNIT:
         return take_unit(command, value, &given->unit);
     case OPTION_ROW:
@@ -227,6 +262,8 @@ int take_words(const struct command *command, int count, char **words, struct wo
 {
     *given = (struct words_given){.word = allocate((size_t)count, sizeof *given->word), .only = PARTS_ALL, .unit = 1};
     int status = sort_words(command, count, words, given);
+    if (status == STATUS_DONE)
+        status = check_range(command, given);
     if (status == STATUS_DONE)
         status = check_files(command, given);
     if (status != STATUS_DONE)

@@ -184,7 +184,7 @@ static void print_picture(FILE *page, const struct board *before, const struct r
     bool is_data = part_shapes[part].memory == MEMORY_DATA;
     fprintf(page, "<figure><figcaption>");
     print_escaped(page, part_shapes[part].words);
-    fprintf(page, " by %s</figcaption>\n", part_shapes[part].one);
+    fprintf(page, " by %s%s</figcaption>\n", part_shapes[part].one, is_data && compared->comparison.quadwords.is_given ? ", those not compared too" : "");
     draw_map(page, before, result, board, part);
     fprintf(page, "</figure>\n");
     if (!is_data || compared->comparison.found[part].count == 0)

@@ -2335,14 +2335,24 @@ static void set_read(struct pair *pair, bool only)
     }
 }
 
+/* The memories, the log and the entries used of one of them, as the calls take them. */
+#define LENT_OF(pair, i)                                                                                                                              \
+    words(&(pair)->data1[i]), (pair)->data1[i].bytes / 4, (pair)->code1[i].at, (pair)->code1[i].bytes, words(&(pair)->data0[i]),                      \
+        (pair)->data0[i].bytes / 4, (pair)->code0[i].at, (pair)->code0[i].bytes, numbers(&(pair)->log[i]), (pair)->log[i].bytes / 8, (pair)->used[i]
+
 static uint32_t call_compare(struct pair *pair, uint32_t parts)
 {
-    struct lent *d1 = pair->data1, *c1 = pair->code1, *d0 = pair->data0, *c0 = pair->code0, *log = pair->log;
     set_read(pair, true);
-    uint32_t answer = tejborun_compare(words(&d1[0]), d1[0].bytes / 4, c1[0].at, c1[0].bytes, words(&d0[0]), d0[0].bytes / 4, c0[0].at, c0[0].bytes,
-                                       numbers(&log[0]), log[0].bytes / 8, pair->used[0], words(&d1[1]), d1[1].bytes / 4, c1[1].at, c1[1].bytes,
-                                       words(&d0[1]), d0[1].bytes / 4, c0[1].at, c0[1].bytes, numbers(&log[1]), log[1].bytes / 8, pair->used[1], parts,
-                                       numbers(&pair->result), pair->result.bytes / 8);
+    uint32_t answer = tejborun_compare(LENT_OF(pair, 0), LENT_OF(pair, 1), parts, numbers(&pair->result), pair->result.bytes / 8);
+    set_read(pair, false);
+    CHECK(kept_outside(&pair->result));
+    return answer;
+}
+
+static uint32_t call_within(struct pair *pair, uint32_t parts, uint64_t first, uint64_t last)
+{
+    set_read(pair, true);
+    uint32_t answer = tejborun_compare_within(LENT_OF(pair, 0), LENT_OF(pair, 1), parts, first, last, numbers(&pair->result), pair->result.bytes / 8);
     set_read(pair, false);
     CHECK(kept_outside(&pair->result));
     return answer;
@@ -2477,6 +2487,65 @@ static void test_wrong_parts(bool end)
     free_pair(&pair);
 }
 
+/* A range of quadwords over boards of which these quadwords differ: every range with its ends among some places. */
+static void try_ranges(struct pair *pair, uint32_t part, const uint64_t *differ, size_t count)
+{
+    static const uint64_t places[] = {0, 1, 6, 7, 8, 254, 255, 256, 1022, 1023, 1024, UINT64_MAX / 4, UINT64_MAX / 4 + 1, UINT64_MAX};
+    enum { PLACES = sizeof places / sizeof places[0] };
+    uint64_t quadwords = part == TEJBORUN_PART_VIF1_DATA ? TEJBORUN_VIF1_QUADWORDS : TEJBORUN_VIF0_QUADWORDS;
+    for (size_t i = 0; i < PLACES * PLACES; i++) {
+        uint64_t first = places[i / PLACES], last = places[i % PLACES], expected[RESULT_NUMBERS] = {0};
+        uint64_t *found = expected + (part == TEJBORUN_PART_VIF1_DATA ? 0 : 6);
+        if (first > last || last >= quadwords) {
+            CHECK(call_within(pair, part, first, last) == TEJBORUN_REFUSED + TEJBORUN_BAD_VALUE && has_numbers(pair, expected));
+            continue;
+        }
+        found[0] = last + 1;
+        for (size_t k = count; k-- > 0;)
+            if (differ[k] >= first && differ[k] <= last)
+                found[0] = differ[k], found[1]++;
+        CHECK(call_within(pair, part, first, last) == (found[1] > 0 ? TEJBORUN_DIFFERENT : TEJBORUN_SAME) && has_numbers(pair, expected));
+    }
+}
+
+/* Quadwords that differ in one word; other parts beside them; a range of no data memory, of both, and a short result. */
+static void test_within(bool end)
+{
+    static const uint64_t differ[] = {0, 7, 255, 1023}, zeros[RESULT_NUMBERS];
+    struct lengths ten = good, few = good;
+    struct pair pair;
+    ten.result = RESULT_NUMBERS;
+    few.result = RESULT_NUMBERS - 1;
+    new_pair(&pair, &ten, &good, end);
+    for (size_t count = 0; count <= 4; count++) {
+        try_ranges(&pair, TEJBORUN_PART_VIF1_DATA, differ, count);
+        try_ranges(&pair, TEJBORUN_PART_VIF0_DATA, differ, count < 3 ? count : 3);
+        if (count < 4)
+            words(&pair.data1[count % 2])[4 * differ[count] + count]++;
+        if (count < 3)
+            words(&pair.data0[count % 2])[4 * differ[count] + 3 - count]++;
+    }
+    const uint32_t both = TEJBORUN_PART_VIF1_DATA | TEJBORUN_PART_VIF0_DATA;
+    const uint64_t some[RESULT_NUMBERS] = {7, 1, TEJBORUN_VIF1_INSTRUCTIONS, 0, 3, 0, 7, 1, TEJBORUN_VIF0_INSTRUCTIONS, 0};
+    const uint64_t none[RESULT_NUMBERS] = {7, 0, LAST_INSTRUCTION, 1, 0, 0, 7, 0, 0, 0};
+    CHECK(call_within(&pair, TEJBORUN_PARTS, 1, 254) == TEJBORUN_DIFFERENT && has_numbers(&pair, some));
+    CHECK(call_within(&pair, TEJBORUN_PARTS, 8, 254) == TEJBORUN_SAME);
+    CHECK(call_within(&pair, both, 1, 256) == TEJBORUN_REFUSED + TEJBORUN_BAD_VALUE && has_numbers(&pair, zeros));
+    CHECK(call_within(&pair, TEJBORUN_PARTS - both, 1, 6) == TEJBORUN_REFUSED + TEJBORUN_BAD_VALUE && has_numbers(&pair, zeros));
+    CHECK(call_within(&pair, 0, 1, 6) == TEJBORUN_REFUSED + TEJBORUN_BAD_VALUE && call_within(&pair, TEJBORUN_PARTS + 1, 1, 6) == TEJBORUN_REFUSED + TEJBORUN_BAD_VALUE);
+    pair.code1[0].at[TEJBORUN_VIF1_CODE_BYTES - 1] ^= 1;
+    CHECK(call_within(&pair, both | TEJBORUN_PART_VIF1_CODE, 1, 6) == TEJBORUN_DIFFERENT && has_numbers(&pair, none));
+    free_pair(&pair);
+    new_pair(&pair, &few, &good, end);
+    CHECK(call_within(&pair, both, 0, 0) == TEJBORUN_SHORT && unchanged(&pair.result));
+    free_pair(&pair);
+    ten.data--;
+    new_pair(&pair, &ten, &good, end);
+    CHECK(call_within(&pair, TEJBORUN_PART_VIF1_DATA, 0, 0) == TEJBORUN_REFUSED + TEJBORUN_BAD_DATA && has_numbers(&pair, zeros));
+    CHECK(call_within(&pair, TEJBORUN_PART_VIF0_DATA, 0, 0) == TEJBORUN_SAME);
+    free_pair(&pair);
+}
+
 /* Every answer has a message of its own, and every other number the same one. */
 static void test_messages(void)
 {
@@ -2580,6 +2649,7 @@ int main(void)
         test_compare(end);
         test_wrong_compare(end);
         test_wrong_parts(end);
+        test_within(end);
     }
     test_unit_words();
     test_vif0_words();

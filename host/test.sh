@@ -1621,6 +1621,77 @@ wrong_dumps() {
     test "$(tail -n 1 out)" = equal || fail 'all parts named'
 }
 
+# A range of quadwords: two boards that differ in quadword 9 of VIF1, 200 of VIF0 and an instruction.
+range_of_quadwords() {
+    result_of wanted9 'result\nquadword 9 1 2 3 4\nquadword 1023 1 1 1 1\nvif0.quadword 200 5 6 7 8\ninstruction 5 7\n'
+    result_of board9 'result\nquadword 9 1 2 3 5\nquadword 1023 1 1 1 1\nvif0.quadword 200 5 6 7 9\ninstruction 5 8\n'
+    for words in "0-8 quadwords 0 to 8" "0x0A-1023 quadwords 10 to 1023" "10-0x3FF quadwords 10 to 1023" "8 quadword 8" "0xA quadword 10" "0-0 quadword 0"; do
+        expect 0 compare wanted9 board9 --quadwords "${words%% *}"
+        test "$(tail -n 1 out)" = "equal in ${words#* } of VIF1's data memory" || fail "the verdict over $words: $(tail -n 1 out)"
+        expect 0 compare wanted9 board9 "--quadwords=${words%% *}" --quiet
+    done
+    for words in "0-9 quadwords 0 to 9" "9 quadword 9" "9-9 quadword 9" "0-1023 quadwords 0 to 1023"; do
+        expect 1 compare wanted9 board9 --quadwords "${words%% *}"
+        test "$(tail -n 1 out)" = "different; compared in ${words#* } of VIF1's data memory" || fail "the verdict over $words: $(tail -n 1 out)"
+        says out "VIF1's data memory: 1 quadword differs, the first is 9"
+    done
+    expect 0 compare wanted9 board9 --only data0 --quadwords 0-199
+    test "$(tail -n 1 out)" = "equal in quadwords 0 to 199 of VIF0's data memory" || fail 'the verdict over VIF0'
+    expect 1 compare wanted9 board9 --quadwords 0-200 --only data0 --all
+    says out '  VIF0 quadword 200 (0xC8)'
+    expect 0 compare wanted9 board9 --only data,data0 --quadwords 10-199
+    test "$(tail -n 1 out)" = "equal in quadwords 10 to 199 of VIF1's data memory and VIF0's data memory" || fail 'the verdict over both'
+    expect 0 compare wanted9 board9 --only data,code0,log --quadwords 0-8
+    test "$(tail -n 1 out)" = "equal in VIF0's code memory and log and in quadwords 0 to 8 of VIF1's data memory" || fail 'the verdict beside other parts'
+    expect 1 compare wanted9 board9 --only data,code --quadwords 0-8
+    says out "different; compared in VIF1's code memory and in quadwords 0 to 8 of VIF1's data memory"
+    shown_ranges
+    wrong_ranges
+    echo "quadwords: a range of data memory in one board, a rack, JSON and a page; the verdict names it"
+}
+
+# The same in a rack, as JSON and as a page; of whole results never equal alone; no verdict where the data memory is lacking.
+shown_ranges() {
+    cp wanted9 same9
+    expect 0 compare wanted9 same9 board9 --quadwords 0-8
+    says out "board9    equal in quadwords 0 to 8 of VIF1's data memory"
+    says out '2 boards beside wanted9: 2 equal in parts'
+    expect 1 compare wanted9 same9 board9 --quadwords 5-12
+    says out "1 quadword; compared in quadwords 5 to 12 of VIF1's data memory"
+    expect 1 compare wanted9 board9 --quadwords 5-12 --json
+    well_formed json out
+    says out '"compared": ["data"], "quadwords": {"first": 5, "last": 12}'
+    says out '"data": {"compared": 8, "different": 1, "differences": ['
+    says out '{"number": 9, '
+    expect 1 report wanted9 board9 -o page9.html --quadwords 5-12
+    says page9.html 'compared in quadwords 5 to 12 of VIF1'
+    says page9.html 'by quadword, those not compared too'
+    expect 0 compare wanted9 same9 --only data,code,data0,code0,log --quadwords 0-255
+    says out "equal in VIF1's code memory, VIF0's code memory and log and in quadwords 0 to 255 of VIF1's data memory and VIF0's data memory"
+    expect 0 export wanted9 --code micro9.bin
+    expect 0 import --code micro9.bin -o code9.result
+    expect 3 compare wanted9 code9.result --quadwords 0-8
+    says err "no verdict: asked for VIF1's data memory; wanted9 has"
+}
+
+# Ranges that are none, that the memory has not, or of no data memory: bad usage.
+wrong_ranges() {
+    for words in '' - 1- -1 8-7 0x 1-2-3 0-x 'a' '1 2' 18446744073709551616 0-18446744073709551616 11111111111111111111111111111111111111111-2; do
+        expect 2 compare wanted9 board9 --quadwords "$words"
+        says err "are no quadwords: give the first and the last, as 0-15 or 0x10-0x1F, or one alone"
+    done
+    expect 2 compare wanted9 board9 --quadwords 0-1024
+    says err "--quadwords 0-1024: VIF1's data memory has quadwords 0 to 1023"
+    expect 2 compare wanted9 board9 --only data0 --quadwords 256
+    says err "--quadwords 256: VIF0's data memory has quadwords 0 to 255"
+    expect 2 compare wanted9 board9 --only data,data0 --quadwords 0-300
+    says err "--quadwords 0-300: VIF0's data memory has quadwords 0 to 255"
+    expect 2 compare wanted9 board9 --only code,log --quadwords 0-3
+    says err '--quadwords are of data memory: --only code,log names none'
+    expect 2 compare wanted9 board9 --quadwords 1 --quadwords 2
+    says err '--quadwords is given twice'
+}
+
 partial_files() {
     expect 0 import --data vu.bin -o part.result
     damaged result part.result compare all.result broken
@@ -3712,7 +3783,7 @@ repeated() {
 }
 
 for name in ${TESTS:-layout state_words usage bench_points meanings refused_sheets examples comparisons damaged_files other_layouts bad_texts entries_used \
-    unfinished beginnings one_file outputs dashes repeated rack messages long_runs conventions report dumps vif0 packets paths registers whys groups checks totals salvages generated_sheets generated_captures}; do
+    unfinished beginnings one_file outputs dashes repeated rack range_of_quadwords messages long_runs conventions report dumps vif0 packets paths registers whys groups checks totals salvages generated_sheets generated_captures}; do
     "$name"
 done
 echo "host/test.sh: all as it has to be"

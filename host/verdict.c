@@ -18,6 +18,11 @@ bool is_compared(enum verdict verdict)
     return verdict <= VERDICT_DIFFERENT;
 }
 
+bool is_whole(const struct comparison *comparison)
+{
+    return comparison->parts == PARTS_ALL && !comparison->quadwords.is_given;
+}
+
 bool has_part(const struct comparison *comparison, enum part part)
 {
     return is_compared(comparison->verdict) && (comparison->parts & PART_BIT(part)) != 0;
@@ -39,12 +44,14 @@ static uint64_t count_path_alone(const struct board *a, const struct board *b, u
     return count;
 }
 
-/* What the library's numbers say of a part: it gives the number compared in place of the first where none differs. */
-static struct found found_in(const struct board *a, const struct board *b, enum part part, const uint64_t *numbers)
+/* What the library's numbers say of a part: where none differs it gives the first that was not compared in place of the first that differs. */
+static struct found found_in(const struct board *a, const struct board *b, enum part part, const struct range *quadwords, const uint64_t *numbers)
 {
     uint64_t both = board_used(a) < board_used(b) ? board_used(a) : board_used(b);
+    bool is_ranged = quadwords->is_given && (PARTS_DATA & PART_BIT(part)) != 0;
     return (struct found){
-        .compared = part == PART_LOG ? both : board_units(a, part),
+        .from = is_ranged ? quadwords->first : 0,
+        .compared = is_ranged ? quadwords->last + 1 - quadwords->first : part == PART_LOG ? both : board_units(a, part),
         .count = numbers[2 * part + 1],
         .first = numbers[2 * part],
         .path_alone = part == PART_LOG ? count_path_alone(a, b, both) : 0,
@@ -52,11 +59,11 @@ static struct found found_in(const struct board *a, const struct board *b, enum 
 }
 
 /* The library's verdict over parts. */
-static struct comparison ask(const struct board *a, const struct board *b, unsigned parts)
+static struct comparison ask(const struct board *a, const struct board *b, unsigned parts, const struct range *quadwords)
 {
-    struct comparison comparison = {.verdict = VERDICT_REFUSED, .parts = parts};
+    struct comparison comparison = {.verdict = VERDICT_REFUSED, .parts = parts, .quadwords = *quadwords};
     uint64_t numbers[TEJBORUN_COMPARED] = {0};
-    uint32_t answer = compare_boards(a, b, parts, numbers);
+    uint32_t answer = quadwords->is_given ? compare_boards_within(a, b, parts, quadwords, numbers) : compare_boards(a, b, parts, numbers);
     if (answer != TEJBORUN_SAME && answer != TEJBORUN_DIFFERENT) {
         comparison.refusal = answer >= TEJBORUN_REFUSED ? answer - TEJBORUN_REFUSED : answer;
         return comparison;
@@ -64,10 +71,10 @@ static struct comparison ask(const struct board *a, const struct board *b, unsig
     if (answer == TEJBORUN_DIFFERENT)
         comparison.verdict = VERDICT_DIFFERENT;
     else
-        comparison.verdict = parts == PARTS_ALL ? VERDICT_EQUAL : VERDICT_EQUAL_IN_PARTS;
+        comparison.verdict = is_whole(&comparison) ? VERDICT_EQUAL : VERDICT_EQUAL_IN_PARTS;
     for (size_t part = 0; part < PARTS; part++)
         if ((parts & PART_BIT(part)) != 0)
-            comparison.found[part] = found_in(a, b, part, numbers);
+            comparison.found[part] = found_in(a, b, part, quadwords, numbers);
     return comparison;
 }
 
@@ -78,7 +85,7 @@ struct comparison compare_results(const struct result *result, const struct resu
         return (struct comparison){.verdict = VERDICT_NONE, .reason = REASON_UNFINISHED};
     if (parts == 0 || (parts & ~both) != 0)
         return (struct comparison){.verdict = VERDICT_NONE, .reason = REASON_PARTS};
-    return ask(&result->board, &board->board, parts);
+    return ask(&result->board, &board->board, parts, &wanted->quadwords);
 }
 
 static bool differs(const struct board *a, const struct board *b, enum part part, size_t unit)
@@ -90,7 +97,7 @@ size_t *differing_units(const struct board *a, const struct board *b, enum part 
 {
     size_t *units = allocate(found->count, sizeof *units), count = 0;
     bool fits = true;
-    for (size_t i = 0; i < found->compared && fits; i++) {
+    for (size_t i = found->from; i < found->from + found->compared && fits; i++) {
         if (!differs(a, b, part, i))
             continue;
         fits = count < found->count;

@@ -19,9 +19,10 @@ enum reason {
     REASON_PARTS,      /* a part that is asked for is lacking, or they have none in common */
 };
 
-/* What was found in a part: how many units differ, and the first of them; of the log also how many differ in the path alone. */
+/* What was found in a part: from which unit on how many were compared, how many of them differ, and the first that does; of the log also how many differ in
+ * the path alone. */
 struct found {
-    uint64_t compared, count, first, path_alone;
+    uint64_t from, compared, count, first, path_alone;
 };
 
 struct comparison {
@@ -29,13 +30,15 @@ struct comparison {
     uint32_t refusal;   /* where refused */
     enum reason reason; /* where there is none */
     unsigned parts;     /* that were compared */
+    struct range quadwords;
     struct found found[PARTS];
 };
 
-/* What is asked for: parts, all those that both have where none is named, and whether an unfinished result is compared too. */
+/* What is asked for: parts, all those that both have where none is named, the quadwords of data memories, and whether an unfinished result is compared too. */
 struct wanted {
     unsigned only;
     bool is_named, unfinished;
+    struct range quadwords;
 };
 
 /* The exit status of a verdict. */
@@ -43,6 +46,9 @@ int status_of_verdict(enum verdict verdict);
 
 /* Whether the verdict is on what was compared: equal, in parts, or different. */
 bool is_compared(enum verdict verdict);
+
+/* Whether whole results were compared: all parts, and of data memories all quadwords. */
+bool is_whole(const struct comparison *comparison);
 
 /* Whether a part was compared. */
 bool has_part(const struct comparison *comparison, enum part part);

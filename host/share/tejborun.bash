@@ -13,9 +13,9 @@ _tejborun() {
     check) options='-o --output --data --code --allowance --quiet --json --help' ;;
     salvage) options='-o --output --ranges --quiet --json --help' ;;
     set) options='-o --output --unit --row --col --help' ;;
-    compare) options='--only --all --unfinished --quiet --json --help' ;;
+    compare) options='--only --quadwords --all --unfinished --quiet --json --help' ;;
     totals) options='--new --allowance --json --help' ;;
-    report) options='-o --output --from --only --unfinished --help' ;;
+    report) options='-o --output --from --only --quadwords --unfinished --help' ;;
     import) options='-o --output --data --code --data0 --code0 --log --help' ;;
     export) options='--main --data --code --data0 --code0 --log --help' ;;
     assemble) options='-o --output --main --data --code --data0 --code0 --log --help' ;;
