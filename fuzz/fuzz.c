@@ -1229,22 +1229,36 @@ static uint32_t take_parts(struct bytes *in) {
     return how < 248 ? 1 + how % TEJBORUN_PARTS : take_odd(in);
 }
 
-/* Two boards with their entries used. */
+/* Two boards with their entries used; data memories in all their quadwords, or in some. */
 struct boards {
     uint64_t used_a, used_b;
     uint32_t parts;
+    bool is_ranged;
+    uint64_t first, last;
 };
 
+/* What is lent of both, to either side. */
+#define BOARDS(side, b)                                                                                                                               \
+    side(DATA), WORDS(DATA), side(CODE), BYTES(CODE), side(DATA0), WORDS(DATA0), side(CODE0), BYTES(CODE0), side(LOG), NUMBERS(LOG), (b)->used_a,     \
+        side(DATA_B), WORDS(DATA_B), side(CODE_B), BYTES(CODE_B), side(DATA0_B), WORDS(DATA0_B), side(CODE0_B), BYTES(CODE0_B), side(LOG_B),          \
+        NUMBERS(LOG_B), (b)->used_b, (b)->parts
+
 static uint32_t compared(const struct boards *b) {
-    return tejborun_compare(PROVED(DATA), WORDS(DATA), PROVED(CODE), BYTES(CODE), PROVED(DATA0), WORDS(DATA0), PROVED(CODE0), BYTES(CODE0), PROVED(LOG),
-                            NUMBERS(LOG), b->used_a, PROVED(DATA_B), WORDS(DATA_B), PROVED(CODE_B), BYTES(CODE_B), PROVED(DATA0_B), WORDS(DATA0_B),
-                            PROVED(CODE0_B), BYTES(CODE0_B), PROVED(LOG_B), NUMBERS(LOG_B), b->used_b, b->parts, PROVED(RESULT), NUMBERS(RESULT));
+    if (b->is_ranged) return tejborun_compare_within(BOARDS(PROVED, b), b->first, b->last, PROVED(RESULT), NUMBERS(RESULT));
+    return tejborun_compare(BOARDS(PROVED, b), PROVED(RESULT), NUMBERS(RESULT));
 }
 
 static uint32_t judge_compared(const struct boards *b) {
-    return judge_compare(JUDGED(DATA), WORDS(DATA), JUDGED(CODE), BYTES(CODE), JUDGED(DATA0), WORDS(DATA0), JUDGED(CODE0), BYTES(CODE0), JUDGED(LOG),
-                         NUMBERS(LOG), b->used_a, JUDGED(DATA_B), WORDS(DATA_B), JUDGED(CODE_B), BYTES(CODE_B), JUDGED(DATA0_B), WORDS(DATA0_B),
-                         JUDGED(CODE0_B), BYTES(CODE0_B), JUDGED(LOG_B), NUMBERS(LOG_B), b->used_b, b->parts, JUDGED(RESULT), NUMBERS(RESULT));
+    if (b->is_ranged) return judge_compare_within(BOARDS(JUDGED, b), b->first, b->last, JUDGED(RESULT), NUMBERS(RESULT));
+    return judge_compare(BOARDS(JUDGED, b), JUDGED(RESULT), NUMBERS(RESULT));
+}
+
+/* A range of quadwords: mostly one that a data memory has, rarely any numbers. */
+static void take_range(struct bytes *in, struct boards *b) {
+    uint32_t how = take8(in);
+    b->is_ranged = true;
+    b->first = how < 240 ? take32(in) % 260 : take64(in);
+    b->last = how < 240 ? b->first + take32(in) % (how < 120 ? 8 : 1024) : take64(in);
 }
 
 /* The first board, and the second with the same contents, as far as it goes. */
@@ -1265,6 +1279,7 @@ static void fuzz_compare(struct bytes *in) {
     spoil(in, &a);
     spoil(in, &b);
     struct boards boards = {.parts = take_parts(in)};
+    if (how >= 192) take_range(in, &boards);
     boards.used_a = used_entries(in, a.log);
     boards.used_b = how % 2 == 0 ? boards.used_a : used_entries(in, b.log);
     give_boards(in, &a, &b);

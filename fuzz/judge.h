@@ -30,5 +30,10 @@ uint32_t judge_compare(const uint32_t *data1_a, size_t data1_a_words, const uint
                        const uint32_t *data1_b, size_t data1_b_words, const uint8_t *code1_b, size_t code1_b_bytes, const uint32_t *data0_b,
                        size_t data0_b_words, const uint8_t *code0_b, size_t code0_b_bytes, const uint64_t *log_b, size_t log_b_numbers, uint64_t used_b,
                        uint32_t parts, uint64_t *result, size_t result_numbers);
+uint32_t judge_compare_within(const uint32_t *data1_a, size_t data1_a_words, const uint8_t *code1_a, size_t code1_a_bytes, const uint32_t *data0_a, size_t
+                              data0_a_words, const uint8_t *code0_a, size_t code0_a_bytes, const uint64_t *log_a, size_t log_a_numbers, uint64_t used_a, const
+                              uint32_t *data1_b, size_t data1_b_words, const uint8_t *code1_b, size_t code1_b_bytes, const uint32_t *data0_b, size_t
+                              data0_b_words, const uint8_t *code0_b, size_t code0_b_bytes, const uint64_t *log_b, size_t log_b_numbers, uint64_t used_b,
+                              uint32_t parts, uint64_t first, uint64_t last, uint64_t *result, size_t result_numbers);
 
 #endif

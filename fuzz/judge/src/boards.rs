@@ -72,11 +72,29 @@ impl Part {
         (!right).then_some(refusal)
     }
 
-    /// The part's differences between two boards on which it is not refused.
-    fn differences(self, a: &Board, b: &Board) -> Differences {
+    /// The quadwords of the part, if it is a data memory.
+    fn quadwords(self) -> Option<usize> {
+        match self {
+            Part::Data(model) => Some(model.sizes().data_words() / QUADWORD),
+            _ => None,
+        }
+    }
+
+    /// The part's differences between two boards on which it is not refused; of a data memory in
+    /// the quadwords from the first to the last, where there is a range.
+    fn differences(self, a: &Board, b: &Board, quadwords: Option<(u64, u64)>) -> Differences {
         match self {
             Part::Data(model) => {
-                differences(a.memories(model).data, b.memories(model).data, QUADWORD)
+                let (left, right) = (a.memories(model).data, b.memories(model).data);
+                let Some((first, last)) = quadwords else {
+                    return differences(left, right, QUADWORD);
+                };
+                let words = QUADWORD * first as usize..QUADWORD * (last as usize + 1);
+                let found = differences(&left[words.clone()], &right[words], QUADWORD);
+                Differences {
+                    first: first + found.first,
+                    ..found
+                }
             }
             Part::Code(model) => {
                 differences(a.memories(model).code, b.memories(model).code, INSTRUCTION)
@@ -88,11 +106,22 @@ impl Part {
 
 /// Whether the boards are the same in the parts asked for, and the numbers of the result; or the
 /// refusal, of lengths the lowest number that a part asked for earns on either board.
-pub fn compare(a: &Board, b: &Board, parts: u32) -> Result<(bool, [u64; NUMBERS]), u32> {
+pub fn compare(
+    a: &Board,
+    b: &Board,
+    parts: u32,
+    quadwords: Option<(u64, u64)>,
+) -> Result<(bool, [u64; NUMBERS]), u32> {
     if parts == 0 || parts > ALL_PARTS {
         return Err(refusals::RANGE);
     }
     let asked = || (0..).zip(PARTS).filter(|(i, _)| parts >> i & 1 == 1);
+    if let Some((first, last)) = quadwords {
+        let least = asked().filter_map(|(_, part)| part.quadwords()).min();
+        if first > last || least.is_none_or(|least| last >= least as u64) {
+            return Err(refusals::RANGE);
+        }
+    }
     let refused = asked().flat_map(|(_, part)| [part.refusal(a), part.refusal(b)]);
     if let Some(refusal) = refused.flatten().min() {
         return Err(refusal);
@@ -100,7 +129,7 @@ pub fn compare(a: &Board, b: &Board, parts: u32) -> Result<(bool, [u64; NUMBERS]
     let mut same = true;
     let mut numbers = [0; NUMBERS];
     for (i, part) in asked() {
-        let found = part.differences(a, b);
+        let found = part.differences(a, b, quadwords);
         same &= found.same;
         numbers[2 * i..][..2].copy_from_slice(&[found.first, found.count]);
     }

@@ -369,6 +369,55 @@ pub unsafe extern "C" fn judge_build_and_run(
     stop.answer
 }
 
+/// A board of a call.
+#[allow(clippy::too_many_arguments)]
+unsafe fn board<'a>(
+    data1: *const u32,
+    data1_words: usize,
+    code1: *const u8,
+    code1_bytes: usize,
+    data0: *const u32,
+    data0_words: usize,
+    code0: *const u8,
+    code0_bytes: usize,
+    log: *const u64,
+    log_numbers: usize,
+    used: u64,
+) -> Board<'a> {
+    Board {
+        vif1: boards::Memories {
+            data: view(data1, data1_words),
+            code: view(code1, code1_bytes),
+        },
+        vif0: boards::Memories {
+            data: view(data0, data0_words),
+            code: view(code0, code0_bytes),
+        },
+        log: view(log, log_numbers),
+        used,
+    }
+}
+
+/// The answer of a comparison, whose numbers are written to the result.
+unsafe fn compared(
+    a: Board,
+    b: Board,
+    parts: u32,
+    quadwords: Option<(u64, u64)>,
+    result: *mut u64,
+    result_numbers: usize,
+) -> u32 {
+    if result_numbers < boards::NUMBERS {
+        return SHORT;
+    }
+    let (answer, numbers) = match boards::compare(&a, &b, parts, quadwords) {
+        Ok((same, numbers)) => (!same as u32, numbers),
+        Err(refusal) => (REFUSED + refusal, [0; boards::NUMBERS]),
+    };
+    lent(result, result_numbers)[..boards::NUMBERS].copy_from_slice(&numbers);
+    answer
+}
+
 #[no_mangle]
 pub unsafe extern "C" fn judge_check(
     sheet: *const u8,
@@ -463,37 +512,90 @@ pub unsafe extern "C" fn judge_compare(
     result: *mut u64,
     result_numbers: usize,
 ) -> u32 {
-    if result_numbers < boards::NUMBERS {
-        return SHORT;
-    }
-    let a = Board {
-        vif1: boards::Memories {
-            data: view(data1_a, data1_a_words),
-            code: view(code1_a, code1_a_bytes),
-        },
-        vif0: boards::Memories {
-            data: view(data0_a, data0_a_words),
-            code: view(code0_a, code0_a_bytes),
-        },
-        log: view(log_a, log_a_numbers),
-        used: used_a,
-    };
-    let b = Board {
-        vif1: boards::Memories {
-            data: view(data1_b, data1_b_words),
-            code: view(code1_b, code1_b_bytes),
-        },
-        vif0: boards::Memories {
-            data: view(data0_b, data0_b_words),
-            code: view(code0_b, code0_b_bytes),
-        },
-        log: view(log_b, log_b_numbers),
-        used: used_b,
-    };
-    let (answer, numbers) = match boards::compare(&a, &b, parts) {
-        Ok((same, numbers)) => (!same as u32, numbers),
-        Err(refusal) => (REFUSED + refusal, [0; boards::NUMBERS]),
-    };
-    lent(result, result_numbers)[..boards::NUMBERS].copy_from_slice(&numbers);
-    answer
+    let a = board(
+        data1_a,
+        data1_a_words,
+        code1_a,
+        code1_a_bytes,
+        data0_a,
+        data0_a_words,
+        code0_a,
+        code0_a_bytes,
+        log_a,
+        log_a_numbers,
+        used_a,
+    );
+    let b = board(
+        data1_b,
+        data1_b_words,
+        code1_b,
+        code1_b_bytes,
+        data0_b,
+        data0_b_words,
+        code0_b,
+        code0_b_bytes,
+        log_b,
+        log_b_numbers,
+        used_b,
+    );
+    compared(a, b, parts, None, result, result_numbers)
+}
+
+#[no_mangle]
+pub unsafe extern "C" fn judge_compare_within(
+    data1_a: *const u32,
+    data1_a_words: usize,
+    code1_a: *const u8,
+    code1_a_bytes: usize,
+    data0_a: *const u32,
+    data0_a_words: usize,
+    code0_a: *const u8,
+    code0_a_bytes: usize,
+    log_a: *const u64,
+    log_a_numbers: usize,
+    used_a: u64,
+    data1_b: *const u32,
+    data1_b_words: usize,
+    code1_b: *const u8,
+    code1_b_bytes: usize,
+    data0_b: *const u32,
+    data0_b_words: usize,
+    code0_b: *const u8,
+    code0_b_bytes: usize,
+    log_b: *const u64,
+    log_b_numbers: usize,
+    used_b: u64,
+    parts: u32,
+    first: u64,
+    last: u64,
+    result: *mut u64,
+    result_numbers: usize,
+) -> u32 {
+    let a = board(
+        data1_a,
+        data1_a_words,
+        code1_a,
+        code1_a_bytes,
+        data0_a,
+        data0_a_words,
+        code0_a,
+        code0_a_bytes,
+        log_a,
+        log_a_numbers,
+        used_a,
+    );
+    let b = board(
+        data1_b,
+        data1_b_words,
+        code1_b,
+        code1_b_bytes,
+        data0_b,
+        data0_b_words,
+        code0_b,
+        code0_b_bytes,
+        log_b,
+        log_b_numbers,
+        used_b,
+    );
+    compared(a, b, parts, Some((first, last)), result, result_numbers)
 }
