@@ -3491,7 +3491,7 @@ check_rack() {
     says out '"difference": {"kind": "answer", "number": 91, "words": "the run'"'"'s answer is 91: stopped at an interrupt mark"}}'
     says out '"verdict": "refused", "status": 1, "refusal": 1, "offset": 0}'
     says out '"verdict": "not read", "status": 2}'
-    says out '"summary": {"chains": 7, "accepted": 1, "different": 3, "no_verdict": 1, "refused": 1, "not_read": 1},'
+    says out '"summary": {"chains": 7, "accepted": 1, "different": 4, "no_verdict": 0, "refused": 1, "not_read": 1},'
     expect 1 check bad.sheet short.chain --json
     well_formed json out
     says out '"sheet": {"file": "bad.sheet"},'
