@@ -24,7 +24,7 @@ static const char head[] =
     "h1 { font-size: 22px; margin: 0 0 .4em } h2 { font-size: 17px; margin: 1.6em 0 .3em; overflow-wrap: anywhere }\n"
     "table { border-collapse: collapse; width: 100%; margin: .4em 0 } th, td { text-align: left; vertical-align: top; padding: 2px 8px 2px 0;\n"
     "  border-bottom: 1px solid #ccc; overflow-wrap: anywhere } th { font-weight: 600; white-space: nowrap; width: 1%; overflow-wrap: normal }\n"
-    ".rows th, .rows td { width: auto } .rows .number { white-space: nowrap } .number, .hex { font-family: monospace; overflow-wrap: anywhere }\n"
+    ".rows th, .rows td { width: auto } .rows th { white-space: normal } .rows .number { white-space: nowrap } .number, .hex { font-family: monospace; overflow-wrap: anywhere }\n"
     ".sum { font-family: monospace; font-size: 10px } .verdict { font-weight: 700; white-space: nowrap } .good { color: #14602c } .bad { color: #a3140c }\n"
     "p.verdict { font-size: 20px; margin: .2em 0 .6em } figure { margin: .3em 0 1em; break-inside: avoid } figcaption { font-size: 11px; color: #444 }\n"
     ".map { width: 100%; height: auto; display: block } .map text { font: 8px sans-serif; fill: #444; text-anchor: end } .map .axis { text-anchor: middle }\n"
