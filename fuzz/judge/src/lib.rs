@@ -226,7 +226,7 @@ fn run(memories: &mut Memories, block: &mut StateBlock, allowance: u64) -> Stop 
         return Stop::at_entry(lengths.err().unwrap_or(refusals::RANGE));
     };
     let stop = chain::run(&mut state, memories, allowance, |_, _, _| {});
-    if stop.steps > 0 {
+    if stop.counts.steps > 0 {
         *block = write_state(&state);
     }
     stop
