@@ -50,11 +50,12 @@ check:
 second:
 	cargo build --quiet --release --offline --manifest-path second/Cargo.toml --target-dir build/second
 
-# Times beside the second program, in one run.
+# Times beside the second program, in one run; the chains beside memcpy, too. make bench CHAINS=all measures more chains: every UNPACK format by itself, modes, a mask.
+CHAINS =
 bench: second
 	rt check gif_bench chain_bench sheet_bench salvage_replay
 	$(SECOND) bench-gif target/bin/gif_bench
-	$(SECOND) bench-chain target/bin/chain_bench
+	$(SECOND) bench-chain target/bin/chain_bench $(CHAINS)
 	$(SECOND) bench-sheet target/bin/sheet_bench
 	$(SECOND) bench-salvage target/bin/salvage_replay
 

@@ -1,62 +1,60 @@
-//! Time per payload word and per step of another program and of our own.
+//! Time per payload word of another program, of our own and of a copy.
 
 use crate::bench::{measure, Timed, SMALL, TRIES};
-use crate::bench_inputs::{inputs, ChainInput, Per, LARGE};
+use crate::bench_inputs::{inputs, more_inputs, ChainInput};
 use crate::capture_generate::tag;
 use crate::chain::END;
-use crate::chain_time::{input, result, MOST_QUADWORDS};
+use crate::chain_time::{input, MOST_QUADWORDS};
 use crate::compare::Program;
-use crate::words::{number, word};
+use crate::words::word;
 use std::hint::black_box;
 use std::time::Instant;
 
-const COPIES: u32 = 5_000;
+/// Words that a measurement of copying copies in all, some tenths of a second's.
+const COPIED_WORDS: usize = 1 << 28;
 
-/// Measures chains on each timing input and prints a table.
-pub fn bench_chain(program: &Program) -> Result<(), String> {
+/// Measures chains on each timing input, with `all` on more of them, and prints a table.
+pub fn bench_chain(program: &Program, all: bool) -> Result<(), String> {
     let own = Program::own("time-chain")?;
     check_other_inputs(program)?;
-    println!("Chains, ns per payload word of a unit or per step; best of {TRIES} runs each.");
+    println!("Chains, ns per word that the tags hand over; best of {TRIES} runs each.");
     println!("Start-up is taken off: the time of {SMALL} round is subtracted from that of many.");
     println!("Memories are not cleared between rounds. Every run answers 0.");
+    println!("memcpy copies the same words, again and again to one place.");
     println!();
     println!(
-        "{:<18} {:<5} {:>8} {:>8} {:>7}",
-        "input", "per", "program", "second", "ratio"
+        "{:<18} {:>8} {:>8} {:>7} {:>8} {:>9}",
+        "input", "program", "second", "ratio", "memcpy", "to memcpy"
     );
-    let mut last = String::new();
-    for chain in inputs() {
-        let each = line(program, &own, &chain)?;
-        if chain.name == LARGE {
-            last = copy_line(&chain, each);
-        }
+    let mut chains = inputs();
+    if all {
+        chains.extend(more_inputs());
     }
-    println!("\n{last}");
-    Ok(())
+    chains
+        .iter()
+        .try_for_each(|chain| print_line(program, &own, chain))
 }
 
-/// Measures an input and prints its line; hands back the program's ns per unit.
-fn line(program: &Program, own: &Program, chain: &ChainInput) -> Result<f64, String> {
+/// Measures an input and prints its line.
+fn print_line(program: &Program, own: &Program, chain: &ChainInput) -> Result<(), String> {
     let timed = Timed {
         input: &|rounds| input(rounds, chain.channel, &chain.main),
-        units: units(chain) as f64,
+        units: chain.payload.len() as f64,
         wrong: not_done,
     };
     let (theirs, ours) =
         measure(program, own, &timed).map_err(|e| format!("{}: {e}", chain.name))?;
-    let per = match chain.per {
-        Per::PayloadWord => "word",
-        Per::Step => "step",
-    };
+    let copy = copy_time(&chain.payload);
     println!(
-        "{:<18} {:<5} {:>8.2} {:>8.2} {:>7.2}",
+        "{:<18} {:>8.3} {:>8.3} {:>7.2} {:>8.4} {:>9.1}",
         chain.name,
-        per,
         theirs,
         ours,
-        theirs / ours
+        theirs / ours,
+        copy,
+        theirs / copy
     );
-    Ok(theirs)
+    Ok(())
 }
 
 /// How many runs did not end with 0, where any did not.
@@ -67,44 +65,20 @@ fn not_done(result: &[u8], rounds: u32) -> Option<String> {
     }
 }
 
-/// The payload words or steps of a round.
-fn units(chain: &ChainInput) -> u64 {
-    match chain.per {
-        Per::PayloadWord => chain.payload.len() as u64,
-        Per::Step => steps(chain),
-    }
-}
-
-fn steps(chain: &ChainInput) -> u64 {
-    let one = result(&input(1, chain.channel, &chain.main));
-    one.map_or(0, |result| number(&result, 0))
-}
-
-/// Sets the program's time for a step of the chain beside a copy of its payload.
-fn copy_line(chain: &ChainInput, each: f64) -> String {
-    let bytes = 4 * chain.payload.len();
-    let run = each * steps(chain) as f64 / bytes as f64;
-    let copy = copy_time(&chain.payload) / bytes as f64;
-    format!(
-        "{}, ns per payload byte: program {run:.3}, memcpy {copy:.4}, ratio {:.1}",
-        chain.name,
-        run / copy
-    )
-}
-
-/// Nanoseconds of a plain copy, the best of some tries.
+/// Nanoseconds per word of a plain copy, the best of some tries.
 fn copy_time(from: &[u32]) -> f64 {
     let mut to = vec![0; from.len()];
+    let copies = COPIED_WORDS.div_ceil(from.len());
     let mut best = f64::MAX;
     for _ in 0..TRIES {
         let start = Instant::now();
-        for _ in 0..COPIES {
+        for _ in 0..copies {
             to.copy_from_slice(black_box(from));
             black_box(&mut to);
         }
         best = best.min(start.elapsed().as_secs_f64());
     }
-    best / COPIES as f64 * 1e9
+    best / (copies * from.len()) as f64 * 1e9
 }
 
 /// Inputs that are no timing input give no result.

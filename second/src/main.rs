@@ -3,6 +3,7 @@
 mod bench;
 mod bench_chain;
 mod bench_inputs;
+mod bench_payloads;
 mod bench_salvage;
 mod bench_sheet;
 mod capture_cases;
@@ -125,7 +126,7 @@ usage:
   second generate-long SEED > CASES
   second points-capture mask|filling|vif0|upload|packets|paths|sets|whys|counts > CASES
   second compare-capture PROGRAM SEED[,SEED..] RUNS
-  second bench-chain PROGRAM
+  second bench-chain PROGRAM [all]
   second time-chain < INPUT > RESULT
   second sheet [--counts] < CASES > RESULTS
   second generate-sheet SEED COUNT > CASES
@@ -255,7 +256,9 @@ fn capture_command(arguments: &[&str]) -> Option<Result<(), String>> {
             let program = compare::Program::parse(program);
             capture_compare::compare(&program, &compare::seeds(seeds)?, runs.parse().ok()?)
         }
-        ["bench-chain", program] => bench_chain::bench_chain(&compare::Program::parse(program)),
+        ["bench-chain", program, more @ ..] if matches!(more, [] | ["all"]) => {
+            bench_chain::bench_chain(&compare::Program::parse(program), !more.is_empty())
+        }
         ["time-chain"] => time_chain(),
         _ => return None,
     };
