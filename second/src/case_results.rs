@@ -1,6 +1,6 @@
 //! The results of cases that are each told whole, beside another program's.
 
-use crate::compare::{describe_ends, first_difference, Program};
+use crate::compare::{ends, lengths, Program};
 use crate::words::{word, WORD};
 
 #[derive(Default)]
@@ -56,11 +56,9 @@ impl Results {
         tell: impl Fn(usize, usize) -> (String, String),
     ) -> Result<(), String> {
         self.sound(first)?;
-        let theirs = program.run(file)?;
-        match first_difference(&self.bytes, &theirs) {
-            None => Ok(()),
-            Some(at) => Err(self.explain(&theirs, at, first, tell)),
-        }
+        program.agrees(file, &self.bytes, |theirs, at| {
+            self.explain(theirs, at, first, tell)
+        })
     }
 
     /// The first difference, at a byte, in words.
@@ -71,24 +69,20 @@ impl Results {
         first: usize,
         tell: impl Fn(usize, usize) -> (String, String),
     ) -> String {
-        let lengths = format!("{} bytes, ours {}", theirs.len(), self.bytes.len());
-        if self.damage.is_some_and(|line| at >= line) || at >= self.bytes.len() {
-            let line = self.damage.unwrap_or(self.bytes.len());
-            let ends = describe_ends(theirs, &self.bytes, line);
-            return format!(
-                "differs after the results of {} cases: {lengths}\n  {ends}",
-                self.starts.len()
-            );
+        if let Some(ends) = ends(theirs, &self.bytes, self.damage, at) {
+            let cases = self.starts.len();
+            return format!("differs after the results of {cases} cases: {ends}");
         }
         let index = self.starts.partition_point(|&start| start <= at) - 1;
         let start = self.starts[index];
         let at_word = (at - start) / WORD;
         let (place, case) = tell(index, at_word);
         format!(
-            "case {}: {place}: {}, ours {} ({lengths})\n  the case:\n{case}",
+            "case {}: {place}: {}, ours {} ({})\n  the case:\n{case}",
             first + index,
             word_at(&theirs[start.min(theirs.len())..], at_word),
             word_at(&self.bytes[start..], at_word),
+            lengths(theirs, &self.bytes),
         )
     }
 }

@@ -1,10 +1,15 @@
 //! Another program's check results against our own.
 
-use crate::check_cases::{self, case_starts, describe_case, describe_place, first_case, HEADER};
+use crate::case_results::Results;
+use crate::check_cases::{
+    self, case_starts, describe_case, describe_place, first_case, Case, HEADER,
+};
 use crate::check_counts::{Counts, VERDICTS};
 use crate::check_generate::{cases, Made, KINDS, LARGE_KINDS};
 use crate::check_points;
-use crate::compare::{report, Program};
+use crate::compare::{case_at, Program};
+use crate::comparison::{file_of, Comparison};
+use crate::damaged::{filling_not_zero, Damage, Files, Spoilt};
 use crate::memory::cases::{MOST_CODE, MOST_DATA, MOST_LOG, MOST_MAIN};
 use crate::random::Random;
 use crate::words::{word, WORD};
@@ -12,9 +17,30 @@ use std::collections::HashMap;
 
 /// Cases that are given to the program at once.
 const BATCH: usize = 250;
+const DAMAGE: Damage = Damage {
+    header: HEADER * WORD,
+    first: &[-1, 0],
+    before_end: &[1, 4],
+    later: &[-4, -1, 0, 1],
+    cut_cases: |last| vec![last / 2, last],
+    spoilt_cases: |last| vec![0, last],
+    spoil,
+};
 
 /// What the kinds of cases came to: how often each kind of verdict.
 type Came = HashMap<(&'static str, u32), u64>;
+
+const COMPARISON: Comparison<Vec<Made>, Reached> = Comparison {
+    cases,
+    compare_cases: |program, cases, reached| compare_batches(program, cases, reached),
+    damaged: |cases, random| damaged(cases, random),
+    compare_file: |program, file| {
+        compare_file(program, file, 0, &mut Counts::default())?;
+        Ok(())
+    },
+    compare_more: |_, _, _, _| Ok(()),
+    rows: Reached::rows,
+};
 
 /// Compares on the points worked by hand, on the cases of each seed and on damaged files made
 /// from them.
@@ -22,24 +48,43 @@ pub fn compare(program: &Program, seeds: &[u64], count: u64) -> Result<(), Strin
     let points = check_points::file();
     check_points::check(&program.run(&points)?)?;
     compare_file(program, &points, 0, &mut Counts::default())?;
-    let (mut counts, mut came) = (Counts::default(), Came::new());
-    let mut damaged_files = 0;
-    for &seed in seeds {
-        let cases = cases(seed, count);
-        compare_batches(program, &cases, &mut counts, &mut came)
-            .map_err(|e| format!("seed {seed}: {e}"))?;
-        for (name, damaged) in damaged(&cases, seed) {
-            compare_file(program, &damaged, 0, &mut Counts::default())
-                .map_err(|e| format!("seed {seed}, damaged file ({name}): {e}"))?;
-            damaged_files += 1;
-        }
+    let points = check_points::points().len();
+    COMPARISON.compare(program, seeds, count, &[("points", points)])
+}
+
+#[derive(Default)]
+struct Reached {
+    counts: Counts,
+    came: Came,
+}
+
+impl Reached {
+    fn rows(&self) -> Vec<(String, u64)> {
+        [self.counts.rows(), rows_of_kinds(&self.came)].concat()
     }
-    let mut rows = counts.rows();
-    rows.extend(rows_of_kinds(&came));
-    rows.push(("damaged files".to_string(), damaged_files));
-    let points = check_points::points().len() as u64;
-    rows.push(("points".to_string(), points));
-    report(&rows)
+}
+
+fn compare_batches(program: &Program, cases: &[Made], reached: &mut Reached) -> Result<(), String> {
+    for (i, batch) in cases.chunks(BATCH).enumerate() {
+        let file = file_of(batch, Case::write);
+        let own = compare_file(program, &file, i * BATCH, &mut reached.counts)?;
+        note_verdicts(batch, &own, &mut reached.came);
+    }
+    Ok(())
+}
+
+/// Made from short cases.
+fn damaged(cases: &[Made], random: &mut Random) -> Files {
+    let is_short = |made: &&Made| {
+        let case = &made.case;
+        (1..300).contains(&case.sheet.len()) && case.main.len() < 300
+    };
+    let file = file_of(cases.iter().filter(is_short).take(4), Case::write);
+    let starts = case_starts(&file);
+    let mut made = DAMAGE.files(&file, &starts, random);
+    let filled = filling_not_zero(&file, &starts, DAMAGE.header);
+    made.push(("filling not zero".to_string(), filled));
+    made
 }
 
 /// The kinds of cases with the verdicts that they have to come to.
@@ -54,156 +99,51 @@ fn rows_of_kinds(came: &Came) -> Vec<(String, u64)> {
     rows
 }
 
-fn file_of(cases: &[Made]) -> Vec<u8> {
-    let mut file = Vec::new();
-    cases.iter().for_each(|made| made.case.write(&mut file));
-    file
-}
-
-fn compare_batches(
-    program: &Program,
-    cases: &[Made],
-    counts: &mut Counts,
-    came: &mut Came,
-) -> Result<(), String> {
-    for (i, batch) in cases.chunks(BATCH).enumerate() {
-        let file = file_of(batch);
-        let own = check_cases::results(&file, counts);
-        own.compare(program, &file, i * BATCH, |index, at| {
-            tell(&file, index, at)
-        })?;
-        for (made, &start) in batch.iter().zip(&own.starts) {
-            let verdict = word(&own.bytes[start..], 0);
-            *came.entry((made.name, verdict)).or_default() += 1;
-        }
+fn note_verdicts(cases: &[Made], own: &Results, came: &mut Came) {
+    for (made, &start) in cases.iter().zip(&own.starts) {
+        let verdict = word(&own.bytes[start..], 0);
+        *came.entry((made.name, verdict)).or_default() += 1;
     }
-    Ok(())
 }
 
-/// Compares on a file whose cases are counted from `first`.
+/// Compares on a file whose cases are counted from `first`; hands back the results, which are both
+/// programs'.
 fn compare_file(
     program: &Program,
     file: &[u8],
     first: usize,
     counts: &mut Counts,
-) -> Result<(), String> {
+) -> Result<Results, String> {
     let own = check_cases::results(file, counts);
-    own.compare(program, file, first, |index, at| tell(file, index, at))
+    own.compare(program, file, first, |index, at| tell(file, index, at))?;
+    Ok(own)
 }
 
 /// A word of a case's result, and the case.
 fn tell(file: &[u8], index: usize, at_word: usize) -> (String, String) {
-    let from = case_starts(file)[index];
-    let (case, _) = first_case(&file[from..]).expect("a case with results is whole");
+    let case = case_at(file, index, first_case);
     (describe_place(&case, at_word), describe_case(&case))
 }
 
-/// Damaged files made from short cases, each with a name.
-fn damaged(cases: &[Made], seed: u64) -> Vec<(String, Vec<u8>)> {
-    let mut random = Random::new(seed ^ 0x5EED);
-    let short: Vec<&Made> = cases
-        .iter()
-        .filter(|made| (1..300).contains(&made.case.sheet.len()) && made.case.main.len() < 300)
-        .take(4)
-        .collect();
-    let mut file = Vec::new();
-    short.iter().for_each(|made| made.case.write(&mut file));
-    let mut made = vec![
-        ("empty".to_string(), Vec::new()),
-        ("filling not zero".to_string(), filling_not_zero(&short)),
-    ];
-    let starts = case_starts(&file);
-    let Some(last) = starts.len().checked_sub(1) else {
-        return made;
-    };
-    let cut = |made: &mut Vec<(String, Vec<u8>)>, at: usize| {
-        let at = at.min(file.len());
-        made.push((format!("cut after {at} bytes"), file[..at].to_vec()));
-    };
-    let header = HEADER * WORD;
-    for at in [
-        1,
-        3,
-        4,
-        8,
-        header - 1,
-        header,
-        file.len() - 1,
-        file.len() - 4,
-    ] {
-        cut(&mut made, at);
-    }
-    for index in [last / 2, last] {
-        for after in [1, 4, header - 4, header - 1, header, header + 1] {
-            cut(&mut made, starts[index] + after);
-        }
-        cut(&mut made, random.below(file.len() as u64) as usize);
-    }
-    for index in [0, last] {
-        spoil_case(&mut made, &file, starts[index], index);
-    }
-    made
-}
-
-/// Files in which one word of a case is changed.
-fn spoil_case(made: &mut Vec<(String, Vec<u8>)>, file: &[u8], start: usize, index: usize) {
-    let mut spoil = |name: &str, at: usize, value: u32| {
-        let mut bytes = file.to_vec();
-        let at = start + WORD * at;
-        bytes[at..at + WORD].copy_from_slice(&value.to_le_bytes());
-        made.push((format!("case {index}, {name}"), bytes));
-    };
-    let held = |at: usize| word(&file[start..], at);
-    let mark = check_cases::MARK;
-    spoil("mark with its first bit flipped", 0, mark ^ 1);
-    spoil("mark with its last bit flipped", 0, mark ^ 1 << 31);
-    let limits = [
+fn spoil(spoilt: &mut Spoilt) {
+    spoilt.limits(&[
         ("S", 1, check_cases::MOST_SHEET),
         ("M", 2, MOST_MAIN),
-        ("P", 3, held(2) / 4),
+        ("P", 3, spoilt.held(2) / 4),
         ("D", 4, MOST_DATA),
         ("C", 5, MOST_CODE),
         ("L", 6, MOST_LOG),
-    ];
-    for (name, at, most) in limits {
-        spoil(&format!("{name} at its limit"), at, most);
-        spoil(&format!("{name} one above its limit"), at, most + 1);
-        spoil(&format!("{name} the greatest"), at, u32::MAX);
-    }
-    for less in 1..=4 {
-        spoil(&format!("S {less} less"), 1, held(1).saturating_sub(less));
-        spoil(&format!("S {less} more"), 1, held(1) + less);
-    }
-    let words = 4 * held(3);
-    spoil("M for just what is given", 2, words);
-    spoil(
-        "M a byte less than what is given",
-        2,
-        words.saturating_sub(1),
-    );
-}
-
-/// Cases whose sheets end inside a word, with the bytes that fill it up not zero.
-fn filling_not_zero(cases: &[&Made]) -> Vec<u8> {
-    let mut bytes = Vec::new();
-    for made in cases {
-        for take in 1..WORD {
-            let mut case = made.case.clone();
-            let length = case.sheet.len() / WORD * WORD;
-            case.sheet.resize(length, 0);
-            case.sheet.extend(&[0x9E, 0x51, 4][..take]);
-            case.write(&mut bytes);
-            let filling = bytes.len() - WORD * case.main.len() - (WORD - take);
-            bytes[filling..filling + WORD - take].fill(0x9E);
-        }
-    }
-    bytes
+    ]);
+    spoilt.bytes_off("S", 1);
+    let words = 4 * spoilt.held(3);
+    spoilt.word("M for just what is given", 2, words);
+    let less = words.saturating_sub(1);
+    spoilt.word("M a byte less than what is given", 2, less);
 }
 
 #[cfg(test)]
 mod tests {
     use super::*;
-    use crate::case_results::Results;
     use crate::check_cases::results;
     use crate::compare::zeros;
 
@@ -217,13 +157,9 @@ mod tests {
         for seed in [1, 2] {
             let cases = cases(seed, 2_000);
             for batch in cases.chunks(BATCH) {
-                let given = results(&file_of(batch), &mut counts);
-                assert_eq!((given.damage, given.broken), (None, None));
-                for (made, &start) in batch.iter().zip(&given.starts) {
-                    *came
-                        .entry((made.name, word(&given.bytes[start..], 0)))
-                        .or_default() += 1;
-                }
+                let given = results(&file_of(batch, Case::write), &mut counts);
+                assert_eq!((given.damage, &given.broken), (None, &None));
+                note_verdicts(batch, &given, &mut came);
             }
         }
         let rows = [counts.rows(), rows_of_kinds(&came)].concat();
@@ -232,21 +168,21 @@ mod tests {
 
     #[test]
     fn damaged_files_have_a_line() {
-        let made = damaged(&cases(2, 30), 2);
+        let damaged = |cases: &[Made]| damaged(cases, &mut Random::new(2));
+        let made = damaged(&cases(2, 30));
         assert_eq!(own(&made[0].1).bytes, []);
         let lines = made.iter().filter(|(_, bytes)| own(bytes).damage.is_some());
         assert!(lines.count() > 40);
-        let (name, cut) = &made[2];
+        let (name, cut) = &made[1];
         assert_eq!(name, "cut after 1 bytes");
         assert_eq!(own(cut).bytes, b"damaged case 0\n");
-        assert_eq!(damaged(&[], 2).len(), 2);
+        assert_eq!(damaged(&[]).len(), 2);
     }
 
     #[test]
     fn filling_is_ignored() {
-        let all = cases(1, 20);
-        let short: Vec<&Made> = all.iter().collect();
-        let filled = filling_not_zero(&short);
+        let file = file_of(&cases(1, 20), Case::write);
+        let filled = filling_not_zero(&file, &case_starts(&file), DAMAGE.header);
         let mut zeros = Vec::new();
         let mut rest = &filled[..];
         while let Some((case, length)) = first_case(rest) {
@@ -260,7 +196,7 @@ mod tests {
     #[test]
     fn a_difference_is_named() {
         let all = cases(3, 5);
-        let file = file_of(&all);
+        let file = file_of(&all, Case::write);
         let given = own(&file);
         let start = given.starts[3];
         let mut theirs = given.bytes.clone();

@@ -8,6 +8,7 @@ use crate::check_sheets::{
     grouped, held_part, is_entry, narrow, other_body, overlapping, parts, short, short_part, some,
     with_entries, Parts,
 };
+use crate::comparison;
 use crate::group_edges::group_edge_cases;
 use crate::group_sheets::{any_tree, nested, sheet_of_tree};
 use crate::log;
@@ -26,10 +27,7 @@ const LARGE_EVERY: u64 = 50;
 const MOST_STEPS: u64 = 30_000;
 
 /// A case, and the kind that it is of.
-pub struct Made {
-    pub name: &'static str,
-    pub case: Case,
-}
+pub type Made = comparison::Made<Case>;
 
 type Maker = fn(&mut Random) -> Case;
 

@@ -60,6 +60,21 @@ impl Program {
         }
         Ok(output)
     }
+
+    /// Runs the program on the input; where its output is not ours, `explain` tells of it by theirs and
+    /// the first byte that differs.
+    pub fn agrees(
+        &self,
+        input: &[u8],
+        ours: &[u8],
+        explain: impl FnOnce(&[u8], usize) -> String,
+    ) -> Result<(), String> {
+        let theirs = self.run(input)?;
+        match first_difference(ours, &theirs) {
+            None => Ok(()),
+            Some(at) => Err(explain(&theirs, at)),
+        }
+    }
 }
 
 /// The offset of the first byte that differs or that only one of the two has.
@@ -109,14 +124,29 @@ pub fn report(rows: &[(String, u64)]) -> Result<(), String> {
     Ok(())
 }
 
-/// What both results have from byte `line` on.
-pub fn describe_ends(theirs: &[u8], ours: &[u8], line: usize) -> String {
+/// How long both results are.
+pub fn lengths(theirs: &[u8], ours: &[u8]) -> String {
+    format!("{} bytes, ours {}", theirs.len(), ours.len())
+}
+
+/// How long both are and what they have after our last result, where the byte that differs is there;
+/// `damage` is where our line about a damaged case starts.
+pub fn ends(theirs: &[u8], ours: &[u8], damage: Option<usize>, at: usize) -> Option<String> {
+    let line = damage.unwrap_or(ours.len());
+    if at < line {
+        return None;
+    }
     let text = |bytes: &[u8]| {
         let end = bytes.len().min(line + 80);
         let text = String::from_utf8_lossy(&bytes[line.min(end)..end]);
         text.escape_debug().to_string()
     };
-    format!("program: {}\n  ours: {}", text(theirs), text(ours))
+    Some(format!(
+        "{}\n  program: {}\n  ours: {}",
+        lengths(theirs, ours),
+        text(theirs),
+        text(ours)
+    ))
 }
 
 /// Where each case of a file starts, a damaged last one too, by the length of the first case of
@@ -132,6 +162,17 @@ pub fn case_starts(file: &[u8], length: impl Fn(&[u8]) -> Option<usize>) -> Vec<
         }
     }
     starts
+}
+
+/// A case of a file whose cases up to it are whole.
+pub fn case_at<C>(
+    file: &[u8],
+    index: usize,
+    first_case: impl Fn(&[u8]) -> Option<(C, usize)>,
+) -> C {
+    let whole = |at: usize| first_case(&file[at..]).expect("a case with results is whole");
+    let start = (0..index).fold(0, |at, _| at + whole(at).1);
+    whole(start).0
 }
 
 /// Seeds with commas between.

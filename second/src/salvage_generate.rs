@@ -1,5 +1,6 @@
 //! Salvage cases from a seed.
 
+use crate::comparison;
 use crate::random::Random;
 use crate::salvage::{self, Salvaged};
 use crate::salvage_cases::{Case, MOST_LIST, MOST_OUTPUT, MOST_SHEET};
@@ -16,10 +17,7 @@ const LARGE_EVERY: u64 = 40;
 const ALL: [u8; 4] = [DATA, CODE, GS, START];
 
 /// A case, and the kind of sheet that it has.
-pub struct Made {
-    pub name: &'static str,
-    pub case: Case,
-}
+pub type Made = comparison::Made<Case>;
 
 type Maker = fn(&mut Random) -> Vec<u8>;
 

@@ -1,6 +1,8 @@
 //! Another program's sheet results against our own.
 
-use crate::compare::{report, Program};
+use crate::compare::{case_at, Program};
+use crate::comparison::Comparison;
+use crate::damaged::{some_cases, Damage, Files, Spoilt};
 use crate::group_points;
 use crate::memory::cases::{MOST_CODE, MOST_DATA, MOST_LOG, MOST_MAIN};
 use crate::random::Random;
@@ -14,6 +16,24 @@ use crate::words::{word, WORD};
 const BATCH: usize = 250;
 /// Cases whose filling is changed, for each length of it.
 const FILLED: usize = 10;
+const DAMAGE: Damage = Damage {
+    header: HEADER * WORD,
+    first: &[-1, 0, 3],
+    before_end: &[1],
+    later: &[-4, -1, 0, 1, 4],
+    cut_cases: |last| vec![last / 2, last],
+    spoilt_cases: |last| vec![0, last / 2, last],
+    spoil,
+};
+
+const COMPARISON: Comparison<Vec<u8>, Counts> = Comparison {
+    cases: generate,
+    compare_cases: |program, file, counts| compare_batches(program, file, counts),
+    damaged: |file, random| damaged(file, random),
+    compare_file: |program, file| compare_file(program, file, 0, &mut Counts::default()),
+    compare_more: |_, _, _, _| Ok(()),
+    rows: Counts::rows,
+};
 
 /// Compares on the bench points, on the cases of each seed and on damaged files made
 /// from them.
@@ -22,23 +42,11 @@ pub fn compare(program: &Program, seeds: &[u64], count: u64) -> Result<(), Strin
     compare_points(program, &points)?;
     let group_points = group_points::expected();
     compare_points(program, &group_points)?;
-    let mut counts = Counts::default();
-    let mut damaged_files = 0;
-    for &seed in seeds {
-        let file = generate(seed, count);
-        compare_batches(program, &file, &mut counts).map_err(|e| format!("seed {seed}: {e}"))?;
-        for (name, damaged) in damaged(&file, seed) {
-            compare_file(program, &damaged, 0, &mut Counts::default())
-                .map_err(|e| format!("seed {seed}, damaged file ({name}): {e}"))?;
-            damaged_files += 1;
-        }
-    }
-    let mut rows = counts.rows();
-    rows.push(("damaged files".to_string(), damaged_files));
-    rows.push(("bench points".to_string(), points.len() as u64));
-    let groups = group_points.len() as u64;
-    rows.push(("points about groups".to_string(), groups));
-    report(&rows)
+    let points = [
+        ("bench points", points.len()),
+        ("points about groups", group_points.len()),
+    ];
+    COMPARISON.compare(program, seeds, count, &points)
 }
 
 fn compare_points(program: &Program, points: &[Expected]) -> Result<(), String> {
@@ -56,6 +64,17 @@ fn compare_batches(program: &Program, file: &[u8], counts: &mut Counts) -> Resul
     Ok(())
 }
 
+/// Made from the first two cases and up to four in a row from anywhere.
+fn damaged(file: &[u8], random: &mut Random) -> Files {
+    let starts = case_starts(file);
+    let head = starts.len().min(2);
+    let first = random.within(head as u64..=starts.len() as u64) as usize;
+    let some = some_cases(file, &starts, head, first, 4);
+    let mut made = DAMAGE.files(&some, &case_starts(&some), random);
+    made.push(("filling not zero".to_string(), filling_not_zero(file)));
+    made
+}
+
 /// Compares on a file whose cases are counted from `first`.
 fn compare_file(
     program: &Program,
@@ -69,83 +88,20 @@ fn compare_file(
 
 /// A word of a case's result, and the case.
 fn tell(file: &[u8], index: usize, at_word: usize) -> (String, String) {
-    let from = case_starts(file)[index];
-    let (case, _) = first_case(&file[from..]).expect("a case with results is whole");
+    let case = case_at(file, index, first_case);
     (describe_place(&case, at_word), describe_case(&case))
 }
 
-/// The first two cases and up to four in a row from anywhere.
-fn some_cases(file: &[u8], random: &mut Random) -> Vec<u8> {
-    let mut bounds = case_starts(file);
-    bounds.push(file.len());
-    let count = bounds.len() - 1;
-    let head = count.min(2);
-    let first = random.within(head as u64..=count as u64) as usize;
-    let end = (first + 4).min(count);
-    [&file[..bounds[head]], &file[bounds[first]..bounds[end]]].concat()
-}
-
-/// Damaged files made from a whole one, each with a name.
-fn damaged(file: &[u8], seed: u64) -> Vec<(String, Vec<u8>)> {
-    let mut random = Random::new(seed ^ 0x5EED);
-    let mut made = vec![
-        ("empty".to_string(), Vec::new()),
-        ("filling not zero".to_string(), filling_not_zero(file)),
-    ];
-    let file = &some_cases(file, &mut random);
-    let starts = case_starts(file);
-    let Some(last) = starts.len().checked_sub(1) else {
-        return made;
-    };
-    let cut = |made: &mut Vec<(String, Vec<u8>)>, at: usize| {
-        let at = at.min(file.len());
-        made.push((format!("cut after {at} bytes"), file[..at].to_vec()));
-    };
-    let header = HEADER * WORD;
-    for at in [1, 3, 4, 8, header - 1, header, header + 3, file.len() - 1] {
-        cut(&mut made, at);
-    }
-    for index in [last / 2, last] {
-        for after in [1, 4, header - 4, header - 1, header, header + 1, header + 4] {
-            cut(&mut made, starts[index] + after);
-        }
-        cut(&mut made, random.below(file.len() as u64) as usize);
-    }
-    for index in [0, last / 2, last] {
-        spoil_case(&mut made, file, starts[index], index);
-    }
-    made
-}
-
-/// Files in which one word of a case is changed.
-fn spoil_case(made: &mut Vec<(String, Vec<u8>)>, file: &[u8], start: usize, index: usize) {
-    let mut spoil = |name: &str, at: usize, value: u32| {
-        let mut bytes = file.to_vec();
-        let at = start + WORD * at;
-        bytes[at..at + WORD].copy_from_slice(&value.to_le_bytes());
-        made.push((format!("case {index}, {name}"), bytes));
-    };
-    let held = |at: usize| word(&file[start..], at);
-    let mark = sheet_cases::MARK;
-    spoil("mark with its first bit flipped", 0, mark ^ 1);
-    spoil("mark with its last bit flipped", 0, mark ^ 1 << 31);
-    let limits = [
+fn spoil(spoilt: &mut Spoilt) {
+    spoilt.limits(&[
         ("S", 1, sheet_cases::MOST_SHEET),
         ("O", 2, sheet_cases::MOST_OUTPUT),
         ("M", 3, MOST_MAIN),
         ("D", 5, MOST_DATA),
         ("C", 6, MOST_CODE),
         ("L", 7, MOST_LOG),
-    ];
-    for (name, at, most) in limits {
-        spoil(&format!("{name} at its limit"), at, most);
-        spoil(&format!("{name} one above its limit"), at, most + 1);
-        spoil(&format!("{name} the greatest"), at, u32::MAX);
-    }
-    for less in 1..=4 {
-        spoil(&format!("S {less} less"), 1, held(1).saturating_sub(less));
-        spoil(&format!("S {less} more"), 1, held(1) + less);
-    }
+    ]);
+    spoilt.bytes_off("S", 1);
 }
 
 /// Cases of a file whose sheets end inside a word, with the bytes that fill it up not zero.
@@ -188,15 +144,15 @@ mod tests {
 
     #[test]
     fn damaged_files_have_a_line() {
-        let file = generate(2, 12);
-        let made = damaged(&file, 2);
+        let damaged = |file: &[u8]| damaged(file, &mut Random::new(2));
+        let made = damaged(&generate(2, 12));
         assert_eq!(own(&made[0].1).bytes, []);
         let lines = made.iter().filter(|(_, bytes)| own(bytes).damage.is_some());
         assert!(lines.count() > 50);
-        let (name, cut) = &made[2];
+        let (name, cut) = &made[1];
         assert_eq!(name, "cut after 1 bytes");
         assert_eq!(own(cut).bytes, b"damaged case 0\n");
-        assert_eq!(damaged(&[], 2).len(), 2);
+        assert_eq!(damaged(&[]).len(), 2);
     }
 
     #[test]

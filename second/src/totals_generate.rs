@@ -1,5 +1,6 @@
 //! Totals cases from a seed.
 
+use crate::comparison;
 use crate::random::Random;
 use crate::run_counts::{RunCounts, NUMBERS};
 use crate::totals::{Totals, SUMS};
@@ -14,10 +15,7 @@ pub const STORED: u64 = 110;
 const MANY_EVERY: u64 = 500;
 
 /// A case, and the kind that it is of.
-pub struct Made {
-    pub name: &'static str,
-    pub case: Case,
-}
+pub type Made = comparison::Made<Case>;
 
 type Maker = fn(&mut Random) -> Case;
 
