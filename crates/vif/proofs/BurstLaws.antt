@@ -1,4 +1,4 @@
--- Payload words taken at once: one more of them.
+-- Quadwords of DIRECT taken at once: one more of them.
 use mathlib.Core.Path.{_≡_, refl, sym, ap, _∙_}
 use mathlib.Core.Bool.{Bool, true, false}
 use mathlib.Core.List.{List}
@@ -59,121 +59,13 @@ incoming-word main a =
     (if-ind (λ (n : Incoming). wordIn n ≡ wordAt main a) (eqb (a / 4 % 4) 2) refl refl))
 
 -- before the last unit no code is completed
-not-last : (due : ℕ) (i : Bool) → 1 < due → completes due i ≡ false
+pub not-last : (due : ℕ) (i : Bool) → 1 < due → completes due i ≡ false
 unfolding completes if
 not-last due i h = rw (ne-eqb due 1 (λ e. omega arith))
 
-waits-still : (due : ℕ) (w : Waiting) → 1 < due → orNothing due w ≡ w
+pub waits-still : (due : ℕ) (w : Waiting) → 1 < due → orNothing due w ≡ w
 unfolding orNothing if
 waits-still due w h = rw (ne-eqb due 1 (λ e. omega arith))
-
--- a word of payload more
-word-more : {which : VifUnit} {main : List ℕ} {a k : ℕ} {x y z : Fed} → Leads which main a k (wordsAlone k) x y
-    → vifStep which (y .unit) (y .path2) (incomingAt main (a + 4 * k)) (y .used) (y .memories) ≡ leaves (aWord false) (z .unit) (z .path2) (z .used) (z .memories)
-    → nopIn (y .unit .waiting) (wordIn (incomingAt main (a + 4 * k))) ≡ false
-    → Leads which main a (k + 1) (wordsAlone (k + 1)) x z
-word-more {z = z} p e w =
-    leads-then p (rw (w, one-quiet) at (leads-one {o = leaves (aWord false) (z .unit) (z .path2) (z .used) (z .memories)} (sym e) refl (λ q. omega arith) refl))
-
--- ---- UNPACK
-
--- the unit with an UNPACK that waits
-abbrev pub unpacking : Vif → Format → List ℕ → Unpacking → Vif
-unpacking v f row u = withWaiting (withRow v row) (UnpackDue f u)
-
-module _ (size : ℕ) (v : Vif) (f : Format) (u : Unpacking) (word : ℕ) (row mem : List ℕ) (g : UnpackReady size v f u mem) (h : 1 < u .due) where
-  -- a payload word before the last leaves it waiting, ready for the next
-  unpack-ready : (m : List ℕ) → length m ≡ length mem → UnpackReady size v f (holds u word) m
-  unfolding acceptable
-  unpack-ready m l =
-      let x = acceptable-fits size f u (writeRegisters v) mem (g .accepted) in
-      let s = x .memory in
-      record {
-        some = omega arith;
-        accepted =
-            rw (memory-accepted size m (record { some = s .some; most = s .most; long = l ∙ s .long }), fits-cycle (v .cl) (v .wl) (x .cycle))
-            (fits-unpacking f (v .cl) (v .wl) (holds u word) (unpacking-on word (x .unpacking) h));
-      }
-
-  abbrev wordWritten : Written
-  wordWritten = unpackWord size f u (writeRegisters v) word (written row mem)
-
-  unpack-step : (which : VifUnit) → size ≡ quadwords which → (p : Path) (used : ℕ) (code log : List ℕ) (next : Incoming) → wordIn next ≡ word
-      → vifStep which (unpacking v f row u) p next used (lent mem code log)
-      ≡ leaves (aWord false) (unpacking v f (wordWritten .row) (holds u word)) p used (lent (wordWritten .mem) code log)
-  unfolding vifStep unpackStep
-  unpack-step which z p used code log next e =
-      rw (← z, e, not-last (u .due) (u .interrupt) h, waits-still (u .due) (UnpackDue f (holds u word)) h)
-
--- n words of main memory, not the last
-module _ (which : VifUnit) (size : ℕ) (z : size ≡ quadwords which) (v : Vif) (f : Format) (main : List ℕ) (p : Path) (used : ℕ) (code log : List ℕ) where
-  abbrev wordsWritten : Unpacking → List ℕ → List ℕ → ℕ → ℕ → Written
-  wordsWritten u row mem a n = takeWords size f u (writeRegisters v) (wordsFrom main a n) (written row mem)
-
-  words-lead : (n a : ℕ) (u : Unpacking) (row mem : List ℕ) → UnpackReady size v f u mem → n < u .due
-      → Leads which main a n (wordsAlone n) (fed (unpacking v f row u) p used (lent mem code log))
-      (fed (unpacking v f (wordsWritten u row mem a n .row) (heldAfter u (wordsFrom main a n))) p used (lent (wordsWritten u row mem a n .mem) code log))
-  unfolding wordsFrom takeWords heldAfter
-  words-lead zero a u row mem g h = leads-none
-  words-lead (suc n) a u row mem g h =
-      let x = wordAt main a in
-      let o = unpackWord size f u (writeRegisters v) x (written row mem) in
-      let d : 1 < u .due = omega arith in
-      rw (← one-add n)
-      (leads-then
-      (rw one-quiet at (leads-one (sym (unpack-step size v f u x row mem g d which z p used code log (incomingAt main a) (incoming-word main a))) refl (λ q. omega arith) refl))
-      (words-lead n (a + 4) (holds u x) (o .row) (o .mem) (unpack-ready size v f u x row mem g d (o .mem) (word-length size f u (writeRegisters v) x (written row mem))) (omega arith)))
-
-  pub unpack-leads : {n a : ℕ} {u : Unpacking} {mem m : List ℕ} {r : Registers} {s : WordsTaken} → v .waiting ≡ UnpackDue f u → UnpackReady size v f u mem → n < u .due
-      → a ≤ 1048576 → r ≡ writeRegisters v → wordsLeft s m ≡ takeWordsOf size f u r main a n (v .row) mem
-      → Leads which main a n (wordsAlone n) (fed v p used (lent mem code log)) (fed (unpacking v f (s .row) (s .rest)) p used (lent m code log))
-  unfolding takeWordsOf wordsAcceptable takenBy if
-  unpack-leads {n} {a} {u} {mem} q g h l er es =
-      let e = rw (er, le-leb a 1048576 l, lt-ltb n (u .due) h, g .accepted) at es in
-      rw (ap (λ (o : WordsLeft). o .row) e, ap (λ (o : WordsLeft). o .mem) e, ap (λ (o : WordsLeft). o .rest) e)
-      (rw (← ap (λ (w : Waiting). fed (withWaiting v w) p used (lent mem code log)) q) at (words-lead n a u (v .row) mem g h))
-
--- ---- MPG
-
--- with words of it stored
-pub mpg-later : {size address count due k : ℕ} {code code′ : List ℕ} → MpgReady size address count due code → k < due → length code′ ≡ length code
-    → MpgReady size address count (due - k) code′
-mpg-later r h l =
-    let d = r .due-most in
-    record { some = r .some; most = r .most; wide = l ∙ r .wide; inside = r .inside; few = r .few; left = omega arith; due-most = omega arith }
-
--- once the first word is taken, no word is refused
-never-later : (main : List ℕ) (a count due k : ℕ) → mpgRefused count due (incomingAt main a) ≡ false → due ≤ count + count → k < due
-    → mpgRefused count (due - k) (incomingAt main (a + 4 * k)) ≡ false
-unfolding mpgRefused
-never-later main a count due zero r b h = rw (sub-zero due, add-zero a) r
-never-later main a count due (suc k) r b h = rw (ne-eqb (due - suc k) (count + count) (λ e. omega arith))
-
-module _ (v : Vif) (address count : ℕ) (i : Bool) where
-  -- the unit with an MPG that waits
-  abbrev pub storing : ℕ → Vif
-  storing due = withWaiting v (MpgDue address count due i)
-
-  pub mpg-begins : (which : VifUnit) (main : List ℕ) (a due : ℕ) (p : Path) (used : ℕ) (m : Lent) → v .waiting ≡ MpgDue address count due i
-      → Leads which main a 0 noUnits (fed v p used m) (fed (storing (due - 0)) p used m)
-  mpg-begins which main a due p used m h = rw (sub-zero due, ← ap (λ (w : Waiting). fed (withWaiting v w) p used m) h) leads-none
-
-  module _ (which : VifUnit) {size : ℕ} (z : size ≡ instructions which) where
-    mpg-step : (due word : ℕ) → 1 < due → (p : Path) (used : ℕ) (mem code log : List ℕ) (next : Incoming) → mpgRefused count due next ≡ false → wordIn next ≡ word
-        → vifStep which (storing due) p next used (lent mem code log)
-        ≡ leaves (aWord false) (storing (due - 1)) p used (lent mem (mpgStored size address count due word code) log)
-    unfolding vifStep mpgStep if
-    mpg-step due word h p used mem code log next r e = rw (r, ← z, e, not-last due i h, waits-still due (MpgDue address count (due - 1) i) h)
-
-    pub mpg-more : {main : List ℕ} {a k due word : ℕ} {p : Path} {used : ℕ} {mem code code′ log : List ℕ} {x : Fed}
-        → mpgRefused count due (incomingAt main a) ≡ false → due ≤ count + count → k + 1 < due
-        → word ≡ wordAt main (a + 4 * k) → code′ ≡ mpgStored size address count (due - k) word code
-        → Leads which main a k (wordsAlone k) x (fed (storing (due - k)) p used (lent mem code log))
-        → Leads which main a (k + 1) (wordsAlone (k + 1)) x (fed (storing (due - (k + 1))) p used (lent mem code′ log))
-    mpg-more {main} {a} {k} {due} {word} {p} {used} {mem} {code} {code′} {log} r b h e s l =
-        let d : due - (k + 1) ≡ due - k - 1 = omega arith in
-        rw (d, s)
-        (word-more l (mpg-step (due - k) word (omega arith) p used mem code log (incomingAt main (a + 4 * k)) (never-later main a count due k r b (omega arith)) (incoming-word main (a + 4 * k) ∙ sym e)) refl)
 
 -- ---- DIRECT and DIRECTHL
 
@@ -241,7 +133,7 @@ pub burst-leads : {which : VifUnit} {main : List ℕ} {limit a count k used : �
 burst-leads {which} {main} {limit} {a} {count} {k} {used} {n} {s} {t} {m} {m′} g h l x i e =
     rw e
     (record {
-      same = rest-leads which main limit a count s m i h l (s .interrupt);
+      same = rest-leads which main limit a count s m i (omega arith) (omega arith) (s .interrupt);
       stays = i .stays;
       later = omega arith;
       going = record { near = g .near; few-words = omega arith; few-steps = omega arith; counted = counted-plus (g .counted) x; quiet = g .quiet };

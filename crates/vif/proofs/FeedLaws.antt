@@ -5,12 +5,14 @@ use mathlib.Core.List.{List}
 use Prim.Native.Nat.{ℕ, zero, suc, _+_, _*_, _-_, _<_, _≤_}
 use native.Mathlib.Nat.{zero-add, add-zero, add-assoc, sub-zero}
 use native.Mathlib.Omega.{arith}
-use borrow.Author.Tests.{ne-eqb, eqb-true}
-use lib.Dec.{eqb}
+use borrow.Author.Tests.{ne-eqb, eqb-true, leb-true}
+use lib.ListN.{length}
+use lib.Dec.{eqb, leb}
 use Rattle.fields.specs.declared.UnitCounts.{UnitCounts}
 use Rattle.fields.specs.Counts.{noUnits, plusUnits, Counted}
 use Rattle.fields.proofs.CountLaws.{plus-units-none, none-plus-units, plus-plus-units, counted-none, counted-word, counted-quadword, counted-plus}
 use Rattle.fields.specs.Fields.{if}
+use Rattle.fields.specs.Memory.{inside}
 use Rattle.fields.proofs.ChoiceLaws.{and-left, and-right}
 use Rattle.gif.specs.declared.Path.{Path}
 use Rattle.gif.proofs.FeedLaws.{inside-most}
@@ -96,7 +98,7 @@ module _ (f : ℕ → ℕ → Fed → FedOn) (c : UnitCounts) (o : Left) (a coun
   taken-none (Refused n) e = refl
 
 -- a step that took no word changed nothing
-untaken : (which : VifUnit) (x : Fed) → FedReady which x
+pub untaken : (which : VifUnit) (x : Fed) → FedReady which x
     → (next : Incoming) {o : Left} → o ≡ vifStep which (x .unit) (x .path2) next (x .used) (x .memories)
     → wordsTaken (o .answer) ≡ 0 → o .memories ≡ x .memories
 untaken which x r next {o} e = go (o .answer) refl
@@ -183,7 +185,7 @@ module _ (which : VifUnit) (main : List ℕ) (limit a count : ℕ) (s : WordsRes
       ∙ rw q
 
   -- steps at once
-  pub rest-leads : {k : ℕ} {c : UnitCounts} {y : Fed} → Leads which main (a + 4 * s .words) k c (fedIn s m) y → k < count - s .words → c .steps < limit - s .counts .steps
+  pub rest-leads : {k : ℕ} {c : UnitCounts} {y : Fed} → Leads which main (a + 4 * s .words) k c (fedIn s m) y → k ≤ count - s .words → c .steps ≤ limit - s .counts .steps
       → (i : Bool)
       → restOf which main limit a count s m ≡ restOf which main limit a count (takenWith (y .unit) (y .path2) (y .used) (s .words + k) (plusUnits (s .counts) c) i) (y .memories)
   rest-leads {k} {c} {y} p h l i =
@@ -289,6 +291,10 @@ rest-ends which main limit a count m e i h = sym h ∙ i ∙ rw e
 pub words-few : (main : List ℕ) (a count : ℕ) → wordsInside main a count ≡ true → a + 4 * count ≤ 1048576
 unfolding wordsInside
 words-few main a count h = inside-most main a (4 * count) (and-left _ _ h)
+
+pub words-lie : (main : List ℕ) (a count : ℕ) → wordsInside main a count ≡ true → a + 4 * count ≤ length main
+unfolding wordsInside inside
+words-lie main a count h = leb-true (a + 4 * count) (length main) (and-right (leb (length main) 1048576) _ (and-left _ _ h))
 
 pub takes-ready : (which : VifUnit) (x : Fed) → takesSteps which x ≡ true → FedReady which x
 unfolding takesSteps

@@ -9,4 +9,5 @@ pub mod UnpackLaws
 pub mod SheetLaws
 pub mod FeedLaws
 pub mod BurstLaws
+pub mod CodesLaws
 pub mod Vif0Laws

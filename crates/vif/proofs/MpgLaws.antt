@@ -10,6 +10,7 @@ use lib.ListN.{set, getD, length}
 use lib.Seq.{sets, getD-set-other}
 use lib.Dec.{leb, ltb}
 use Rattle.fields.specs.Fields.{quadword}
+use Rattle.fields.specs.Memory.{wordAt}
 use Rattle.fields.proofs.ChoiceLaws.{if-ind}
 use Rattle.gif.specs.declared.GifPath.the-variants.{Two}
 use Rattle.gif.specs.declared.Path.{Path}
@@ -25,6 +26,7 @@ use Rattle.vif.specs.declared.Waiting.{Waiting}
 use Rattle.vif.specs.declared.Waiting.the-variants.{Nothing, MaskDue, RowDue, ColDue, MpgDue, DirectDue, DirecthlDue, UnpackDue}
 use Rattle.vif.specs.declared.Vif.{Vif}
 use Rattle.vif.specs.Payload.{bytesOf, wordPlace, mpgStored}
+use Rattle.vif.specs.Inner.{storedWords}
 use Rattle.vif.specs.Step.{Left, wordIn, afterGif, giveQuadword, directStep, mpgRefused, mpgStep, unpackStep, codeStep, stepBy, vifStep}
 
 -- a word is four stores
@@ -41,6 +43,30 @@ four-stores code at word =
 pub place-inside : (size a k : ℕ) → 1 ≤ size → wordPlace size a k + 4 ≤ 8 * size
 unfolding wordPlace
 place-inside size a k h = let m = mod-lt (a + k / 2) h in omega arith
+
+-- ---- words one after another
+
+module _ (size address : ℕ) (main : List ℕ) where
+  pub stored-first : (n k a : ℕ) (code : List ℕ) → storedWords size address main (n - 0) (k + 0) (a + 4 * 0) code ≡ storedWords size address main n k a code
+  stored-first n k a code =
+      let e : n - 0 ≡ n = omega arith in
+      let f : k + 0 ≡ k = omega arith in
+      let g : a + 4 * 0 ≡ a = omega arith in
+      rw (e, f, g)
+
+  pub stored-more : (n k j a : ℕ) (code : List ℕ) {at word : ℕ} {code′ : List ℕ} → j < n → at ≡ wordPlace size address (k + j) → word ≡ wordAt main (a + 4 * j)
+      → code′ ≡ sets code at (bytesOf word)
+      → storedWords size address main (n - (j + 1)) (k + (j + 1)) (a + 4 * (j + 1)) code′ ≡ storedWords size address main (n - j) (k + j) (a + 4 * j) code
+  unfolding storedWords
+  stored-more n k j a code h ep ew ec =
+      let e : n - j ≡ suc (n - (j + 1)) = omega arith in
+      let f : k + (j + 1) ≡ k + j + 1 = omega arith in
+      let g : a + 4 * (j + 1) ≡ a + 4 * j + 4 = omega arith in
+      rw (e, f, g, ec, ew, ep)
+
+  pub stored-none : (n j k a : ℕ) (code : List ℕ) → n ≤ j → storedWords size address main (n - j) k a code ≡ code
+  unfolding storedWords
+  stored-none n j k a code h = let e : n - j ≡ 0 = omega arith in rw e
 
 -- stores one after another leave every other place as it was
 sets-outside : (vs l : List ℕ) (at j d : ℕ) → (at ≤ j → j < at + length vs → ⊥) → getD (sets l at vs) j d ≡ getD l j d

@@ -91,6 +91,11 @@ module _ (which : VifUnit) (v : Vif) (h : unitInRange which v ≡ true) where
         due-most = d .2;
       }
 
+  -- words are due
+  pub unpack-some : {f : Format} {u : Unpacking} → v .waiting ≡ UnpackDue f u → 1 ≤ u .due
+  unfolding waitingInRange
+  unpack-some {f} {u} q = unpacking-fits f (v .cl) (v .wl) u (and-right (cycleInRange (v .cl) (v .wl)) _ (waiting-ranged q)) .left
+
   pub unpack-due : {f : Format} {u : Unpacking} → v .waiting ≡ UnpackDue f u → (mem : List ℕ) → length mem ≡ dataWords which
       → UnpackReady (quadwords which) v f u mem
   unfolding waitingInRange acceptable

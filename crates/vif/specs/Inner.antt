@@ -1,29 +1,33 @@
 -- Facts that inner functions require of their input or promise; no promise of a public function cites them.
-use Prim.Native.Nat.{ℕ, _+_, _*_, _-_, _<_, _≤_}
+use Prim.Native.Nat.{ℕ, zero, suc, _+_, _*_, _-_, _<_, _≤_}
 use mathlib.Core.Bool.{Bool, true, false}
 use mathlib.Core.List.{List}
 use mathlib.Core.Path.{_≡_}
 use lib.ListN.{length}
+use lib.Seq.{sets}
 use Rattle.fields.specs.declared.UnitCounts.{UnitCounts}
-use Rattle.fields.specs.Counts.{quadwordsAlone, Counted}
+use Rattle.fields.specs.Counts.{units, quadwordsAlone, Counted}
+use Rattle.fields.specs.Memory.{wordAt}
 use Rattle.gif.specs.declared.Path.{Path}
 use Rattle.gif.specs.declared.QuadwordsResult.{QuadwordsResult}
 use Rattle.gif.specs.Log.{logRefused}
 use Rattle.gif.specs.Range.{pathInRange}
 use Rattle.memories.specs.declared.VifUnit.{VifUnit}
-use Rattle.memories.specs.Units.{dataWords}
+use Rattle.memories.specs.Units.{dataWords, codeBytes}
 use Rattle.memories.specs.Lengths.{Lent, lent, LengthsFit}
 use Rattle.unpack.specs.declared.Format.{Format}
 use Rattle.unpack.specs.declared.Unpacking.{Unpacking}
 use Rattle.unpack.specs.Step.{acceptable}
 use Rattle.vif.specs.declared.Waiting.{Waiting}
-use Rattle.vif.specs.declared.Waiting.the-variants.{DirectDue, DirecthlDue}
+use Rattle.vif.specs.declared.Waiting.the-variants.{Nothing, MaskDue, RowDue, ColDue, MpgDue, DirectDue, DirecthlDue, UnpackDue}
 use Rattle.vif.specs.declared.Vif.{Vif}
 use Rattle.vif.specs.declared.WordsResult.{WordsResult}
 use Rattle.vif.specs.Setters.{withWaiting}
 use Rattle.vif.specs.Codes.{mpgAddresses, mpgAddressMost}
-use Rattle.vif.specs.Payload.{writeRegisters}
+use Rattle.vif.specs.Payload.{bytesOf, wordPlace, writeRegisters}
 use Rattle.vif.specs.Range.{unitInRange}
+use Rattle.vif.specs.Words.{incomingAt}
+use Rattle.vif.specs.Step.{mpgRefused}
 use Rattle.vif.specs.Feeds.{Fed, fed}
 use Rattle.vif.specs.Feed.{FedOn, fedOnBy, stepMore, feedsOf}
 
@@ -52,6 +56,22 @@ pub record MpgReady (size address count due : ℕ) (code : List ℕ) : Type 0 wh
   pub few : count ≤ 256
   pub left : 1 ≤ due
   pub due-most : due ≤ count + count
+
+-- n words of main memory from address a on, stored as those of an MPG from number k on
+unfoldable pub storedWords : ℕ → ℕ → List ℕ → ℕ → ℕ → ℕ → List ℕ → List ℕ
+storedWords size address main zero k a code = code
+storedWords size address main (suc n) k a code =
+    storedWords size address main n (k + 1) (a + 4) (sets code (wordPlace size address k) (bytesOf (wordAt main a)))
+
+-- what their stores need
+pub record StoreFits (size address k a n : ℕ) (main code : List ℕ) : Type 0 where
+  pub some : 1 ≤ size
+  pub most : size ≤ mpgAddresses
+  pub wide : length code ≡ 8 * size
+  pub inside : address ≤ mpgAddressMost
+  pub few : k + n ≤ 512
+  pub lies : a + 4 * n ≤ length main
+  pub near : a + 4 * n ≤ 1048576
 
 -- everything passes the unit's tests
 pub record StepReady (which : VifUnit) (v : Vif) (p : Path) (used : ℕ) (m : Lent) : Type 0 where
@@ -110,6 +130,56 @@ pub record Bursts (which : VifUnit) (main : List ℕ) (limit a count : ℕ) (s :
   pub stays : FedReady which (fedIn s m) → FedReady which (fedIn t m′)
   pub later : s .counts .steps ≤ t .counts .steps
   pub going : Going limit a count t
+
+-- of k steps that took a word each, m of them NOPs
+abbrev pub wordsWith : ℕ → ℕ → UnitCounts
+wordsWith k m = units k 0 k m
+
+-- r of the payload words that are due are taken, but not the last of a code with its interrupt bit
+pub record Some (due : ℕ) (i : Bool) (r : ℕ) : Type 0 where
+  pub most : r ≤ due
+  pub marked : r ≡ due → i ≡ false
+
+-- r words at address a, one or more, are taken at once, by what waits: one of a code, of STMASK, STROW and STCOL, none of DIRECT
+abbrev pub Ahead : Waiting → List ℕ → ℕ → ℕ → Type 0
+Ahead Nothing main a r = (r ≡ 1) × (wordAt main a < 2147483648)
+Ahead (MaskDue i) main a r = (r ≡ 1) × (i ≡ false)
+Ahead (RowDue due i) main a r = (r ≡ 1) × (i ≡ false)
+Ahead (ColDue due i) main a r = (r ≡ 1) × (i ≡ false)
+Ahead (MpgDue x n due i) main a r = Some due i r × (mpgRefused n due (incomingAt main a) ≡ false)
+Ahead (DirectDue due i) main a r = ⊥
+Ahead (DirecthlDue due i) main a r = ⊥
+Ahead (UnpackDue f u) main a r = Some (u .due) (u .interrupt) r
+
+-- the numbers of what waits, where some words are taken at once
+abbrev pub WaitingFits : Waiting → Type 0
+WaitingFits Nothing = _≡_ {A = ℕ} 0 0
+WaitingFits (MaskDue i) = _≡_ {A = ℕ} 0 0
+WaitingFits (RowDue due i) = (1 ≤ due) × (due ≤ 4)
+WaitingFits (ColDue due i) = (1 ≤ due) × (due ≤ 4)
+WaitingFits (MpgDue x n due i) = (1 ≤ due) × (n ≤ 256)
+WaitingFits (DirectDue due i) = _≡_ {A = ℕ} 0 0
+WaitingFits (DirecthlDue due i) = _≡_ {A = ℕ} 0 0
+WaitingFits (UnpackDue f u) = 1 ≤ u .due
+
+-- n words at address a are payload of what waits, in a unit in range
+pub record PayloadReady (which : VifUnit) (v : Vif) (a n : ℕ) (main mem code : List ℕ) : Type 0 where
+  pub ranged : unitInRange which v ≡ true
+  pub long : length mem ≡ dataWords which
+  pub wide : length code ≡ codeBytes which
+  pub busy : v .waiting ≡ Nothing → ⊥
+  pub ahead : Ahead (v .waiting) main a n
+  pub near : a + 4 * n ≤ 1048576
+  pub lies : a + 4 * n ≤ length main
+
+-- from s to t by steps of which none completes a code with its interrupt bit
+pub record Takes (which : VifUnit) (main : List ℕ) (limit a count : ℕ) (s : WordsResult) (m : Lent) (t : WordsResult) (m′ : Lent) : Type 0 where
+  pub same : restOf which main limit a count s m ≡ restOf which main limit a count t m′
+  pub ready : FedReady which (fedIn t m′)
+  pub later : s .counts .steps ≤ t .counts .steps
+  pub counted : Counted (t .counts)
+  pub quiet : t .interrupt ≡ false
+  pub idle : t .counts .steps ≡ s .counts .steps → Going limit a count t
 
 -- a step more, from s to t; one that is refused changes nothing
 pub record Gives (which : VifUnit) (main : List ℕ) (a : ℕ) (s : WordsResult) (m : Lent) (t : WordsResult) (m′ : Lent) : Type 0 where

@@ -4,6 +4,7 @@ use super::VifAnswer;
 use super::WordsResult;
 use super::bursts::burst;
 use super::bursts::taken;
+use super::codes::take_codes;
 use super::counting::counts_in;
 use super::step::in_range;
 use super::step::step;
@@ -18,6 +19,7 @@ use memories::lengths_refusal;
 ghost use mathlib.Core.Path.{_≡_};
 ghost use mathlib.Core.Bool.{false};
 ghost use Prim.Native.Nat.{_+_, _*_, _^_, _<_, _≤_};
+ghost use lib.ListN.{length};
 ghost use Rattle.fields.specs.Counts.{noUnits, plusUnits, Counted};
 ghost use Rattle.memories.specs.Lengths.{lent};
 ghost use Rattle.vif.specs.Feeds.{fed};
@@ -85,7 +87,7 @@ fn give_words(
     log: &mut [u64],
     used: u64,
 ) -> WordsResult
-    requires { ⌜ StepReady which unit path2 used (lent (now «data») (now code) (now log)) × (a + 4 * count ≤ 1048576) ⌝ }
+    requires { ⌜ StepReady which unit path2 used (lent (now «data») (now code) (now log)) × (a + 4 * count ≤ 1048576) × (a + 4 * count ≤ length (now main)) ⌝ }
     ensures { λ r. ⌜ fedOnBy r (lent (now («data» .exit)) (now (code .exit)) (now (log .exit)))
         ≡ feedsOf which (now (main .entry)) limit a count
         (fed unit path2 used (lent (now («data» .entry)) (now (code .entry)) (now (log .entry)))) ⌝ }
@@ -98,7 +100,12 @@ fn give_words(
         if s.words >= count {
             return s;
         }
-        s = burst(which, s, main, a, count, limit, data, code, log);
+        let start = s.counts.steps;
+        s = take_codes(which, s, main, a, count, limit, data, code, log);
+        if s.counts.steps != start {
+            continue;
+        }
+        s = burst(which, s, main, a, count, limit, log);
         let before = s.counts.steps;
         s = give_word(which, s, main, a, data, code, log);
         if s.interrupt {

@@ -1,5 +1,6 @@
 // A VIF unit: codes, registers, payload, and DIRECT into the GIF's path 2. What each function means is said by the definitions of specs/.
 mod bursts;
+mod codes;
 mod counting;
 mod decode;
 mod direct;

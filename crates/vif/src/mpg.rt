@@ -1,5 +1,6 @@
 // MPG: words stored to code memory.
 use super::Incoming;
+use fields::word_at;
 ghost use mathlib.Core.Path.{_≡_};
 ghost use Prim.Native.Nat.{_+_, _*_, _%_, _≤_};
 ghost use lib.ListN.{length};
@@ -7,7 +8,7 @@ ghost use lib.Seq.{sets};
 ghost use Rattle.vif.specs.Payload.{bytesOf, wordPlace, mpgStored};
 ghost use Rattle.vif.specs.Codes.{mpgAddresses, mpgAddressMost};
 ghost use Rattle.vif.specs.Step.{oddWord, mpgRefused};
-ghost use Rattle.vif.specs.Inner.{MpgReady};
+ghost use Rattle.vif.specs.Inner.{MpgReady, storedWords, StoreFits};
 
 fn odd_word(next: Incoming) -> bool
     ensures { λ r. ⌜ r ≡ oddWord next ⌝ }
@@ -64,4 +65,25 @@ pub(crate) fn store_mpg(size: u32, address: u32, count: u32, due: u32, word: u32
 {
     let at = word_place(size, address, count + count - due);
     store_word(code, at as usize, word);
+}
+
+// n words of main memory from an address on, as those of an MPG from number `first` on.
+pub(crate) fn store_words(
+    size: u32,
+    address: u32,
+    first: u32,
+    main: &[u8],
+    a: u32,
+    n: u32,
+    code: &mut [u8],
+)
+    requires { ⌜ StoreFits size address first a n (now main) (now code) ⌝ }
+    ensures { λ _. ⌜ now (code .exit) ≡ storedWords size address (now (main .entry)) n first a (now (code .entry)) ⌝ }
+{
+    let mut k: u32 = 0;
+    while k < n {
+        let at = word_place(size, address, first + k);
+        store_word(code, at as usize, word_at(main, a + 4 * k));
+        k += 1;
+    }
 }

@@ -1,5 +1,6 @@
 use mathlib.Core.Path.{_≡_, refl, sym, _∙_}
 use mathlib.Core.Bool.{false}
+use mathlib.Core.List.{[]}
 use Prim.Native.Nat.{_-_}
 use native.Mathlib.Omega.{arith}
 use borrow.Author.Needs.{needs}
@@ -47,67 +48,101 @@ out-of-words c =
     let turn = c .before .before .before .before in
     rest-ends _ _ _ _ _ _ (turn .before .nothing-taken .ensures) (turn .loop .inv .same) (rest-used _ _ _ _ _ _ _ (turn .loop .inv .quiet) (c .if2 .taken))
 
-burst-requires : tie.Need-burst-requires Inv-loop μ-loop
-burst-requires c κs =
+take-codes-requires : tie.Need-take-codes-requires Inv-loop μ-loop
+take-codes-requires c κs =
     let tested = c .before .before .before in
     let turn = tested .before .before .before .before in
-    let q = turn .loop .inv in (
-      q .ready .ranged,
-      q .ready .fit .long,
-      q .ready .fit .wide,
-      record { near = turn .before .before .before .before .before .before .pre .1; few-words = tested .if2 .left; few-steps = tested .before .before .if1 .left; counted = q .counted; quiet = q .quiet },
+    let q = turn .loop .inv in
+    let start = turn .before .before .before .before .before .before in (
+      q .ready,
+      record { near = start .pre .1; few-words = tested .if2 .left; few-steps = tested .before .before .if1 .left; counted = q .counted; quiet = q .quiet },
+      start .pre .2,
     )
+
+burst-requires : tie.Need-burst-requires Inv-loop μ-loop
+burst-requires c κs =
+    let idle = c .before in
+    let u = idle .before .before .before .before .before .before .before .before .take-codes .ensures in
+    (u .ready .ranged, u .idle (idle .if3 .left))
 
 give-word-requires : tie.Need-give-word-requires Inv-loop μ-loop
 give-word-requires c κs =
-    let burst = c .before .before .before .before .before .before .before .before .before in
-    let turn = burst .before .before .before .before .before .before .before .before in
-    let u = burst .burst .ensures in
+    let burst = c .before .before .before .before .before in
+    let codes = burst .before .before .before .before .before .before .before .before .before .before in
+    let u = burst .burst .ensures _ _ in
     let g = u .going in
-    let l = turn .before .before .before .before .before .before .fits .limit in
-    (u .stays (turn .loop .inv .ready), omega arith, omega arith, g .counted)
+    let l = codes .before .before .before .before .before .before .before .before .before .before .before .before .before .before .fits .limit in
+    (u .stays (codes .take-codes .ensures .ready), omega arith, omega arith, g .counted)
 
 interrupted : tie.Need-returns-3 Inv-loop μ-loop
 interrupted c =
     let gave = c .before .before .before .before .before .before .before in
-    let burst = gave .before .before .before .before .before .before .before .before .before .before in
-    let turn = burst .before .before .before .before .before .before .before .before in
-    let u = burst .burst .ensures in
-    rest-ends _ _ _ _ _ _ (turn .before .nothing-taken .ensures) (turn .loop .inv .same) (u .same ∙ gave .give-word .ensures .stops _ _ (u .going) (c .if3 .taken))
+    let burst = gave .before .before .before .before .before .before in
+    let codes = burst .before .before .before .before .before .before .before .before .before .before in
+    let turn = codes .before .before .before .before .before .before .before .before in
+    let u = burst .burst .ensures _ _ in
+    rest-ends _ _ _ _ _ _ (turn .before .nothing-taken .ensures) (turn .loop .inv .same) (codes .take-codes .ensures .same ∙ u .same ∙ gave .give-word .ensures .stops _ _ (u .going) (c .if4 .taken))
 
 refused : tie.Need-returns-4 Inv-loop μ-loop
 refused c =
     let gave = c .before .before .before .before .before .before .before .before .before in
-    let burst = gave .before .before .before .before .before .before .before .before .before .before in
-    let turn = burst .before .before .before .before .before .before .before .before in
-    let u = burst .burst .ensures in
-    rest-ends _ _ _ _ _ _ (turn .before .nothing-taken .ensures) (turn .loop .inv .same) (u .same ∙ gave .give-word .ensures .refuses _ _ (u .going) (c .if4 .taken))
+    let burst = gave .before .before .before .before .before .before in
+    let codes = burst .before .before .before .before .before .before .before .before .before .before in
+    let turn = codes .before .before .before .before .before .before .before .before in
+    let u = burst .burst .ensures _ _ in
+    rest-ends _ _ _ _ _ _ (turn .before .nothing-taken .ensures) (turn .loop .inv .same) (codes .take-codes .ensures .same ∙ u .same ∙ gave .give-word .ensures .refuses _ _ (u .going) (c .if5 .taken))
 
-loop-less : tie.Need-loop-less Inv-loop μ-loop
-loop-less c =
-    let gave = c .before .before .before .before .before .before .before .before .before in
-    let burst = gave .before .before .before .before .before .before .before .before .before .before in
-    let turn = burst .before .before .before .before .before .before in
-    let u = burst .burst .ensures in
-    let g = gave .give-word .ensures in
-    let l = turn .if1 .left in
-    let z = c .if4 .left in
+codes-less : tie.Need-loop-less Inv-loop μ-loop
+codes-less c =
+    let codes = c .before .before .before .before .before .before .before .before in
+    let tested = codes .before .before .before .before .before .before in
+    let u = codes .take-codes .ensures in
+    let z = c .if3 .taken in
+    let l = tested .if1 .left in
+    let k = u .later in
     omega arith
 
-loop-again : tie.Need-loop-again Inv-loop μ-loop
+codes-again : tie.Need-loop-again Inv-loop μ-loop
+codes-again c =
+    let codes = c .before .before .before .before .before .before .before .before in
+    let turn = codes .before .before .before .before .before .before .before .before in
+    let u = codes .take-codes .ensures in
+    record {
+      ready = u .ready;
+      lengths = (codes .take-codes .kept .1 .1 .1 .1 .1 .1 .0 ∙ turn .loop .inv .lengths .0, codes .take-codes .kept .1 .1 .1 .1 .1 .1 .1 .0 ∙ turn .loop .inv .lengths .1, codes .take-codes .kept .1 .1 .1 .1 .1 .1 .1 .1 .0 ∙ turn .loop .inv .lengths .2);
+      quiet = u .quiet;
+      counted = u .counted;
+      same = sym (u .same) ∙ turn .loop .inv .same;
+    }
+
+loop-less : tie.Need-loop-less-2 Inv-loop μ-loop
+loop-less c =
+    let gave = c .before .before .before .before .before .before .before .before .before in
+    let burst = gave .before .before .before .before .before .before in
+    let codes = burst .before .before .before .before .before .before .before .before .before .before in
+    let tested = codes .before .before .before .before .before .before in
+    let u = burst .burst .ensures [] [] in
+    let v = codes .take-codes .ensures .later in
+    let g = gave .give-word .ensures in
+    let l = tested .if1 .left in
+    let z = c .if5 .left in
+    omega arith
+
+loop-again : tie.Need-loop-again-2 Inv-loop μ-loop
 loop-again c =
     let gave = c .before .before .before .before .before .before .before .before .before in
-    let burst = gave .before .before .before .before .before .before .before .before .before .before in
-    let turn = burst .before .before .before .before .before .before .before .before in
-    let u = burst .burst .ensures in
+    let burst = gave .before .before .before .before .before .before in
+    let codes = burst .before .before .before .before .before .before .before .before .before .before in
+    let turn = codes .before .before .before .before .before .before .before .before in
+    let u = burst .burst .ensures _ _ in
     let g = gave .give-word .ensures in
-    let quiet = c .before .before .if3 .left in
+    let quiet = c .before .before .if4 .left in
     record {
       ready = g .ready;
-      lengths = (gave .give-word .kept .1 .1 .1 .1 .0 ∙ burst .burst .kept .1 .1 .1 .1 .1 .1 .0 ∙ turn .loop .inv .lengths .0, gave .give-word .kept .1 .1 .1 .1 .1 .0 ∙ burst .burst .kept .1 .1 .1 .1 .1 .1 .1 .0 ∙ turn .loop .inv .lengths .1, gave .give-word .kept .1 .1 .1 .1 .1 .1 .0 ∙ burst .burst .kept .1 .1 .1 .1 .1 .1 .1 .1 .0 ∙ turn .loop .inv .lengths .2);
+      lengths = (gave .give-word .kept .1 .1 .1 .1 .0 ∙ codes .take-codes .kept .1 .1 .1 .1 .1 .1 .0 ∙ turn .loop .inv .lengths .0, gave .give-word .kept .1 .1 .1 .1 .1 .0 ∙ codes .take-codes .kept .1 .1 .1 .1 .1 .1 .1 .0 ∙ turn .loop .inv .lengths .1, gave .give-word .kept .1 .1 .1 .1 .1 .1 .0 ∙ burst .burst .kept .1 .1 .1 .1 .1 .1 .0 ∙ codes .take-codes .kept .1 .1 .1 .1 .1 .1 .1 .1 .0 ∙ turn .loop .inv .lengths .2);
       quiet = quiet;
       counted = g .counted;
-      same = sym (u .same ∙ g .goes _ _ (u .going) quiet) ∙ turn .loop .inv .same;
+      same = sym (codes .take-codes .ensures .same ∙ u .same ∙ g .goes _ _ (u .going) quiet) ∙ turn .loop .inv .same;
     }
 
 pub give-words-spec : {M : Type 1} → statement M
@@ -126,39 +161,48 @@ give-words-spec =
     (λ c. c .before .before .before .before .loop .inv .lengths .1)
     (λ c. c .before .before .before .before .loop .inv .lengths .2)
     out-of-words
+    take-codes-requires
+    codes-less
+    codes-again
     burst-requires
     give-word-requires
     (λ c.
     let gave = c .before .before .before .before .before .before .before in
-    let burst = gave .before .before .before .before .before .before .before .before .before .before in
-    let turn = burst .before .before .before .before .before .before .before .before in
-    gave .give-word .kept .1 .1 .1 .1 .0 ∙ burst .burst .kept .1 .1 .1 .1 .1 .1 .0 ∙ turn .loop .inv .lengths .0)
+    let burst = gave .before .before .before .before .before .before in
+    let codes = burst .before .before .before .before .before .before .before .before .before .before in
+    let turn = codes .before .before .before .before .before .before .before .before in
+    gave .give-word .kept .1 .1 .1 .1 .0 ∙ codes .take-codes .kept .1 .1 .1 .1 .1 .1 .0 ∙ turn .loop .inv .lengths .0)
     (λ c.
     let gave = c .before .before .before .before .before .before .before in
-    let burst = gave .before .before .before .before .before .before .before .before .before .before in
-    let turn = burst .before .before .before .before .before .before .before .before in
-    gave .give-word .kept .1 .1 .1 .1 .1 .0 ∙ burst .burst .kept .1 .1 .1 .1 .1 .1 .1 .0 ∙ turn .loop .inv .lengths .1)
+    let burst = gave .before .before .before .before .before .before in
+    let codes = burst .before .before .before .before .before .before .before .before .before .before in
+    let turn = codes .before .before .before .before .before .before .before .before in
+    gave .give-word .kept .1 .1 .1 .1 .1 .0 ∙ codes .take-codes .kept .1 .1 .1 .1 .1 .1 .1 .0 ∙ turn .loop .inv .lengths .1)
     (λ c.
     let gave = c .before .before .before .before .before .before .before in
-    let burst = gave .before .before .before .before .before .before .before .before .before .before in
-    let turn = burst .before .before .before .before .before .before .before .before in
-    gave .give-word .kept .1 .1 .1 .1 .1 .1 .0 ∙ burst .burst .kept .1 .1 .1 .1 .1 .1 .1 .1 .0 ∙ turn .loop .inv .lengths .2)
+    let burst = gave .before .before .before .before .before .before in
+    let codes = burst .before .before .before .before .before .before .before .before .before .before in
+    let turn = codes .before .before .before .before .before .before .before .before in
+    gave .give-word .kept .1 .1 .1 .1 .1 .1 .0 ∙ burst .burst .kept .1 .1 .1 .1 .1 .1 .0 ∙ codes .take-codes .kept .1 .1 .1 .1 .1 .1 .1 .1 .0 ∙ turn .loop .inv .lengths .2)
     interrupted
     (λ c.
     let gave = c .before .before .before .before .before .before .before .before .before in
-    let burst = gave .before .before .before .before .before .before .before .before .before .before in
-    let turn = burst .before .before .before .before .before .before .before .before in
-    gave .give-word .kept .1 .1 .1 .1 .0 ∙ burst .burst .kept .1 .1 .1 .1 .1 .1 .0 ∙ turn .loop .inv .lengths .0)
+    let burst = gave .before .before .before .before .before .before in
+    let codes = burst .before .before .before .before .before .before .before .before .before .before in
+    let turn = codes .before .before .before .before .before .before .before .before in
+    gave .give-word .kept .1 .1 .1 .1 .0 ∙ codes .take-codes .kept .1 .1 .1 .1 .1 .1 .0 ∙ turn .loop .inv .lengths .0)
     (λ c.
     let gave = c .before .before .before .before .before .before .before .before .before in
-    let burst = gave .before .before .before .before .before .before .before .before .before .before in
-    let turn = burst .before .before .before .before .before .before .before .before in
-    gave .give-word .kept .1 .1 .1 .1 .1 .0 ∙ burst .burst .kept .1 .1 .1 .1 .1 .1 .1 .0 ∙ turn .loop .inv .lengths .1)
+    let burst = gave .before .before .before .before .before .before in
+    let codes = burst .before .before .before .before .before .before .before .before .before .before in
+    let turn = codes .before .before .before .before .before .before .before .before in
+    gave .give-word .kept .1 .1 .1 .1 .1 .0 ∙ codes .take-codes .kept .1 .1 .1 .1 .1 .1 .1 .0 ∙ turn .loop .inv .lengths .1)
     (λ c.
     let gave = c .before .before .before .before .before .before .before .before .before in
-    let burst = gave .before .before .before .before .before .before .before .before .before .before in
-    let turn = burst .before .before .before .before .before .before .before .before in
-    gave .give-word .kept .1 .1 .1 .1 .1 .1 .0 ∙ burst .burst .kept .1 .1 .1 .1 .1 .1 .1 .1 .0 ∙ turn .loop .inv .lengths .2)
+    let burst = gave .before .before .before .before .before .before in
+    let codes = burst .before .before .before .before .before .before .before .before .before .before in
+    let turn = codes .before .before .before .before .before .before .before .before in
+    gave .give-word .kept .1 .1 .1 .1 .1 .1 .0 ∙ burst .burst .kept .1 .1 .1 .1 .1 .1 .0 ∙ codes .take-codes .kept .1 .1 .1 .1 .1 .1 .1 .1 .0 ∙ turn .loop .inv .lengths .2)
     refused
     loop-less
     loop-again)

@@ -2,7 +2,7 @@ use mathlib.Core.Path.{sym, _∙_}
 use borrow.Author.Needs.{needs}
 use Rattle.fields.specs.Fields.{if}
 use Rattle.vif.specs.Feed.{feedOf}
-use Rattle.vif.proofs.FeedLaws.{words-few, takes-ready}
+use Rattle.vif.proofs.FeedLaws.{words-few, words-lie, takes-ready}
 use Rattle.vif.proofs.feed.take_words.Statement.{statement}
 use Rattle.vif.proofs.feed.take_words.Tie as tie
 
@@ -10,7 +10,7 @@ give-words-requires : tie.Need-give-words-requires
 give-words-requires c κs =
     let tested = c .before .before .before in
     let inside = tested .before .before .before .before .before in
-    (takes-ready _ _ (sym (tested .before .takes-steps .ensures) ∙ tested .if2 .taken), words-few _ _ _ (sym (inside .before .words-inside .ensures) ∙ inside .if1 .taken))
+    (takes-ready _ _ (sym (tested .before .takes-steps .ensures) ∙ tested .if2 .taken), words-few _ _ _ (sym (inside .before .words-inside .ensures) ∙ inside .if1 .taken), words-lie _ _ _ (sym (inside .before .words-inside .ensures) ∙ inside .if1 .taken))
 
 given : tie.Need-returns
 unfolding feedOf if

@@ -1,8 +1,8 @@
 use native.Mathlib.Omega.{arith}
 use borrow.Author.Needs.{needs}
-use Rattle.vif.proofs.BurstLaws.{unpack-leads}
-use Rattle.vif.proofs.bursts.unpack_words.Statement.{statement}
-use Rattle.vif.proofs.bursts.unpack_words.Tie as tie
+use Rattle.vif.proofs.CodesLaws.{unpack-leads}
+use Rattle.vif.proofs.codes.unpack_words.Statement.{statement}
+use Rattle.vif.proofs.codes.unpack_words.Tie as tie
 
 returns : tie.Need-returns
 returns c =
