@@ -3,7 +3,7 @@ use Prim.Native.Nat.{ℕ, zero, suc, _+_, _*_, _-_, _<_, _≤_}
 use mathlib.Core.Bool.{Bool, true, false}
 use mathlib.Core.List.{List}
 use mathlib.Core.Path.{_≡_}
-use lib.ListN.{length}
+use lib.ListN.{length, getD, set}
 use lib.Seq.{sets}
 use Rattle.fields.specs.declared.UnitCounts.{UnitCounts}
 use Rattle.fields.specs.Counts.{units, quadwordsAlone, Counted}
@@ -62,6 +62,11 @@ unfoldable pub storedWords : ℕ → ℕ → List ℕ → ℕ → ℕ → ℕ �
 storedWords size address main zero k a code = code
 storedWords size address main (suc n) k a code =
     storedWords size address main n (k + 1) (a + 4) (sets code (wordPlace size address k) (bytesOf (wordAt main a)))
+
+-- n bytes from address a on, stored one after another
+unfoldable pub copyBytes : List ℕ → ℕ → ℕ → ℕ → List ℕ → List ℕ
+copyBytes main zero a to code = code
+copyBytes main (suc n) a to code = copyBytes main n (a + 1) (to + 1) (set code to (getD main a 0))
 
 -- what their stores need
 pub record StoreFits (size address k a n : ℕ) (main code : List ℕ) : Type 0 where

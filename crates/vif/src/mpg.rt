@@ -1,14 +1,13 @@
 // MPG: words stored to code memory.
 use super::Incoming;
-use fields::word_at;
 ghost use mathlib.Core.Path.{_≡_};
-ghost use Prim.Native.Nat.{_+_, _*_, _%_, _≤_};
+ghost use Prim.Native.Nat.{_+_, _*_, _%_, _≤_, min};
 ghost use lib.ListN.{length};
 ghost use lib.Seq.{sets};
 ghost use Rattle.vif.specs.Payload.{bytesOf, wordPlace, mpgStored};
 ghost use Rattle.vif.specs.Codes.{mpgAddresses, mpgAddressMost};
 ghost use Rattle.vif.specs.Step.{oddWord, mpgRefused};
-ghost use Rattle.vif.specs.Inner.{MpgReady, storedWords, StoreFits};
+ghost use Rattle.vif.specs.Inner.{MpgReady, storedWords, copyBytes, StoreFits};
 
 fn odd_word(next: Incoming) -> bool
     ensures { λ r. ⌜ r ≡ oddWord next ⌝ }
@@ -67,7 +66,26 @@ pub(crate) fn store_mpg(size: u32, address: u32, count: u32, due: u32, word: u32
     store_word(code, at as usize, word);
 }
 
-// n words of main memory from an address on, as those of an MPG from number `first` on.
+// n bytes from an address on, one after another.
+fn copy_bytes(main: &[u8], a: usize, n: usize, code: &mut [u8], to: usize)
+    requires { ⌜ (a + n ≤ length (now main)) × (to + n ≤ length (now code)) ⌝ }
+    ensures { λ _. ⌜ now (code .exit) ≡ copyBytes (now (main .entry)) n a to (now (code .entry)) ⌝ }
+{
+    let mut j: usize = 0;
+    while j < n {
+        code[to + j] = main[a + j];
+        j += 1;
+    }
+}
+
+// The smaller of two numbers.
+fn smaller(a: u32, b: u32) -> u32
+    ensures { λ r. ⌜ r ≡ min a b ⌝ }
+{
+    if a < b { a } else { b }
+}
+
+// n words of main memory from an address on, as those of an MPG from number `first` on: up to the wrap and on from it.
 pub(crate) fn store_words(
     size: u32,
     address: u32,
@@ -83,7 +101,9 @@ pub(crate) fn store_words(
     let mut k: u32 = 0;
     while k < n {
         let at = word_place(size, address, first + k);
-        store_word(code, at as usize, word_at(main, a + 4 * k));
-        k += 1;
+        let run = smaller(n - k, 2 * size - at / 4);
+        let from = a + 4 * k;
+        copy_bytes(main, from as usize, 4 * run as usize, code, at as usize);
+        k += run;
     }
 }

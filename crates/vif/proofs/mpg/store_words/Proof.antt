@@ -4,7 +4,7 @@ use native.Mathlib.Omega.{arith}
 use borrow.Author.Needs.{needs}
 use lib.ListN.{length}
 use Rattle.vif.specs.Inner.{storedWords}
-use Rattle.vif.proofs.MpgLaws.{stored-first, stored-more, stored-none}
+use Rattle.vif.proofs.MpgLaws.{place-word, run-fits, run-stored, stored-first, stored-none}
 use Rattle.vif.proofs.mpg.store_words.Statement.{statement}
 use Rattle.vif.proofs.mpg.store_words.Tie as tie
 
@@ -25,24 +25,46 @@ word-place-requires c κs =
     let f = h .few in
     (h .some, h .most, h .inside, omega arith)
 
-store-word-requires : tie.Need-store-word-requires Inv-loop μ-loop
-store-word-requires c κs =
-    let placed = c .before .before in
+copy-bytes-requires : tie.Need-copy-bytes-requires Inv-loop μ-loop
+copy-bytes-requires c κs =
+    let ran = c .before in
+    let placed = ran .before in
     let turn = placed .before .before in
     let h = turn .before .before .before .pre in
-    let s = turn .loop .inv .sizes in
+    let p = placed .word-place .ensures in
+    let r = run-fits {size = turn .before .before .before .args .size} (rw (p .0) (place-word _ _ _)) (p .1) (omega arith) (ran .smaller .ensures) in
     let w = h .wide in
-    omega (arith, placed .word-place .ensures .1)
+    let s = turn .loop .inv .sizes in
+    let l = h .lies in
+    let m = r .most in
+    let f = r .fits in
+    (omega arith, omega arith)
+
+loop-less : tie.Need-loop-less Inv-loop μ-loop
+loop-less c =
+    let ran = c .before .before .before .before in
+    let placed = ran .before in
+    let turn = placed .before .before in
+    let p = placed .word-place .ensures in
+    let r = run-fits {size = turn .before .before .before .args .size} (rw (p .0) (place-word _ _ _)) (p .1) (omega arith) (ran .smaller .ensures) in
+    let o = r .some in
+    let m = r .most in
+    omega arith
 
 loop-again : tie.Need-loop-again Inv-loop μ-loop
 loop-again c =
-    let stored = c .before .before in
-    let placed = stored .before .before .before in
+    let copied = c .before .before in
+    let ran = copied .before .before in
+    let placed = ran .before in
     let turn = placed .before .before in
+    let start = turn .before .before .before in
+    let p = placed .word-place .ensures in
+    let r = run-fits {size = start .args .size} (rw (p .0) (place-word _ _ _)) (p .1) (omega arith) (ran .smaller .ensures) in
+    let m = r .most in
     record {
-      sizes = stored .store-word .kept .0 ∙ turn .loop .inv .sizes;
+      sizes = copied .copy-bytes .kept .1 .1 .1 .0 ∙ turn .loop .inv .sizes;
       few = omega arith;
-      same = stored-more _ _ _ _ _ _ _ _ (placed .before .loop-test .taken) (placed .word-place .ensures .0) (stored .before .word-at .ensures) (stored .store-word .ensures) ∙ turn .loop .inv .same;
+      same = run-stored _ _ _ (λ j. let y = turn .before .before .shared-slice-known .given j in omega arith) (start .pre .some) _ _ _ _ _ _ (p .0) m (r .fits) (copied .copy-bytes .ensures) ∙ turn .loop .inv .same;
     }
 
 pub store-words-spec : {M : Type 1} → statement M
@@ -55,12 +77,18 @@ store-words-spec =
     (λ c. let h = c .before .before .before .before .pre in omega (arith, h .few))
     word-place-requires
     (λ c. search needs)
-    (λ c. let h = c .before .before .before .before .before .before .pre in omega (arith, h .near))
-    (λ c. let h = c .before .before .before .before .before .before .pre in omega (arith, h .near))
+    (λ c. let h = c .before .before .before .before .before .pre in omega (arith, h .most))
+    (λ c. let p = c .word-place .ensures in omega (arith, p .1))
     (λ c κs. search needs)
-    store-word-requires
+    (λ c. let h = c .before .before .before .before .before .before .pre in omega (arith, h .near))
+    (λ c. let h = c .before .before .before .before .before .before .pre in omega (arith, h .near))
     (λ c. search needs)
     (λ c. search needs)
+    (λ c. search needs)
+    (λ c. search needs)
+    copy-bytes-requires
+    (λ c. search needs)
+    loop-less
     loop-again
     (λ c. c .before .loop .inv .sizes)
     (λ c. sym (stored-none _ _ _ _ _ _ _ _ (c .loop-test .left)) ∙ c .before .loop .inv .same))
