@@ -24,7 +24,7 @@ use Rattle.gif.specs.Log.{entrySize, logRefused, LogFits}
 use Rattle.gif.specs.Range.{pathInRange, PlaceFits}
 use Rattle.gif.specs.Step.{Left, left, refused, gifStep}
 use Rattle.gif.specs.Feed.{Fed, fed, oneMore, afterQuadword, onQuadword, feedsOf, feedRefusal, feedOf}
-use Rattle.gif.specs.Inner.{plus, Leads}
+use Rattle.gif.specs.Inner.{plus, Leads, QuadwordsInside}
 use Rattle.gif.proofs.LogLaws.{logged-length}
 use Rattle.gif.proofs.RangeLaws.{log-fits}
 use Rattle.gif.proofs.StepLaws.{step-wrote, step-ranged}
@@ -63,6 +63,13 @@ leads-none {which} {main} {a} {used} {p} {log} =
       goes = λ c. rw (zero-add c, add-zero a, zero-add (feedsOf which main a c p used log .taken), zero-add (feedsOf which main a c p used log .packets));
       stays = λ f. f;
     }
+
+-- none of them leave the log as it is
+pub leads-still : {which : GifPath} {main : List ℕ} {a n c used used′ : ℕ} {p p′ : Path} {log log′ : List ℕ} → Leads which main a n c p used log p′ used′ log′ → n ≡ 0 → log′ ≡ log
+leads-still {which} {main} {a} {n} {c} {used} {used′} {p} {p′} {log} {log′} g z =
+    let none = feeds-none which main (a + 16 * n) p′ used′ log′ 0 refl in
+    let all = feeds-none which main a p used log (n + 0) (omega arith) in
+    ap (λ (x : Fed). x .log) (sym (ap (plus n c) none) ∙ sym (g .goes 0) ∙ all)
 
 -- a quadword that is taken
 pub leads-one : {which : GifPath} {main : List ℕ} {a used : ℕ} {p : Path} {log : List ℕ} {o : Left} {k : Bool} → o ≡ gifStep which p (quadwordAt main a) used log
@@ -132,22 +139,24 @@ next-log-fits which p quad used log {r} e f n =
 
 -- ---- the tests of the public function
 
-pub inside-most : (main : List ℕ) (a n : ℕ) → inside main a n ≡ true → a + n ≤ 1048576
+inside-facts : (main : List ℕ) (a n : ℕ) → inside main a n ≡ true → (length main ≤ 1048576) × (a + n ≤ length main)
 unfolding inside
-inside-most main a n h =
-    let l = leb-true (length main) 1048576 (and-left _ _ h) in
-    let m = leb-true (a + n) (length main) (and-right (leb (length main) 1048576) _ h) in
-    omega arith
+inside-facts main a n h =
+    (leb-true (length main) 1048576 (and-left _ _ h), leb-true (a + n) (length main) (and-right (leb (length main) 1048576) _ h))
+
+pub inside-most : (main : List ℕ) (a n : ℕ) → inside main a n ≡ true → a + n ≤ 1048576
+inside-most main a n h = let i = inside-facts main a n h in omega arith
 
 -- by the outcome of the tests
 module _ (main : List ℕ) (a n : ℕ) (p : Path) (used : ℕ) (log : List ℕ) {r : ℕ} (t : r ≡ feedRefusal main a n p used log) where
-  pub fed-fits : r ≡ 0 → (a + 16 * n ≤ 1048576) × (LogFits log used × PlaceFits (p .place))
+  pub fed-fits : r ≡ 0 → QuadwordsInside main a n × (PlaceFits (p .place) × LogFits log used)
   unfolding feedRefusal
   fed-fits z =
       let l = if-zero (logRefused log used) logLength (omega arith) (sym t ∙ z) in
       let g = if-zero (not (pathInRange p)) outOfRange (omega arith) (l .1) in
       let i = if-zero (not (inside main a (16 * n))) payloadOutside (omega arith) (g .1) in
-      (inside-most main a (16 * n) (not-false _ (i .0)), (log-fits log used (l .0), record { held = not-false _ (g .0) }))
+      let x = inside-facts main a (16 * n) (not-false _ (i .0)) in
+      (record { most = x .0; inner = x .1 }, (record { held = not-false _ (g .0) }, log-fits log used (l .0)))
 
   pub fed-tested : (which : GifPath) → r ≡ 0 → {x : Fed} → x ≡ feedsOf which main a n p used log → x ≡ feedOf which main a n p used log
   unfolding feedOf if

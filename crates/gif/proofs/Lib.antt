@@ -5,5 +5,5 @@ pub mod TagLaws
 pub mod DataLaws
 pub mod StepLaws
 pub mod FeedLaws
-pub mod ImageLaws
+pub mod BurstLaws
 pub mod SheetLaws

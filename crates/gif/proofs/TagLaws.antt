@@ -2,7 +2,7 @@
 use mathlib.Core.Path.{_≡_, refl, sym, ap, _∙_}
 use mathlib.Core.Bool.{Bool, true, false}
 use Prim.Native.Nat.{ℕ, suc, _+_, _*_, _-_, _/_, _%_, _^_, _<_, _≤_}
-use native.Mathlib.Nat.{mul-le-mul, mod-eq-of-lt, mod-lt}
+use native.Mathlib.Nat.{mul-le-mul, mod-eq-of-lt, mod-lt, mod-add-mod}
 use native.Mathlib.Omega.{arith}
 use borrow.Author.Tests.{eqb-false, ne-eqb}
 use lib.Dec.{eqb}
@@ -10,7 +10,7 @@ use Rattle.gif.specs.declared.TagFormat.{TagFormat}
 use Rattle.gif.specs.declared.TagFormat.the-variants.{Packed, Reglist, Image}
 use Rattle.gif.specs.declared.HeldTag.{HeldTag}
 use Rattle.fields.specs.Fields.{if, bits, quadword}
-use Rattle.gif.specs.Tag.{formatOf, nregOf, quadwordsOf, tagOf, takenOf, isPacked}
+use Rattle.gif.specs.Tag.{formatOf, nregOf, quadwordsOf, tagOf, takenOf, descriptorAt, isPacked}
 use Rattle.gif.specs.Range.{TagFits}
 use Rattle.fields.proofs.FieldLaws.{bits-low, bits-first, whole-high}
 
@@ -63,6 +63,9 @@ pub taken-most : (t : HeldTag) → TagFits t → takenOf t ≤ 524272
 unfolding takenOf
 taken-most t f = let m = quadwords-most (t .format) (f .loops) (f .regs) in omega arith
 
+pub due-most : (t : HeldTag) → TagFits t → t .due ≤ 524272
+due-most t f = let m = quadwords-most (t .format) (f .loops) (f .regs) in let d = f .most in omega arith
+
 pub bit-one : (x : ℕ) → (x % 2 ≡ 0 → ⊥) → x % 2 ≡ 1
 bit-one x h = omega arith
 
@@ -73,3 +76,15 @@ not-packed flg h = rw (ne-eqb flg 0 h) (go (eqb flg 1))
     go : (b : Bool) → isPacked (if b Reglist Image) ≡ false
     go true = refl
     go false = refl
+
+-- the nibble of the next item
+pub nibble-next : (n j : ℕ) {i b r : ℕ} → i ≡ j + 1 → b ≡ j % n → r ≡ (b + 1) % n → r ≡ i % n
+nibble-next n j e f g = g ∙ rw (f, mod-add-mod j n 1, e)
+
+-- the descriptor at an item's nibble
+pub nibble-descriptor : (t : HeldTag) (j : ℕ) {b d : ℕ} → b ≡ j % t .nreg → d ≡ t .descriptors / 2 ^ (4 * b) % 16 → d ≡ descriptorAt t j
+unfolding descriptorAt
+nibble-descriptor t j e f = rw (← e) f
+
+pub nibble-fits : (t : HeldTag) → TagFits t → (j : ℕ) {b : ℕ} → b ≡ j % t .nreg → (b < t .nreg) × (t .nreg ≤ 16)
+nibble-fits t f j e = let m = mod-lt j (f .some) in (omega arith, f .regs)

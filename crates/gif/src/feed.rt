@@ -3,18 +3,18 @@ use super::GifAnswer;
 use super::GifPath;
 use super::Path;
 use super::QuadwordsResult;
-use super::image::image_at_once;
-use super::image::image_quadwords;
+use super::burst::data_at_once;
 use super::log::log_refused;
+use super::memory::long_inside;
 use super::range::path_in_range;
 use super::step::step;
 use fields::one_if;
 use fields::refusals;
 ghost use mathlib.Core.Path.{_≡_};
-ghost use Prim.Native.Nat.{_+_, _*_, _≤_};
 ghost use Rattle.gif.specs.Log.{LogFits};
 ghost use Rattle.gif.specs.Range.{PlaceFits};
 ghost use Rattle.gif.specs.Feed.{fedBy, feedsOf, feedRefusal, feedOf, quadwordsResult};
+ghost use Rattle.gif.specs.Inner.{QuadwordsInside};
 
 fn ended(path: Path, used: u64, taken: u32, packets: u64, refusal: u32) -> QuadwordsResult
     ensures { λ r. ⌜ r ≡ quadwordsResult path used taken packets refusal ⌝ }
@@ -38,7 +38,7 @@ fn feed(
     log: &mut [u64],
     used: u64,
 ) -> QuadwordsResult
-    requires { ⌜ (a + 16 * count ≤ 1048576) × (LogFits (now log) used × PlaceFits (path .place)) ⌝ }
+    requires { ⌜ QuadwordsInside (now main) a count × (PlaceFits (path .place) × LogFits (now log) used) ⌝ }
     ensures { λ r. ⌜ fedBy r (now (log .exit)) ≡ feedsOf which (now (main .entry)) a count path used (now (log .entry)) ⌝ }
 {
     let mut p = path;
@@ -46,16 +46,18 @@ fn feed(
     let mut taken: u32 = 0;
     let mut packets: u64 = 0;
     while taken < count {
-        let n = image_at_once(p, count - taken, log, entries);
-        if 0 < n {
-            p = image_quadwords(which, p, main, a + 16 * taken, n, log, entries);
-            entries += 2 * n as u64;
-            taken += n;
+        let b = data_at_once(which, p, main, a + 16 * taken, count - taken, log, entries);
+        if 0 < b.taken {
+            let rest = b.path;
+            p = rest;
+            entries = b.used;
+            taken += b.taken;
+            packets += b.packets;
             continue;
         }
         let at = a + 16 * taken;
-        let low = fields::long_at(main, at);
-        let high = fields::long_at(main, at + 8);
+        let low = long_inside(main, at);
+        let high = long_inside(main, at + 8);
         let r = step(which, p, low, high, log, entries);
         let answer = r.answer;
         let next = r.path;

@@ -1,7 +1,9 @@
 // The GIF: tags and data, one quadword at a time, on one path. What each function means is said by the definitions of specs/.
+mod burst;
 mod feed;
 mod image;
 mod log;
+mod memory;
 mod packed;
 mod range;
 mod reglist;

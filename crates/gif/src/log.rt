@@ -58,7 +58,7 @@ fn entry_by(which: GifPath, w: Write) -> Entry
     }
 }
 
-pub(crate) fn store(log: &mut [u64], used: u64, which: GifPath, writes: Writes)
+fn store(log: &mut [u64], used: u64, which: GifPath, writes: Writes)
     requires { ⌜ HasRoom (now log) used (length (listed writes)) ⌝ }
     ensures { λ _. ⌜ now (log .exit) ≡ logged (now (log .entry)) used (entriesBy which (listed writes)) ⌝ }
 {
@@ -70,6 +70,15 @@ pub(crate) fn store(log: &mut [u64], used: u64, which: GifPath, writes: Writes)
             put(log, used + 1, entry_by(which, x));
         }
     }
+}
+
+// Stores writes after the first `used` entries; hands back the entries used then.
+pub(crate) fn append(log: &mut [u64], used: u64, which: GifPath, writes: Writes) -> u64
+    requires { ⌜ HasRoom (now log) used (length (listed writes)) ⌝ }
+    ensures { λ r. ⌜ (r ≡ used + length (listed writes)) × (now (log .exit) ≡ logged (now (log .entry)) used (entriesBy which (listed writes))) ⌝ }
+{
+    store(log, used, which, writes);
+    used + count(writes)
 }
 
 // The step's writes and its path, all or none; `closed` says whether it closes a packet.
@@ -93,11 +102,11 @@ pub(crate) fn finish(
             used,
         };
     }
-    store(log, used, which, writes);
+    let entries = append(log, used, which, writes);
     GifResult {
         answer: GifAnswer::Taken(closed),
         path: after,
-        used: used + n,
+        used: entries,
     }
 }
 

@@ -72,6 +72,16 @@ pub(crate) fn packed_writes(descriptor: u64, q: u32, low: u64, high: u64) -> Wri
     }
 }
 
+// The same, with descriptor E tried first, the most frequent one.
+pub(crate) fn often_writes(descriptor: u64, q: u32, low: u64, high: u64) -> Writes
+    ensures { λ r. ⌜ listed r ≡ packedWrites descriptor q (quadword low high) ⌝ }
+{
+    if descriptor == 14 {
+        return one(high % 256, low);
+    }
+    packed_writes(descriptor, q, low, high)
+}
+
 pub(crate) fn packed_q(descriptor: u64, q: u32, low: u64, high: u64) -> u32
     ensures { λ r. ⌜ r ≡ packedQ descriptor q (quadword low high) ⌝ }
 {

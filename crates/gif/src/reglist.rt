@@ -2,11 +2,11 @@
 use super::HeldTag;
 use super::Write;
 use super::Writes;
-use super::tag::descriptor_at;
+use super::tag::descriptor_in;
 ghost use mathlib.Core.Path.{_≡_};
 ghost use mathlib.Core.List.{_++_};
 ghost use mathlib.Core.Bool.{_||_};
-ghost use Prim.Native.Nat.{_*_};
+ghost use Prim.Native.Nat.{_*_, _%_};
 ghost use lib.Dec.{eqb, ltb};
 ghost use Rattle.fields.specs.Fields.{if};
 ghost use Rattle.gif.specs.Range.{TagFits};
@@ -50,13 +50,13 @@ pub(crate) fn halves(first: u64, second: u64, low: u64, high: u64) -> Writes
     }
 }
 
-// The descriptor of a quadword's high half; a dropped half has that of no write.
-pub(crate) fn second_descriptor(tag: HeldTag, item: u32) -> u64
-    requires { ⌜ TagFits tag ⌝ }
+// The descriptor of a quadword's high half, by its nibble; a dropped half has that of no write.
+pub(crate) fn second_descriptor(tag: HeldTag, item: u32, nibble: u32) -> u64
+    requires { ⌜ TagFits tag × (nibble ≡ item % tag .nreg) ⌝ }
     ensures { λ r. ⌜ r ≡ if (ltb item (tag .nloop * tag .nreg)) (descriptorAt tag item) 15 ⌝ }
 {
     if item < tag.nloop * tag.nreg {
-        descriptor_at(tag, item)
+        descriptor_in(tag.descriptors, nibble)
     } else {
         15
     }

@@ -102,7 +102,7 @@ fn take_reglist(
 {
     let item = 2 * taken(tag);
     let first = descriptor_at(tag, item);
-    let second = second_descriptor(tag, item + 1);
+    let second = second_descriptor(tag, item + 1, (item + 1) % tag.nreg);
     if first == 11 {
         return refuse(refusals::DESCRIPTOR_B, path, used);
     }

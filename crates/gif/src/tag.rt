@@ -5,11 +5,11 @@ use super::TagFormat;
 use super::Write;
 use super::Writes;
 ghost use mathlib.Core.Path.{_≡_};
-ghost use Prim.Native.Nat.{_≤_};
+ghost use Prim.Native.Nat.{_+_, _*_, _/_, _%_, _^_, _<_, _≤_};
 ghost use Rattle.fields.specs.Fields.{quadword};
 ghost use Rattle.gif.specs.Range.{TagFits};
 ghost use Rattle.gif.specs.Tag.{formatOf, nregOf, quadwordsOf, tagOf, takenOf, descriptorAt, placeAfter, placeAtTag, tagCloses, dataCloses, tagWrites};
-ghost use Rattle.gif.specs.Inner.{listed};
+ghost use Rattle.gif.specs.Inner.{listed, placeAfterMany, manyClose};
 
 fn format_of(flg: u64) -> TagFormat
     ensures { λ r. ⌜ r ≡ formatOf flg ⌝ }
@@ -64,24 +64,47 @@ pub(crate) fn taken(tag: HeldTag) -> u32
     quadwords(format, tag.nloop, tag.nreg) - tag.due
 }
 
+// The descriptor at a nibble.
+pub(crate) fn descriptor_in(descriptors: u64, nibble: u32) -> u64
+    requires { ⌜ nibble < 16 ⌝ }
+    ensures { λ r. ⌜ r ≡ descriptors / 2 ^ (4 * nibble) % 16 ⌝ }
+{
+    (descriptors >> (4 * nibble)) % 16
+}
+
+// The nibble of the next item.
+pub(crate) fn next_nibble(nibble: u32, nreg: u32) -> u32
+    requires { ⌜ (nibble < nreg) × (nreg ≤ 16) ⌝ }
+    ensures { λ r. ⌜ r ≡ (nibble + 1) % nreg ⌝ }
+{
+    if nibble + 1 == nreg { 0 } else { nibble + 1 }
+}
+
 pub(crate) fn descriptor_at(tag: HeldTag, item: u32) -> u64
     requires { ⌜ TagFits tag ⌝ }
     ensures { λ r. ⌜ r ≡ descriptorAt tag item ⌝ }
 {
-    let nibble = 4 * (item % tag.nreg);
-    (tag.descriptors >> nibble) % 16
+    descriptor_in(tag.descriptors, item % tag.nreg)
+}
+
+// The place after n more data quadwords.
+pub(crate) fn place_after_many(tag: HeldTag, n: u32) -> Place
+    requires { ⌜ n ≤ tag .due ⌝ }
+    ensures { λ r. ⌜ r ≡ placeAfterMany tag n ⌝ }
+{
+    if tag.due == n {
+        return Place::Idle;
+    }
+    let mut rest = tag;
+    rest.due = tag.due - n;
+    Place::Data(rest)
 }
 
 pub(crate) fn place_after(tag: HeldTag) -> Place
     requires { ⌜ TagFits tag ⌝ }
     ensures { λ r. ⌜ r ≡ placeAfter tag ⌝ }
 {
-    if tag.due == 1 {
-        return Place::Idle;
-    }
-    let mut rest = tag;
-    rest.due = tag.due - 1;
-    Place::Data(rest)
+    place_after_many(tag, 1)
 }
 
 pub(crate) fn place_at_tag(low: u64, high: u64) -> Place
@@ -104,14 +127,21 @@ pub(crate) fn tag_closes(low: u64, high: u64) -> bool
     false
 }
 
+// Whether the last of a tag's next n data quadwords closes a packet.
+pub(crate) fn many_close(tag: HeldTag, n: u32) -> bool
+    ensures { λ r. ⌜ r ≡ manyClose tag n ⌝ }
+{
+    if tag.eop {
+        return tag.due == n;
+    }
+    false
+}
+
 // Whether a tag's next data quadword closes a packet.
 pub(crate) fn data_closes(tag: HeldTag) -> bool
     ensures { λ r. ⌜ r ≡ dataCloses tag ⌝ }
 {
-    if tag.eop {
-        return tag.due == 1;
-    }
-    false
+    many_close(tag, 1)
 }
 
 // A tag's own write.

@@ -1,4 +1,5 @@
 use Rattle.gif.proofs.LogLaws.{listed-most, commit-full, commit-fits}
+use mathlib.Core.Path.{refl}
 use native.Mathlib.Omega.{arith}
 use borrow.Author.Needs.{needs}
 use Rattle.gif.proofs.log.finish.Statement.{statement}
@@ -15,11 +16,11 @@ full c = commit-full _ _ _ _ _ _ _ (c .before .count .ensures) (c .if1 .taken)
 
 fits : tie.Need-returns-2
 fits c =
-    let stored = c .before .before in
-    let tested = stored .before .before in
-    commit-fits _ _ _ _ _ _ _ (tested .before .count .ensures) (tested .if1 .left) (stored .store .ensures)
+    let appended = c .before .before in
+    let tested = appended .before .before in
+    rw (appended .append .ensures .0) (commit-fits _ _ _ _ _ _ _ refl (rw (tested .before .count .ensures) at (tested .if1 .left)) (appended .append .ensures .1))
 
 pub finish-spec : {M : Type 1} → statement M
 finish-spec =
     tie.close
-    (tie.spec (λ c κs. search needs) add-if1 mul-if1 full (λ c κs. search needs) (λ c. search needs) (λ c. search needs) fits)
+    (tie.spec (λ c κs. search needs) add-if1 mul-if1 full (λ c κs. search needs) (λ c. search needs) fits)

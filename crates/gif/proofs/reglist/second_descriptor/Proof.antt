@@ -1,31 +1,26 @@
-use Rattle.gif.proofs.TagLaws.{product-most}
-use Rattle.fields.specs.Fields.{if}
-use borrow.Author.Tests.{lt-ltb, le-ltb}
 use native.Mathlib.Omega.{arith}
+use borrow.Author.Tests.{lt-ltb, le-ltb}
 use borrow.Author.Needs.{needs}
+use Rattle.fields.specs.Fields.{if}
+use Rattle.gif.proofs.TagLaws.{product-most, nibble-fits, nibble-descriptor}
 use Rattle.gif.proofs.reglist.second_descriptor.Statement.{statement}
 use Rattle.gif.proofs.reglist.second_descriptor.Tie as tie
-use Rattle.gif.proofs.reglist.second_descriptor.Reads as reads
-use Rattle.gif.proofs.reglist.second_descriptor.Lts as lts
-use Rattle.gif.proofs.tag.descriptor_at.Reads as descriptor-at-reads
 
--- src/reglist.rt:58:15
 mul-if1 : tie.Need-mul-if1
-mul-if1 c = let m = product-most (c .before .pre .loops) (c .before .pre .regs) in omega arith
+mul-if1 c = let f = c .before .pre .0 in let m = product-most (f .loops) (f .regs) in omega arith
 
--- src/reglist.rt:59:9
-descriptor-at-requires : tie.Need-descriptor-at-requires
-descriptor-at-requires c κs = search needs
+descriptor-in-requires : tie.Need-descriptor-in-requires
+descriptor-in-requires c κs = let s = c .before .before in let m = nibble-fits _ (s .pre .0) _ (s .pre .1) in omega arith
 
--- src/reglist.rt:54:1
 returns : tie.Need-returns
 unfolding if
-returns c = simp (lt-ltb _ _ (c .before .if1 .taken)) (c .descriptor-at .ensures)
+returns c =
+    let s = c .before .before .before in
+    simp (lt-ltb _ _ (c .before .if1 .taken)) (nibble-descriptor (s .args .tag) (s .args .item) (s .pre .1) (c .descriptor-in .ensures))
 
--- src/reglist.rt:54:1
 returns-2 : tie.Need-returns-2
 unfolding if
 returns-2 c = simp (le-ltb _ _ (c .if1 .left))
 
 pub second-descriptor-spec : {M : Type 1} → statement M
-second-descriptor-spec = tie.close (tie.spec mul-if1 descriptor-at-requires returns returns-2)
+second-descriptor-spec = tie.close (tie.spec mul-if1 descriptor-in-requires returns returns-2)
