@@ -11,7 +11,7 @@ use lib.Dec.{eqb, ltb}
 use Rattle.fields.specs.Counts.{oneIf}
 use Rattle.fields.specs.Fields.{if, quadword}
 use Rattle.fields.specs.Memory.{longAt}
-use Rattle.fields.proofs.ChoiceLaws.{and-false}
+use Rattle.fields.proofs.ChoiceLaws.{if-ind, and-false}
 use Rattle.fields.proofs.CountLaws.{one-most}
 use Rattle.fields.proofs.FieldLaws.{whole-low, whole-high}
 use Rattle.gif.specs.declared.GifPath.{GifPath}
@@ -25,16 +25,16 @@ use Rattle.gif.specs.declared.Path.{Path}
 use Rattle.gif.specs.declared.QuadwordsResult.{QuadwordsResult}
 use Rattle.gif.specs.declared.GifAnswer.the-variants.{Taken}
 use Rattle.gif.specs.Log.{entrySize, HasRoom, entriesBy, logged, LogFits}
-use Rattle.gif.specs.Tag.{pathOf, withDue, takenOf, descriptorAt, placeAfter, dataCloses}
+use Rattle.gif.specs.Tag.{pathOf, withDue, takenOf, descriptorAt, placeAfter, placeAtTag, tagCloses, dataCloses, tagQ, tagWrites}
 use Rattle.gif.specs.Packed.{packedWrites, packedQ}
 use Rattle.gif.specs.Reglist.{reglistWrite}
 use Rattle.gif.specs.Range.{TagFits}
-use Rattle.gif.specs.Step.{Left, commit, imageStep, gifStep}
+use Rattle.gif.specs.Step.{commit, tagStep, imageStep, gifStep}
 use Rattle.gif.specs.Feed.{quadwordsResult}
 use Rattle.gif.specs.Inner.{listed, Leads, placeAfterMany, manyClose, DataFits, TakenAtOnce, imageWrites}
 use Rattle.gif.proofs.LogLaws.{listed-most, logged-length, commit-fits}
 use Rattle.gif.proofs.TagLaws.{nibble-descriptor}
-use Rattle.gif.proofs.DataLaws.{by-format, packed-taken, reglist-taken}
+use Rattle.gif.proofs.DataLaws.{by-format, by-place, packed-taken, reglist-taken}
 use Rattle.gif.proofs.FeedLaws.{at-quadword, leads-none, leads-one, leads-then}
 
 -- ---- the tag after k of its data quadwords
@@ -172,6 +172,11 @@ module _ (which : GifPath) (main : List ℕ) (a n used₀ : ℕ) (log₀ : List 
           one-came
           (by-format p which (pathOf q (Data rest)) rest (quadword low high) used log (rw (whole-low low high l, whole-high low high l m, ew)))
 
+-- room for one entry is room for a tag's own writes
+pub tag-room : (log : List ℕ) (used quad : ℕ) {ws : List Write} → ws ≡ tagWrites quad → HasRoom log used 1 → HasRoom log used (length ws)
+unfolding tagWrites
+tag-room log used quad e h = rw e (if-ind (λ (ws : List Write). HasRoom log used (length ws)) _ h (omega arith))
+
 -- ---- by the place and the format
 
 module _ {which : GifPath} {main : List ℕ} {a used : ℕ} {p : Path} {log : List ℕ} where
@@ -181,6 +186,18 @@ module _ {which : GifPath} {main : List ℕ} {a used : ℕ} {p : Path} {log : Li
 
   pub none-taken : (left : ℕ) → entrySize * used ≤ length log → TakenAtOnce which main a left p used log (quadwordsResult p used 0 0 0) log
   none-taken left h = record { few = omega arith; closed = omega arith; holds = h; leads = leads-none }
+
+  -- a tag, where the log has room for one entry
+  pub tag-taken : p .place ≡ Idle → HasRoom log used 1 → {low high used′ c : ℕ} {q : Path} {ws : List Write} {log′ : List ℕ} → low ≡ longAt main a → high ≡ longAt main (a + 8)
+      → q ≡ pathOf tagQ (placeAtTag (quadword low high)) → c ≡ oneIf (tagCloses (quadword low high)) → ws ≡ tagWrites (quadword low high)
+      → used′ ≡ used + length ws → log′ ≡ logged log used (entriesBy which ws) → TakenAtOnce which main a 1 p used log (quadwordsResult q used′ 1 c 0) log′
+  unfolding gifStep tagStep
+  tag-taken i h {low} {high} el eh eq ec ew eu e =
+      let quad = quadword low high in
+      let r = tag-room log used quad refl h in
+      let o = commit-fits which p (pathOf tagQ (placeAtTag quad)) (tagCloses quad) (tagWrites quad) used log refl r (rw ew at e) in
+      let g = leads-one (at-quadword which main a el eh p used log (by-place i which p quad used log o)) refl in
+      rw (eq, ec, eu, ew) (record { few = omega arith; closed = one-most (tagCloses quad) refl; holds = r; leads = g })
 
   -- what holds of the tag that a path holds holds of the path
   pub taken-held : {t : HeldTag} → p .place ≡ Data t → {n : ℕ} {r : QuadwordsResult} {log′ : List ℕ}

@@ -6,6 +6,7 @@ use super::Path;
 use super::Place;
 use super::QuadwordsResult;
 use super::TagFormat;
+use super::feed::ended;
 use super::image::image_writes;
 use super::log::append;
 use super::memory::long_inside;
@@ -13,16 +14,19 @@ use super::packed::often_writes;
 use super::packed::packed_q;
 use super::reglist::halves;
 use super::reglist::second_descriptor;
+use super::step::path_at_tag;
 use super::tag::descriptor_in;
 use super::tag::many_close;
 use super::tag::next_nibble;
 use super::tag::place_after_many;
+use super::tag::tag_closes;
+use super::tag::tag_writes;
 use super::tag::taken;
 use fields::one_if;
 ghost use mathlib.Core.Path.{_≡_};
-ghost use Prim.Native.Nat.{_≤_};
+ghost use Prim.Native.Nat.{_<_, _≤_};
 ghost use Rattle.fields.specs.Counts.{oneIf};
-ghost use Rattle.gif.specs.declared.Place.the-variants.{Data};
+ghost use Rattle.gif.specs.declared.Place.the-variants.{Idle, Data};
 ghost use Rattle.gif.specs.declared.TagFormat.the-variants.{Packed, Reglist, Image};
 ghost use Rattle.gif.specs.Log.{LogFits};
 ghost use Rattle.gif.specs.Tag.{pathOf};
@@ -36,13 +40,7 @@ fn data_result(tag: HeldTag, q: u32, used: u64, n: u32) -> QuadwordsResult
     ensures { λ r. ⌜ r ≡ quadwordsResult (pathOf q (placeAfterMany tag n)) used n (oneIf (manyClose tag n)) 0 ⌝ }
 {
     let place = place_after_many(tag, n);
-    QuadwordsResult {
-        path: Path { q, place },
-        used,
-        taken: n,
-        packets: one_if(many_close(tag, n)),
-        refusal: 0,
-    }
+    ended(Path { q, place }, used, n, one_if(many_close(tag, n)), 0)
 }
 
 // n data quadwords of PACKED, or those before descriptor B.
@@ -172,8 +170,30 @@ fn tag_data(
     }
 }
 
-// Data quadwords that are taken at once, where `left` of any kind are left; there may be none.
-pub(crate) fn data_at_once(
+// A tag, where the log has surely room for its write.
+fn tag_quadword(
+    which: GifPath,
+    path: Path,
+    main: &[u8],
+    a: u32,
+    log: &mut [u64],
+    used: u64,
+) -> QuadwordsResult
+    requires { ⌜ QuadwordsInside (now main) a 1 × (LogFits (now log) used × (path .place ≡ Idle)) ⌝ }
+    ensures { λ r. ⌜ TakenAtOnce which (now (main .entry)) a 1 path used (now (log .entry)) r (now (log .exit)) ⌝ }
+{
+    if (log.len() as u64) < ENTRY_SIZE * (used + 1) {
+        return ended(path, used, 0, 0, 0);
+    }
+    let low = long_inside(main, a);
+    let high = long_inside(main, a + 8);
+    let after = path_at_tag(low, high);
+    let entries = append(log, used, which, tag_writes(low, high));
+    ended(after, entries, 1, one_if(tag_closes(low, high)), 0)
+}
+
+// Quadwords that are taken at once, where `left` are left: a tag, or data of the one that the path holds. There may be none.
+pub(crate) fn quadwords_at_once(
     which: GifPath,
     path: Path,
     main: &[u8],
@@ -182,18 +202,12 @@ pub(crate) fn data_at_once(
     log: &mut [u64],
     used: u64,
 ) -> QuadwordsResult
-    requires { ⌜ QuadwordsInside (now main) a left × (PlaceFits (path .place) × LogFits (now log) used) ⌝ }
+    requires { ⌜ QuadwordsInside (now main) a left × (0 < left) × PlaceFits (path .place) × LogFits (now log) used ⌝ }
     ensures { λ r. ⌜ TakenAtOnce which (now (main .entry)) a left path used (now (log .entry)) r (now (log .exit)) ⌝ }
 {
     let place = path.place;
     match place {
-        Place::Idle => QuadwordsResult {
-            path,
-            used,
-            taken: 0,
-            packets: 0,
-            refusal: 0,
-        },
+        Place::Idle => tag_quadword(which, path, main, a, log, used),
         Place::Data(tag) => tag_data(which, path.q, tag, main, a, left, log, used),
     }
 }

@@ -3,7 +3,7 @@ use super::GifAnswer;
 use super::GifPath;
 use super::Path;
 use super::QuadwordsResult;
-use super::burst::data_at_once;
+use super::burst::quadwords_at_once;
 use super::log::log_refused;
 use super::memory::long_inside;
 use super::range::path_in_range;
@@ -16,7 +16,13 @@ ghost use Rattle.gif.specs.Range.{PlaceFits};
 ghost use Rattle.gif.specs.Feed.{fedBy, feedsOf, feedRefusal, feedOf, quadwordsResult};
 ghost use Rattle.gif.specs.Inner.{QuadwordsInside};
 
-fn ended(path: Path, used: u64, taken: u32, packets: u64, refusal: u32) -> QuadwordsResult
+pub(crate) fn ended(
+    path: Path,
+    used: u64,
+    taken: u32,
+    packets: u64,
+    refusal: u32,
+) -> QuadwordsResult
     ensures { λ r. ⌜ r ≡ quadwordsResult path used taken packets refusal ⌝ }
 {
     QuadwordsResult {
@@ -46,7 +52,7 @@ fn feed(
     let mut taken: u32 = 0;
     let mut packets: u64 = 0;
     while taken < count {
-        let b = data_at_once(which, p, main, a + 16 * taken, count - taken, log, entries);
+        let b = quadwords_at_once(which, p, main, a + 16 * taken, count - taken, log, entries);
         if 0 < b.taken {
             let rest = b.path;
             p = rest;

@@ -25,6 +25,7 @@ use fields::refusals;
 ghost use mathlib.Core.Path.{_≡_};
 ghost use Rattle.fields.specs.Fields.{quadword};
 ghost use Rattle.gif.specs.Log.{LogFits};
+ghost use Rattle.gif.specs.Tag.{pathOf, placeAtTag, tagQ};
 ghost use Rattle.gif.specs.Range.{TagFits, PlaceFits};
 ghost use Rattle.gif.specs.Step.{left, refusedResult, tagStep, packedStep, reglistStep, imageStep, dataStep, gifStep, takeOf};
 
@@ -35,6 +36,17 @@ fn refuse(number: u32, path: Path, used: u64) -> GifResult
         answer: GifAnswer::Refused(number),
         path,
         used,
+    }
+}
+
+// The path after a tag.
+pub(crate) fn path_at_tag(low: u64, high: u64) -> Path
+    ensures { λ r. ⌜ r ≡ pathOf tagQ (placeAtTag (quadword low high)) ⌝ }
+{
+    let place = place_at_tag(low, high);
+    Path {
+        q: 1065353216,
+        place,
     }
 }
 
@@ -49,11 +61,7 @@ fn take_tag(
     requires { ⌜ LogFits (now log) used ⌝ }
     ensures { λ r. ⌜ left r (now (log .exit)) ≡ tagStep which path (quadword low high) used (now (log .entry)) ⌝ }
 {
-    let place = place_at_tag(low, high);
-    let after = Path {
-        q: 1065353216,
-        place,
-    };
+    let after = path_at_tag(low, high);
     let writes = tag_writes(low, high);
     finish(which, path, after, tag_closes(low, high), writes, log, used)
 }

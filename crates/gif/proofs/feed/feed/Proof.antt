@@ -31,27 +31,27 @@ loop-holds c =
     let h = c .before .before .pre in
     record { inner = h .0; log-fits = h .1 .1; place-fits = h .1 .0; length = refl; few = omega arith; same = feeds-begin _ _ _ _ _ _ _ }
 
-add-data-at-once : tie.Need-add-data-at-once Inv-loop μ-loop
-add-data-at-once c = let g = c .before .loop .inv .inner in omega arith
+add-quadwords-at-once : tie.Need-add-quadwords-at-once Inv-loop μ-loop
+add-quadwords-at-once c = let g = c .before .loop .inv .inner in omega arith
 
-data-at-once-requires : tie.Need-data-at-once-requires Inv-loop μ-loop
-data-at-once-requires c κs =
+quadwords-at-once-requires : tie.Need-quadwords-at-once-requires Inv-loop μ-loop
+quadwords-at-once-requires c κs =
     let in-loop = c .before in
     let l = in-loop .loop-test .taken in
     let i = in-loop .before .loop .inv in
     let g = i .inner in
-    (record { most = g .most; inner = omega arith }, (i .place-fits, i .log-fits))
+    (record { most = g .most; inner = omega arith }, omega arith, i .place-fits, i .log-fits)
 
 add-taken : tie.Need-add-taken Inv-loop μ-loop
 add-taken c =
     let called = c .before .before .before .before .before .before in
-    let f = called .data-at-once .ensures .few in
+    let f = called .quadwords-at-once .ensures .few in
     omega arith
 
 add-packets : tie.Need-add-packets Inv-loop μ-loop
 add-packets c =
     let called = c .before .before .before .before .before .before .before in
-    let b = called .data-at-once .ensures in
+    let b = called .quadwords-at-once .ensures in
     let in-loop = called .before .before in
     let f = b .few in
     let k = b .closed in
@@ -69,7 +69,7 @@ loop-less c =
 loop-again : tie.Need-loop-again Inv-loop μ-loop
 loop-again c =
     let called = c .before .before .before .before .before .before .before in
-    let s = called .data-at-once in
+    let s = called .quadwords-at-once in
     let b = s .ensures in
     let in-loop = called .before .before in
     let i = in-loop .before .loop .inv in
@@ -116,7 +116,7 @@ step-requires c κs =
     let called = none .before .before .before .before in
     let i = called .before .before .before .loop .inv in
     let z = none .if1 .left in
-    (rw (leads-still (called .data-at-once .ensures .leads) (omega arith)) (i .log-fits), i .place-fits)
+    (rw (leads-still (called .quadwords-at-once .ensures .leads) (omega arith)) (i .log-fits), i .place-fits)
 
 add-packets-2 : tie.Need-add-packets-2 Inv-loop μ-loop
 add-packets-2 c =
@@ -145,7 +145,7 @@ loop-again-2 c =
     let l = in-loop .loop-test .taken in
     let i = in-loop .before .loop .inv in
     let z = none .if1 .left in
-    let still = leads-still (called .data-at-once .ensures .leads) (omega arith) in
+    let still = leads-still (called .quadwords-at-once .ensures .leads) (omega arith) in
     let n = s .kept .1 .1 .1 .1 .0 in
     let f = i .few in
     let m = one-most _ (c .one-if .ensures) in
@@ -154,7 +154,7 @@ loop-again-2 c =
       inner = i .inner;
       log-fits = next-log-fits _ _ _ _ _ (s .ensures) (rw still (i .log-fits)) n;
       place-fits = h .stays (i .place-fits);
-      length = n ∙ called .data-at-once .kept .1 .1 .1 .1 .1 .0 ∙ i .length;
+      length = n ∙ called .quadwords-at-once .kept .1 .1 .1 .1 .1 .0 ∙ i .length;
       few = omega arith;
       same = rw (c .one-if .ensures) (goes-on _ _ _ _ _ _ _ _ _ (i .same) 1 _ (omega arith) (rw still at h));
     }
@@ -163,7 +163,7 @@ same-length : tie.Need-same-length Inv-loop μ-loop
 same-length c =
     let stepped = c .before .before .before .before .before .before .before in
     let called = stepped .before .before .before .before .before .before .before .before in
-    stepped .step .kept .1 .1 .1 .1 .0 ∙ called .data-at-once .kept .1 .1 .1 .1 .1 .0 ∙ called .before .before .before .loop .inv .length
+    stepped .step .kept .1 .1 .1 .1 .0 ∙ called .quadwords-at-once .kept .1 .1 .1 .1 .1 .0 ∙ called .before .before .before .loop .inv .length
 
 returns : tie.Need-returns Inv-loop μ-loop
 returns c =
@@ -174,7 +174,7 @@ returns c =
     let in-loop = called .before .before in
     let i = in-loop .before .loop .inv in
     let z = none .if1 .left in
-    let still = leads-still (called .data-at-once .ensures .leads) (omega arith) in
+    let still = leads-still (called .quadwords-at-once .ensures .leads) (omega arith) in
     rw (c .ended .ensures)
     (ends-refused _ _ _ _ _ _ _ _ _ (i .same) (in-loop .loop-test .taken) (high .before .long-inside .ensures) (high .long-inside2 .ensures) (rw still at (stepped .step .ensures))
     (c .before .before .answer2 .given .1) (i .log-fits .holds))
@@ -190,9 +190,9 @@ feed-spec =
     μ-loop
     loop-holds
     (λ c. omega arith)
-    add-data-at-once
+    add-quadwords-at-once
     (λ c. omega arith)
-    data-at-once-requires
+    quadwords-at-once-requires
     add-taken
     add-packets
     loop-less

@@ -8,7 +8,7 @@ unfolding tagStep
 returns c =
     let finished = c .before .before in
     let told = finished .before .before in
-    rw (← told .before .before .place-at-tag .ensures, ← told .before .tag-writes .ensures, ← told .tag-closes .ensures) (finished .finish .ensures)
+    rw (← told .before .before .path-at-tag .ensures, ← told .before .tag-writes .ensures, ← told .tag-closes .ensures) (finished .finish .ensures)
 
 pub take-tag-spec : {M : Type 1} → statement M
 take-tag-spec =
