@@ -120,14 +120,13 @@ module _ (which : GifPath) (main : List ℕ) (a count : ℕ) (p : Path) (used : 
         let x = feedsOf which main (a + 16 * (k + n)) (count - (k + n)) p′ used′ log′ in
         sym (ap (plus k c) (rw m at (g .goes (count - (k + n)))) ∙ rw (b, add-assoc k n (x .taken), add-assoc c h (x .packets))) ∙ i
 
-    pub ends-refused : k < count → {low high : ℕ} → low ≡ longAt main (a + 16 * k) → high ≡ longAt main (a + 16 * k + 8)
-        → {r : GifResult} {log′ : List ℕ} → left r log′ ≡ gifStep which p (quadword low high) used log
+    pub ends-refused : k < count → {r : GifResult} {log′ : List ℕ} → left r log′ ≡ gifStep which p (quadwordAt main (a + 16 * k)) used log
         → {m : ℕ} → r .answer ≡ Refused m → entrySize * used ≤ length log → fed p used log′ k c m ≡ w
-    ends-refused l {low} {high} el eh {r} {log′} e {m} q h =
+    ends-refused l {r} {log′} e {m} q h =
         let d : count - k ≡ suc (count - (k + 1)) = omega arith in
-        let s : log′ ≡ log = ap (λ (o : Left). o .log) (rw (← e) at (step-wrote which p used log h (quadword low high) .same m) q) in
+        let s : log′ ≡ log = ap (λ (o : Left). o .log) (rw (← e) at (step-wrote which p used log h (quadwordAt main (a + 16 * k)) .same m) q) in
         rw s
-        (sym (ap (plus k c) (feeds-refused which main (a + 16 * k) p used log (count - k) (count - (k + 1)) d (at-quadword which main (a + 16 * k) el eh p used log e) q) ∙ rw (add-zero k, add-zero c)) ∙ i)
+        (sym (ap (plus k c) (feeds-refused which main (a + 16 * k) p used log (count - k) (count - (k + 1)) d e q) ∙ rw (add-zero k, add-zero c)) ∙ i)
 
 -- a step keeps what the next one asks of the log
 pub next-log-fits : (which : GifPath) (p : Path) (quad used : ℕ) (log : List ℕ) {r : GifResult} {log′ : List ℕ} → left r log′ ≡ gifStep which p quad used log

@@ -56,7 +56,8 @@ pub record DataFits (t : HeldTag) (main : List ℕ) (a n : ℕ) (log : List ℕ)
   pub room : HasRoom log used (2 * n)
 
 -- at most n quadwords from address a on were taken, as the result says, with the log afterwards
-pub record TakenAtOnce (which : GifPath) (main : List ℕ) (a n : ℕ) (p : Path) (used : ℕ) (log : List ℕ) (r : QuadwordsResult) (log′ : List ℕ) : Type 0 where
+pub record TakenAtOnce (which : GifPath) (main : List ℕ) (a n : ℕ) (p : Path) (used : ℕ) (log : List ℕ)
+    (r : QuadwordsResult) (log′ : List ℕ) : Type 0 where
   pub few : r .taken ≤ n
   pub closed : r .packets ≤ r .taken
   pub holds : entrySize * r .used ≤ length log

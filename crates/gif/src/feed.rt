@@ -1,6 +1,7 @@
 // Quadwords of main memory taken by a path one after another.
 use super::GifAnswer;
 use super::GifPath;
+use super::GifResult;
 use super::Path;
 use super::QuadwordsResult;
 use super::burst::quadwords_at_once;
@@ -11,8 +12,10 @@ use super::step::step;
 use fields::one_if;
 use fields::refusals;
 ghost use mathlib.Core.Path.{_≡_};
+ghost use Rattle.fields.specs.Memory.{quadwordAt};
 ghost use Rattle.gif.specs.Log.{LogFits};
 ghost use Rattle.gif.specs.Range.{PlaceFits};
+ghost use Rattle.gif.specs.Step.{left, gifStep};
 ghost use Rattle.gif.specs.Feed.{fedBy, feedsOf, feedRefusal, feedOf, quadwordsResult};
 ghost use Rattle.gif.specs.Inner.{QuadwordsInside};
 
@@ -32,6 +35,16 @@ pub(crate) fn ended(
         packets,
         refusal,
     }
+}
+
+// The step of the quadword at an address.
+fn step_at(which: GifPath, path: Path, main: &[u8], a: u32, log: &mut [u64], used: u64) -> GifResult
+    requires { ⌜ QuadwordsInside (now main) a 1 × (PlaceFits (path .place) × LogFits (now log) used) ⌝ }
+    ensures { λ r. ⌜ left r (now (log .exit)) ≡ gifStep which path (quadwordAt (now (main .entry)) a) used (now (log .entry)) ⌝ }
+{
+    let low = long_inside(main, a);
+    let high = long_inside(main, a + 8);
+    step(which, path, low, high, log, used)
 }
 
 // The quadwords up to the first that is refused, where all was tested.
@@ -61,10 +74,7 @@ fn feed(
             packets += b.packets;
             continue;
         }
-        let at = a + 16 * taken;
-        let low = long_inside(main, at);
-        let high = long_inside(main, at + 8);
-        let r = step(which, p, low, high, log, entries);
+        let r = step_at(which, p, main, a + 16 * taken, log, entries);
         let answer = r.answer;
         let next = r.path;
         match answer {

@@ -7,7 +7,7 @@ use Rattle.gif.specs.Range.{PlaceFits}
 use Rattle.gif.specs.Feed.{feedsOf}
 use Rattle.gif.specs.Inner.{plus, QuadwordsInside}
 use Rattle.fields.proofs.CountLaws.{one-most}
-use Rattle.gif.proofs.FeedLaws.{at-quadword, leads-still, leads-one, feeds-begin, ends-all, goes-on, ends-refused, next-log-fits}
+use Rattle.gif.proofs.FeedLaws.{leads-still, leads-one, feeds-begin, ends-all, goes-on, ends-refused, next-log-fits}
 use borrow.Author.Needs.{needs}
 use Rattle.gif.proofs.feed.feed.Statement.{statement}
 use Rattle.gif.proofs.feed.feed.Tie as tie
@@ -89,39 +89,28 @@ loop-again c =
       same = goes-on _ _ _ _ _ _ _ _ _ (i .same) _ _ (omega arith) (b .leads);
     }
 
-add-at : tie.Need-add-at Inv-loop μ-loop
-add-at c =
+add-step-at : tie.Need-add-step-at Inv-loop μ-loop
+add-step-at c =
     let in-loop = c .before .before .before .before .before .before in
     let l = in-loop .loop-test .taken in
     let g = in-loop .before .loop .inv .inner in
     omega arith
 
-first-inside : tie.Need-long-inside-requires Inv-loop μ-loop
-first-inside c κs =
-    let in-loop = c .before .before .before .before .before .before in
-    let l = in-loop .loop-test .taken in
-    let g = in-loop .before .loop .inv .inner in
-    omega arith
-
-second-inside : tie.Need-long-inside-requires-2 Inv-loop μ-loop
-second-inside c κs =
-    let in-loop = c .before .before .before .before .before .before .before in
-    let l = in-loop .loop-test .taken in
-    let g = in-loop .before .loop .inv .inner in
-    omega arith
-
-step-requires : tie.Need-step-requires Inv-loop μ-loop
-step-requires c κs =
-    let none = c .before .before .before in
+step-at-requires : tie.Need-step-at-requires Inv-loop μ-loop
+step-at-requires c κs =
+    let none = c .before in
     let called = none .before .before .before .before in
-    let i = called .before .before .before .loop .inv in
+    let in-loop = called .before .before in
+    let l = in-loop .loop-test .taken in
+    let i = in-loop .before .loop .inv in
+    let g = i .inner in
     let z = none .if1 .left in
-    (rw (leads-still (called .quadwords-at-once .ensures .leads) (omega arith)) (i .log-fits), i .place-fits)
+    (record { most = g .most; inner = omega arith }, (i .place-fits, rw (leads-still (called .quadwords-at-once .ensures .leads) (omega arith)) (i .log-fits)))
 
 add-packets-2 : tie.Need-add-packets-2 Inv-loop μ-loop
 add-packets-2 c =
     let stepped = c .before .before .before .before .before .before .before in
-    let in-loop = stepped .before .before .before .before .before .before .before .before .before .before in
+    let in-loop = stepped .before .before .before .before .before .before .before .before in
     let f = in-loop .before .loop .inv .few in
     let l = in-loop .loop-test .taken in
     let m = one-most _ (c .one-if .ensures) in
@@ -130,16 +119,15 @@ add-packets-2 c =
 loop-less-2 : tie.Need-loop-less-2 Inv-loop μ-loop
 loop-less-2 c =
     let stepped = c .before .before .before .before .before .before .before in
-    let l = stepped .before .before .before .before .before .before .before .before .before .before .loop-test .taken in
+    let l = stepped .before .before .before .before .before .before .before .before .loop-test .taken in
     omega arith
 
 loop-again-2 : tie.Need-loop-again-2 Inv-loop μ-loop
 loop-again-2 c =
     let told = c .before .before in
     let stepped = told .before .before .before .before .before in
-    let s = stepped .step in
-    let high = stepped .before .before in
-    let none = high .before .before in
+    let s = stepped .step-at in
+    let none = stepped .before .before in
     let called = none .before .before .before .before in
     let in-loop = called .before .before in
     let l = in-loop .loop-test .taken in
@@ -149,7 +137,7 @@ loop-again-2 c =
     let n = s .kept .1 .1 .1 .1 .0 in
     let f = i .few in
     let m = one-most _ (c .one-if .ensures) in
-    let h = leads-one (at-quadword _ _ _ (high .before .long-inside .ensures) (high .long-inside2 .ensures) _ _ _ (s .ensures)) (told .answer .given .1) in
+    let h = leads-one (s .ensures) (told .answer .given .1) in
     record {
       inner = i .inner;
       log-fits = next-log-fits _ _ _ _ _ (s .ensures) (rw still (i .log-fits)) n;
@@ -162,21 +150,20 @@ loop-again-2 c =
 same-length : tie.Need-same-length Inv-loop μ-loop
 same-length c =
     let stepped = c .before .before .before .before .before .before .before in
-    let called = stepped .before .before .before .before .before .before .before .before in
-    stepped .step .kept .1 .1 .1 .1 .0 ∙ called .quadwords-at-once .kept .1 .1 .1 .1 .1 .0 ∙ called .before .before .before .loop .inv .length
+    let called = stepped .before .before .before .before .before .before in
+    stepped .step-at .kept .1 .1 .1 .1 .0 ∙ called .quadwords-at-once .kept .1 .1 .1 .1 .1 .0 ∙ called .before .before .before .loop .inv .length
 
 returns : tie.Need-returns Inv-loop μ-loop
 returns c =
     let stepped = c .before .before .before .before .before .before .before in
-    let high = stepped .before .before in
-    let none = high .before .before in
+    let none = stepped .before .before in
     let called = none .before .before .before .before in
     let in-loop = called .before .before in
     let i = in-loop .before .loop .inv in
     let z = none .if1 .left in
     let still = leads-still (called .quadwords-at-once .ensures .leads) (omega arith) in
     rw (c .ended .ensures)
-    (ends-refused _ _ _ _ _ _ _ _ _ (i .same) (in-loop .loop-test .taken) (high .before .long-inside .ensures) (high .long-inside2 .ensures) (rw still at (stepped .step .ensures))
+    (ends-refused _ _ _ _ _ _ _ _ _ (i .same) (in-loop .loop-test .taken) (rw still at (stepped .step-at .ensures))
     (c .before .before .answer2 .given .1) (i .log-fits .holds))
 
 returns-2 : tie.Need-returns-2 Inv-loop μ-loop
@@ -198,11 +185,8 @@ feed-spec =
     loop-less
     loop-again
     (λ c. omega arith)
-    add-at
-    first-inside
-    (λ c. omega arith)
-    second-inside
-    step-requires
+    add-step-at
+    step-at-requires
     (λ c. search needs)
     (λ c. omega arith)
     (λ c κs. search needs)
