@@ -65,12 +65,17 @@ same-place s p low v k b c e l q =
     sym (mul-div-mul-left p (2 ^ b) (pow-pos s))
     ∙ rw (e, ← pow-add 2 s b, q, pow-add 2 k c, ← div-div-eq-div-mul (low + 2 ^ k * v), add-mul-div-left low v (pow-pos k), div-eq-of-lt l, zero-add)
 
--- the number p of the payload with three words of zeros before it: its first k words, and on top of them the three held and those to come
-record Along (p k : ℕ) (u : Unpacking) (ws : List ℕ) : Type 0 where
+-- A number p that holds a payload from its word c on, moved up by s bits: its words up to word k, and on top of them the three held and those to come.
+record Along (p s c k : ℕ) (u : Unpacking) (ws : List ℕ) : Type 0 where
+  from : c ≤ k
   low : ℕ
-  below : low < 2 ^ (32 * k)
-  split : 2 ^ 96 * p ≡ low + 2 ^ (32 * k) * value (u .first ∷ u .second ∷ u .third ∷ ws)
+  below : low < 2 ^ (32 * (k - c))
+  split : 2 ^ s * p ≡ low + 2 ^ (32 * (k - c)) * value (u .first ∷ u .second ∷ u .third ∷ ws)
   words : Words (u .first ∷ u .second ∷ u .third ∷ ws)
+
+-- vector i starts at bit `at i` of it
+record Lies (f : Format) (s c : ℕ) (at : ℕ → ℕ) : Type 0 where
+  place : (k i : ℕ) → c ≤ k → VectorIn f k i → s + at i ≡ 32 * (k - c) + (i * vectorBits f + 96 - 32 * k)
 
 -- the number of words and of more after them
 pub value-append : (xs ys : List ℕ) → value (xs ++ ys) ≡ value xs + value ys * 2 ^ (32 * length xs)
@@ -85,36 +90,51 @@ value-append (x ∷ xs) ys =
 window : (a b c d : ℕ) (ws : List ℕ) → value (a ∷ b ∷ c ∷ d ∷ ws) ≡ value (a ∷ b ∷ c ∷ d ∷ []) + value ws * 2 ^ 128
 window a b c d ws = value-append (a ∷ b ∷ c ∷ d ∷ []) ws
 
--- so an element of a vector that word k completes is the same in them and in the payload
-same-element : (f : Format) (p k i x : ℕ) (u : Unpacking) (ws : List ℕ) → Along p k u (x ∷ ws) → VectorIn f k i → (e : ℕ) → e < elements f
+-- so an element of a vector that word k completes is the same in them and in p
+same-element : (f : Format) (p s c k i x : ℕ) (at : ℕ → ℕ) (u : Unpacking) (ws : List ℕ) → Lies f s c at → Along p s c k u (x ∷ ws) → VectorIn f k i
+    → (e : ℕ) → e < elements f
     → element (elementBits f) (value (u .first ∷ u .second ∷ u .third ∷ x ∷ [])) (i * vectorBits f + 96 - 32 * k) e
-    ≡ element (elementBits f) p (i * vectorBits f) e
+    ≡ element (elementBits f) p (at i) e
 unfolding element vectorBits
-same-element f p k i x u ws h v e l =
-    let s = starts-inside f k i v in
+same-element f p s c k i x at u ws y h v e l =
     let b = vector-fits f k i v .inside in
     let m = mul-le-mul-right {m = suc e} {n = elements f} (elementBits f) l in
     let t : suc e * elementBits f ≡ e * elementBits f + elementBits f = suc-mul e (elementBits f) in
-    let at = i * vectorBits f + 96 - 32 * k in
-    sym (rw (same-place 96 p (h .low) _ (32 * k) (i * vectorBits f + e * elementBits f) (at + e * elementBits f) (h .split) (h .below) (omega arith), window (u .first) (u .second) (u .third) x ws)
-    (field-low 128 _ (value ws) (at + e * elementBits f) (elementBits f) (omega arith)))
+    let q = y .place k i (h .from) v in
+    let on = i * vectorBits f + 96 - 32 * k in
+    sym (rw (same-place s p (h .low) _ (32 * (k - c)) (at i + e * elementBits f) (on + e * elementBits f) (h .split) (h .below) (omega arith), window (u .first) (u .second) (u .third) x ws)
+    (field-low 128 _ (value ws) (on + e * elementBits f) (elementBits f) (omega arith)))
 
-held-vector : (f : Format) (p k i x : ℕ) (u : Unpacking) (ws : List ℕ) → Along p k u (x ∷ ws) → VectorIn f k i
-    → heldVector f u x k i ≡ vectorAt f (u .usn) p (i * vectorBits f)
+held-vector : (f : Format) (p s c k i x : ℕ) (at : ℕ → ℕ) (u : Unpacking) (ws : List ℕ) → Lies f s c at → Along p s c k u (x ∷ ws) → VectorIn f k i
+    → heldVector f u x k i ≡ vectorAt f (u .usn) p (at i)
 unfolding heldVector
-held-vector f p k i x u ws h v = same-vector f (u .usn) _ _ _ _ (same-element f p k i x u ws h v)
+held-vector f p s c k i x at u ws y h v = same-vector f (u .usn) _ _ _ _ (same-element f p s c k i x at u ws y h v)
 
--- before the first word
+-- before the first word: the payload with three words of zeros before it
 along-first : (f : Format) (cl wl a num : ℕ) (usn masked i : Bool) (ws : List ℕ) → Words ws
-    → Along (value ws) 0 (unpackingOf f cl wl a num usn masked i) ws
+    → Along (value ws) 96 0 0 (unpackingOf f cl wl a num usn masked i) ws
 unfolding unpackingOf
 along-first f cl wl a num usn masked i ws h =
     record {
+      from = omega arith;
       low = 0;
       below = omega arith;
       split = omega arith;
       words = more {w = 0} (omega arith) (more {w = 0} (omega arith) (more {w = 0} (omega arith) h));
     }
+
+lies-first : (f : Format) → Lies f 96 0 (λ i. i * vectorBits f)
+lies-first f = record { place = λ k i l v. let s = starts-inside f k i v in omega arith }
+
+-- before any word k: the three words held and those to come
+along-here : (k : ℕ) (u : Unpacking) (ws : List ℕ) → Words (u .first ∷ u .second ∷ u .third ∷ ws)
+    → Along (value (u .first ∷ u .second ∷ u .third ∷ ws)) 0 k k u ws
+along-here k u ws h =
+    let z : 32 * (k - k) ≡ 0 = omega arith in
+    record { from = omega arith; low = 0; below = rw z (omega arith); split = rw z (omega arith); words = h }
+
+lies-here : (f : Format) (k : ℕ) → Lies f 0 k (λ i. i * vectorBits f + 96 - 32 * k)
+lies-here f c = record { place = λ k i l v. let s = starts-inside f k i v in omega arith }
 
 -- a digit more
 digit-below : (low n x b : ℕ) → low < n → x < b → low + n * x < n * b
@@ -127,13 +147,15 @@ digit-split : (low n x b v : ℕ) → low + n * (x + b * v) ≡ low + n * x + n 
 digit-split low n x b v = rw (mul-add n x, ← mul-assoc n b, ← add-assoc low)
 
 -- one word more
-along-next : (p k x : ℕ) (u : Unpacking) (ws : List ℕ) → Along p k u (x ∷ ws) → Along p (k + 1) (holds u x) ws
-along-next p k x u ws h =
-    let e : 32 * (k + 1) ≡ 32 * k + 32 = omega arith in
+along-next : (p s c k x : ℕ) (u : Unpacking) (ws : List ℕ) → Along p s c k u (x ∷ ws) → Along p s c (k + 1) (holds u x) ws
+along-next p s c k x u ws h =
+    let b = h .from in
+    let e : 32 * (k + 1 - c) ≡ 32 * (k - c) + 32 = omega arith in
     record {
-      low = h .low + 2 ^ (32 * k) * u .first;
-      below = rw (e, pow-add 2 (32 * k) 32) (digit-below (h .low) (2 ^ (32 * k)) (u .first) (2 ^ 32) (h .below) (head (h .words)));
-      split = h .split ∙ rw (e, pow-add 2 (32 * k) 32) (digit-split (h .low) (2 ^ (32 * k)) (u .first) (2 ^ 32) (value (u .second ∷ u .third ∷ x ∷ ws)));
+      from = omega arith;
+      low = h .low + 2 ^ (32 * (k - c)) * u .first;
+      below = rw (e, pow-add 2 (32 * (k - c)) 32) (digit-below (h .low) (2 ^ (32 * (k - c))) (u .first) (2 ^ 32) (h .below) (head (h .words)));
+      split = h .split ∙ rw (e, pow-add 2 (32 * (k - c)) 32) (digit-split (h .low) (2 ^ (32 * (k - c))) (u .first) (2 ^ 32) (value (u .second ∷ u .third ∷ x ∷ ws)));
       words = tail (h .words);
     }
   where
@@ -213,47 +235,58 @@ done-unfed f r u k w z =
 
 -- ---- the steps
 
--- one step: word k makes the writes that it completes, with the payload's vectors
-step-writes : (size : ℕ) (f : Format) (p k x : ℕ) (u : Unpacking) (r : Registers) (ws : List ℕ) (w : Written) → 1 ≤ r .wl → Along p k u (x ∷ ws)
-    → takenWords f r u ≡ k
+-- one step: word k makes the writes that it completes, with the vectors of p
+step-writes : (size : ℕ) (f : Format) (p s c k x : ℕ) (at : ℕ → ℕ) (u : Unpacking) (r : Registers) (ws : List ℕ) (w : Written) → 1 ≤ r .wl → Lies f s c at
+    → Along p s c k u (x ∷ ws) → takenWords f r u ≡ k
     → unpackWord size f u r x w
-    ≡ writesFrom size (u .address) (acting f u r) (λ i. vectorAt f (u .usn) p (i * vectorBits f))
-    (doneAfter f r u (k + 1) - doneAfter f r u k)
+    ≡ writesFrom size (u .address) (acting f u r) (λ i. vectorAt f (u .usn) p (at i)) (doneAfter f r u (k + 1) - doneAfter f r u k)
     (doneAfter f r u k)
     w
 unfolding unpackWord wordOf doneAfter acting
-step-writes size f p k x u r ws w c h e =
+step-writes size f p s c k x at u r ws w wl y h e =
     rw e
-    (same-writes size (u .address) (acting f u r) (heldVector f u x k) (λ i. vectorAt f (u .usn) p (i * vectorBits f)) _ _ w
-    (λ j l m. held (write-in f (r .cl) (r .wl) (u .count) k j c l (omega arith))))
+    (same-writes size (u .address) (acting f u r) (heldVector f u x k) (λ i. vectorAt f (u .usn) p (at i)) _ _ w
+    (λ j l m. held (write-in f (r .cl) (r .wl) (u .count) k j wl l (omega arith))))
   where
     held : {j : ℕ} → WriteIn f (r .cl) (r .wl) k j
         → lastVector (heldVector f u x k) (vectorsBefore (r .cl) (r .wl) (suc j))
-        ≡ lastVector (λ i. vectorAt f (u .usn) p (i * vectorBits f)) (vectorsBefore (r .cl) (r .wl) (suc j))
-    held y = rw (y .is) (held-vector f p k (y .vector) x u ws h (y .ends))
+        ≡ lastVector (λ i. vectorAt f (u .usn) p (at i)) (vectorsBefore (r .cl) (r .wl) (suc j))
+    held z = rw (z .is) (held-vector f p s c k (z .vector) x at u ws y h (z .ends))
 
 taken : (f : Format) (r : Registers) (u : Unpacking) (k : ℕ) → k + u .due ≡ payloadFor f (r .cl) (r .wl) (u .count) → takenWords f r u ≡ k
 unfolding takenWords
 taken f r u k q = omega arith
 
 -- the steps from word k on make the writes from there on
-steps-write : (size : ℕ) (f : Format) (p k : ℕ) (u : Unpacking) (r : Registers) (ws : List ℕ) (w : Written) → 1 ≤ r .wl → Along p k u ws
-    → k + u .due ≡ payloadFor f (r .cl) (r .wl) (u .count) → length ws ≤ u .due
+steps-write : (size : ℕ) (f : Format) (p s c k : ℕ) (at : ℕ → ℕ) (u : Unpacking) (r : Registers) (ws : List ℕ) (w : Written) → 1 ≤ r .wl → Lies f s c at
+    → Along p s c k u ws → k + u .due ≡ payloadFor f (r .cl) (r .wl) (u .count) → length ws ≤ u .due
     → takeWords size f u r ws w
-    ≡ writesFrom size (u .address) (acting f u r) (λ i. vectorAt f (u .usn) p (i * vectorBits f))
-    (doneAfter f r u (k + length ws) - doneAfter f r u k)
+    ≡ writesFrom size (u .address) (acting f u r) (λ i. vectorAt f (u .usn) p (at i)) (doneAfter f r u (k + length ws) - doneAfter f r u k)
     (doneAfter f r u k)
     w
 unfolding takeWords writesFrom acting doneAfter
-steps-write size f p k u r [] w c h q l =
+steps-write size f p s c k at u r [] w wl y h q l =
     let e : doneAfter f r u (k + 0) - doneAfter f r u k ≡ 0 = rw add-zero (omega arith) in
     rw e
-steps-write size f p k u r (x ∷ ws) w c h q l =
+steps-write size f p s c k at u r (x ∷ ws) w wl y h q l =
     let e : takenWords f r u ≡ k = taken f r u k q in
     let n : k + suc (length ws) ≡ k + 1 + length ws = omega arith in
-    steps-write size f p (k + 1) (holds u x) r ws (unpackWord size f u r x w) c (along-next p k x u ws h) (omega arith) (omega arith)
-    ∙ rw (n, step-writes size f p k x u r ws w c h e)
-    (writes-to size (u .address) (acting f u r) (λ i. vectorAt f (u .usn) p (i * vectorBits f)) _ _ _ w (done-after-mono f r u k (k + 1) c (omega arith)) (done-after-mono f r u (k + 1) (k + 1 + length ws) c (omega arith)))
+    steps-write size f p s c (k + 1) at (holds u x) r ws (unpackWord size f u r x w) wl y (along-next p s c k x u ws h) (omega arith) (omega arith)
+    ∙ rw (n, step-writes size f p s c k x at u r ws w wl y h e)
+    (writes-to size (u .address) (acting f u r) (λ i. vectorAt f (u .usn) p (at i)) _ _ _ w (done-after-mono f r u k (k + 1) wl (omega arith)) (done-after-mono f r u (k + 1) (k + 1 + length ws) wl (omega arith)))
+
+-- so from any waiting UNPACK on, whatever it holds: the words ws make the writes whose vectors end in them, by the bits of the words held and of these
+pub words-write : (size : ℕ) (f : Format) (u : Unpacking) (r : Registers) (ws : List ℕ) (w : Written) → 1 ≤ r .wl
+    → Words (u .first ∷ u .second ∷ u .third ∷ ws) → u .due ≤ payloadFor f (r .cl) (r .wl) (u .count) → length ws ≤ u .due → {k : ℕ} → takenWords f r u ≡ k
+    → takeWords size f u r ws w
+    ≡ writesFrom size (u .address) (acting f u r)
+    (λ i. vectorAt f (u .usn) (value (u .first ∷ u .second ∷ u .third ∷ ws)) (i * vectorBits f + 96 - 32 * k))
+    (doneAfter f r u (k + length ws) - doneAfter f r u k)
+    (doneAfter f r u k)
+    w
+unfolding takenWords
+words-write size f u r ws w wl h m l {k} e =
+    steps-write size f _ 0 k k (λ i. i * vectorBits f + 96 - 32 * k) u r ws w wl (lies-here f k) (along-here k u ws h) (omega arith) l
 
 -- ---- the whole payload
 
@@ -266,7 +299,7 @@ pub payload-theorem : (size : ℕ) (f : Format) (a num : ℕ) (usn masked i : Bo
 unfolding unpackedBy unpackingOf payloadVector
 payload-theorem size f a num usn masked i r ws w h c d l =
     let u = unpackingOf f (r .cl) (r .wl) a num usn masked i in
-    steps-write size f (value ws) 0 u r ws w d (along-first f (r .cl) (r .wl) a num usn masked i ws h) (omega arith) l
+    steps-write size f (value ws) 96 0 0 (λ i. i * vectorBits f) u r ws w d (lies-first f) (along-first f (r .cl) (r .wl) a num usn masked i ws h) (omega arith) l
     ∙ rw (done-first f r u d c, zero-add, sub-zero)
 
 -- with CL 0 the code's own step has made all writes: none is left to the payload, which has no word

@@ -1,6 +1,6 @@
 -- Writes from what their parts give, and one write after another.
 use mathlib.Core.Path.{_≡_, refl, sym, ap, _∙_}
-use mathlib.Core.Bool.{true, false, _&&_}
+use mathlib.Core.Bool.{Bool, true, false, _&&_, _||_}
 use mathlib.Core.List.{List, [], _∷_}
 use Prim.Native.Nat.{ℕ, zero, suc, _+_, _*_, _-_, _/_, _%_, _<_, _≤_}
 use native.Mathlib.Nat.{mul-le-mul, div-le-self, mod-lt, min-le-right}
@@ -26,6 +26,17 @@ below4 P p0 p1 p2 p3 (suc zero) h = p1
 below4 P p0 p1 p2 p3 (suc (suc zero)) h = p2
 below4 P p0 p1 p2 p3 (suc (suc (suc zero))) h = p3
 below4 P p0 p1 p2 p3 (suc (suc (suc (suc n)))) h = absurd (omega arith)
+
+-- one choice in another
+pub if-both : (a b : Bool) (x y : ℕ) → if a (if b x y) y ≡ if (a && b) x y
+unfolding if
+if-both true b x y = refl
+if-both false b x y = refl
+
+pub if-either : (a b : Bool) (x y : ℕ) → if a x (if b x y) ≡ if (a || b) x y
+unfolding if
+if-either true b x y = refl
+if-either false b x y = refl
 
 pub row-few : (wl i : ℕ) {c : ℕ} → c ≡ rowOfCycle wl i → c < 4
 unfolding rowOfCycle

@@ -10,3 +10,4 @@ pub mod Step
 pub mod Whole
 pub mod Inner
 pub mod Short
+pub mod Vectors

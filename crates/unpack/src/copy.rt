@@ -83,7 +83,7 @@ fn copy_runs(
 }
 
 // How far the next write lies from one that is at a place of its cycle.
-fn stride(cl: u32, wl: u32, cycle: u32) -> u32
+pub(crate) fn stride(cl: u32, wl: u32, cycle: u32) -> u32
     requires { ⌜ CycleFits cl wl × (cycle < wl) ⌝ }
     ensures { λ d. ⌜ Stride cl wl cycle d ⌝ }
 {
@@ -94,7 +94,7 @@ fn stride(cl: u32, wl: u32, cycle: u32) -> u32
 }
 
 // The place in its cycle of the write after one.
-fn next_in_cycle(wl: u32, cycle: u32) -> u32
+pub(crate) fn next_in_cycle(wl: u32, cycle: u32) -> u32
     requires { ⌜ (wl ≤ 255) × (cycle < wl) ⌝ }
     ensures { λ d. ⌜ (cycle + 1 ≡ wl → d ≡ 0) × (cycle + 1 < wl → d ≡ cycle + 1) ⌝ }
 {

@@ -121,7 +121,7 @@ fn copy_vectors(
 }
 
 // What waits after k words that end at a byte.
-fn skip(u: Unpacking, k: u32, main: &[u8], end: usize) -> Unpacking
+pub(crate) fn skip(u: Unpacking, k: u32, main: &[u8], end: usize) -> Unpacking
     requires { ⌜ (k ≤ u .due) × (12 ≤ end) × (end ≤ length (now main)) ⌝ }
     ensures { λ rest. ⌜ rest
         ≡ skipped u k (wordAt (now (main .entry)) (end - 12)) (wordAt (now (main .entry)) (end - 8)) (wordAt (now (main .entry)) (end - 4)) ⌝ }
@@ -174,7 +174,7 @@ fn end_vector(size: u32, u: Unpacking, r: Registers, main: &[u8], a: u32, n: u32
 }
 
 // Whether n words from an address on lie inside main memory and have a whole vector after `lead` of them.
-fn has_vectors(main: &[u8], a: u32, lead: u32, n: u32) -> bool
+pub(crate) fn has_vectors(main: &[u8], a: u32, lead: u32, n: u32) -> bool
     requires { ⌜ (lead < 4) × (a ≤ 1048576) × (n ≤ 1024) ⌝ }
     ensures { λ b. ⌜ (b ≡ true → (lead + 4 ≤ n) × (a + 4 * n ≤ length (now (main .entry)))) ⌝ }
 {

@@ -35,7 +35,7 @@ ghost use Rattle.unpack.specs.Inner.{MemoryFits, VectorIn, WordFits, Com
 ghost use Rattle.unpack.specs.Step.{acting, heldVector, wordOf, unpackWord, left, acceptable, takeOf, unfedAcceptable, unfedOf};
 
 // The registers as an UNPACK reads them.
-fn acting_registers(f: Format, u: Unpacking, r: Registers) -> Registers
+pub(crate) fn acting_registers(f: Format, u: Unpacking, r: Registers) -> Registers
     ensures { λ s. ⌜ s ≡ acting f u r ⌝ }
 {
     let col = r.col;

@@ -12,7 +12,7 @@ ghost use Rattle.unpack.specs.Vector.{extended, element, fiveFields, vec
 ghost use Rattle.unpack.specs.Inner.{ElementFits, VectorFits};
 
 // An element of a width as 32 bits.
-fn extend(x: u32, width: u32, usn: bool) -> u32
+pub(crate) fn extend(x: u32, width: u32, usn: bool) -> u32
     requires { ⌜ (1 ≤ width) × (width ≤ 32) × (x < 2 ^ width) ⌝ }
     ensures { λ r. ⌜ r ≡ extended width usn x ⌝ }
 {
@@ -56,7 +56,7 @@ fn extended_at(a: u32, b: u32, c: u32, d: u32, width: u32, usn: bool, at: u32) -
     extend(element_at(a, b, c, d, width, at), width, usn)
 }
 
-fn five_fields(h: u32) -> [u32; 4]
+pub(crate) fn five_fields(h: u32) -> [u32; 4]
     ensures { λ r. ⌜ r ≡ fiveFields h ⌝ }
 {
     [

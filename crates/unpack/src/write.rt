@@ -8,6 +8,7 @@ ghost use mathlib.Core.Bool.{false};
 ghost use mathlib.Core.List.{[], _∷_};
 ghost use Prim.Native.Nat.{_<_, _≤_, _+_, _*_, _%_};
 ghost use lib.ListN.{length, getD};
+ghost use Rattle.fields.specs.Fields.{if};
 ghost use Rattle.unpack.specs.Position.{filling, addressMost, positionOf};
 ghost use Rattle.unpack.specs.Mask.{rowOfCycle, codeRow};
 ghost use Rattle.unpack.specs.Write.{added, rowOf, dataOf, fieldOf, rowsAfter, putField, writtenAt, written, writeVector, registersAt};
@@ -21,34 +22,32 @@ fn add(x: u32, y: u32) -> u32
     std::num::wrapping_add_u32(x, y)
 }
 
+// Without a branch, so that the four fields of a write are computed side by side.
+fn choose(first: bool, x: u32, y: u32) -> u32
+    ensures { λ r. ⌜ r ≡ if first x y ⌝ }
+{
+    if first { x } else { y }
+}
+
 fn next_row(code: u32, mode: u32, x: u32, row: u32) -> u32
     ensures { λ r. ⌜ r ≡ rowOf code mode x row ⌝ }
 {
-    if code != 0 {
-        return row;
-    }
-    if mode == 2 { add(x, row) } else { row }
+    let next = choose(mode == 2, add(x, row), row);
+    choose(code == 0, next, row)
 }
 
 fn data_of(mode: u32, x: u32, row: u32) -> u32
     ensures { λ r. ⌜ r ≡ dataOf mode x row ⌝ }
 {
-    match mode {
-        1 => add(x, row),
-        2 => add(x, row),
-        _ => x,
-    }
+    let sum = add(x, row);
+    choose(mode == 1, sum, choose(mode == 2, sum, x))
 }
 
-fn field(code: u32, mode: u32, x: u32, row: u32, col: u32, old: u32) -> u32
+pub(crate) fn field(code: u32, mode: u32, x: u32, row: u32, col: u32, old: u32) -> u32
     ensures { λ r. ⌜ r ≡ fieldOf code mode x row col old ⌝ }
 {
-    match code {
-        0 => data_of(mode, x, row),
-        1 => row,
-        2 => col,
-        _ => old,
-    }
+    let other = choose(code == 1, row, choose(code == 2, col, old));
+    choose(code == 0, data_of(mode, x, row), other)
 }
 
 fn put_field(data: &mut [u32], at: usize, code: u32, mode: u32, x: u32, row: u32, col: u32)
@@ -58,7 +57,7 @@ fn put_field(data: &mut [u32], at: usize, code: u32, mode: u32, x: u32, row: u32
     data[at] = field(code, mode, x, row, col, data[at]);
 }
 
-fn next_rows(codes: [u32; 4], mode: u32, fields: [u32; 4], row: [u32; 4]) -> [u32; 4]
+pub(crate) fn next_rows(codes: [u32; 4], mode: u32, fields: [u32; 4], row: [u32; 4]) -> [u32; 4]
     ensures { λ r. ⌜ r ≡ rowsAfter codes mode fields row ⌝ }
 {
     [

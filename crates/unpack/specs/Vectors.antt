@@ -1,0 +1,50 @@
+-- Vectors read where they lie in main memory, for proofs. No promise of a public function cites them.
+use Prim.Native.Nat.{ℕ, suc, _+_, _*_, _-_, _/_, _%_, _<_, _≤_}
+use mathlib.Core.Path.{_≡_}
+use mathlib.Core.Bool.{Bool}
+use mathlib.Core.List.{List, [], _∷_}
+use lib.ListN.{length, getD}
+use Rattle.unpack.specs.declared.Format.{Format}
+use Rattle.unpack.specs.declared.Unpacking.{Unpacking}
+use Rattle.unpack.specs.declared.Registers.{Registers}
+use Rattle.unpack.specs.Payload.{elements, vectorBits, value}
+use Rattle.unpack.specs.Vector.{vectorAt}
+use Rattle.unpack.specs.Position.{addressMost, vectorsBefore}
+use Rattle.unpack.specs.Range.{CycleFits, UnpackingFits}
+use Rattle.unpack.specs.Step.{takenWords}
+use Rattle.unpack.specs.Whole.{wordsFrom}
+use Rattle.unpack.specs.Inner.{MemoryFits}
+
+unfoldable pub vectorBytes : Format → ℕ
+vectorBytes f = vectorBits f / 8
+
+-- the vector at an address
+unfoldable pub vectorIn : Format → Bool → List ℕ → ℕ → List ℕ
+vectorIn f usn main at = vectorAt f usn (value (wordsFrom main at 4)) 0
+
+-- vector i, where vector v lies at address a and the others follow it
+unfoldable pub vectorFrom : Format → Bool → List ℕ → ℕ → ℕ → ℕ → List ℕ
+vectorFrom f usn main a v i = vectorIn f usn main (a + vectorBytes f * (i - v))
+
+-- four words of a list
+unfoldable pub quadOf : List ℕ → ℕ → List ℕ
+quadOf xs q = getD xs (4 * q) 0 ∷ getD xs (4 * q + 1) 0 ∷ getD xs (4 * q + 2) 0 ∷ getD xs (4 * q + 3) 0 ∷ []
+
+-- what the writes from `first` to below `last` need, whose vectors are `n` from that of write `first` on; the first of them is no fill
+pub record WritesFit (size address cl wl first last n : ℕ) (mem : List ℕ) : Type 0 where
+  pub cycle : CycleFits cl wl
+  pub memory : MemoryFits size mem
+  pub inside : address ≤ addressMost
+  pub some : first ≤ last
+  pub few : last ≤ 256
+  pub begins : vectorsBefore cl wl (suc first) ≡ suc (vectorsBefore cl wl first)
+  pub lies : vectorsBefore cl wl last - vectorsBefore cl wl first ≤ n
+
+-- what n words need whose first vector begins with them; a word more lies inside main memory
+pub record VectorsFit (size : ℕ) (f : Format) (u : Unpacking) (r : Registers) (a n : ℕ) (main mem : List ℕ) : Type 0 where
+  pub cycle : CycleFits (r .cl) (r .wl)
+  pub memory : MemoryFits size mem
+  pub unpacking : UnpackingFits f (r .cl) (r .wl) u
+  pub fewer : n < u .due
+  pub begins : takenWords f r u % elements f ≡ 0
+  pub lies : a + 4 * n + 4 ≤ length main
