@@ -10,3 +10,4 @@ pub mod LengthLaws
 pub mod WordsLaws
 pub mod CopyLaws
 pub mod ShortLaws
+pub mod VectorsLaws

@@ -92,7 +92,7 @@ after-word f n k i h l = div-lt-iff-lt-mul (bits-some f) .0 (below (32 * k / vec
     below q m = omega arith
 
 -- one below those that are whole with word k lies wholly in the words
-inside-words : (f : Format) (n k i : ℕ) → i < wholeVectors f n k → (i + 1) * vectorBits f ≤ 32 * k
+pub inside-words : (f : Format) (n k i : ℕ) → i < wholeVectors f n k → (i + 1) * vectorBits f ≤ 32 * k
 unfolding wholeVectors
 inside-words f n k i h =
     let m = min-le-right n (32 * k / vectorBits f) in

@@ -207,7 +207,7 @@ four-on : (r : Registers) (u : Unpacking) (i x y z v : ℕ) → takenWords V4x32
 unfolding takenWords
 four-on r u i x y z v e h l = omega arith
 
-word-below : (main : List ℕ) → ((k : ℕ) → getD main k 0 < 256) → (b : ℕ) → wordAt main b < 2 ^ 32
+pub word-below : (main : List ℕ) → ((k : ℕ) → getD main k 0 < 256) → (b : ℕ) → wordAt main b < 2 ^ 32
 unfolding wordAt
 word-below main h b = omega (arith, h b, h (b + 1), h (b + 2), h (b + 3))
 

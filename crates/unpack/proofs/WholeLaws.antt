@@ -60,7 +60,7 @@ same-vector f usn p at q on h =
 -- ---- the payload from bit 32k on, and the three words before it
 
 -- p moved up by s bits is v moved up by k bits, low bits apart: from the same bit on, p and v hold the same
-same-place : (s p low v k b c : ℕ) → 2 ^ s * p ≡ low + 2 ^ k * v → low < 2 ^ k → s + b ≡ k + c → p / 2 ^ b ≡ v / 2 ^ c
+pub same-place : (s p low v k b c : ℕ) → 2 ^ s * p ≡ low + 2 ^ k * v → low < 2 ^ k → s + b ≡ k + c → p / 2 ^ b ≡ v / 2 ^ c
 same-place s p low v k b c e l q =
     sym (mul-div-mul-left p (2 ^ b) (pow-pos s))
     ∙ rw (e, ← pow-add 2 s b, q, pow-add 2 k c, ← div-div-eq-div-mul (low + 2 ^ k * v), add-mul-div-left low v (pow-pos k), div-eq-of-lt l, zero-add)
