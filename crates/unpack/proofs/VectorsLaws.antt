@@ -3,7 +3,7 @@ use mathlib.Core.Path.{_≡_, refl, sym, ap, _∙_}
 use mathlib.Core.Bool.{Bool, true, false}
 use mathlib.Core.List.{List, [], _∷_}
 use Prim.Native.Nat.{ℕ, zero, suc, _+_, _*_, _-_, _/_, _%_, _^_, _<_, _≤_, min}
-use native.Mathlib.Nat.{add-zero, zero-add, mul-assoc, mul-comm, mul-left-comm, add-mul, mul-le-mul-left, mul-le-mul-right, suc-mul, mul-suc, div-one, div-add-mod', zero-mod, min-eq-right, mul-div-cancel, lt-of-mul-lt-mul-right, one-mul}
+use native.Mathlib.Nat.{add-zero, zero-add, mul-assoc, mul-comm, mul-left-comm, add-mul, mul-le-mul-left, mul-le-mul-right, suc-mul, mul-suc, div-one, div-add-mod', zero-mod, min-eq-right, mul-div-cancel, lt-of-mul-lt-mul-right, mul-add, mul-one, sub-zero, mod-lt}
 use native.Mathlib.Omega.{arith}
 use borrow.Author.Tests.{leb-true, leb-false}
 use lib.ListN.{length, getD}
@@ -13,7 +13,7 @@ use Rattle.unpack.specs.declared.Format.{Format}
 use Rattle.unpack.specs.declared.Unpacking.{Unpacking}
 use Rattle.unpack.specs.declared.Registers.{Registers}
 use Rattle.unpack.specs.Payload.{elementBits, elements, vectorBits, payloadWords, value, wholeVectors}
-use Rattle.unpack.specs.Vector.{element, vectorAt}
+use Rattle.unpack.specs.Vector.{element, extended, extendedAt, vectorAt}
 use Rattle.unpack.specs.Position.{vectorsBefore, writesDone}
 use Rattle.unpack.specs.Range.{payloadFor}
 use Rattle.unpack.specs.Write.{Written, lastVector, writesFrom}
@@ -21,9 +21,9 @@ use Rattle.unpack.specs.Step.{takenWords, acting, doneAfter}
 use Rattle.unpack.specs.Inner.{Width, eight, sixteen, whole}
 use Rattle.unpack.specs.Whole.{wordsFrom, takeWords}
 use Rattle.unpack.specs.Vectors.{vectorBytes, vectorIn, vectorFrom}
-use Rattle.unpack.proofs.PayloadLaws.{width-of, bits-most, bits-some, next-mul, inside-words}
+use Rattle.unpack.proofs.PayloadLaws.{width-of, few-elements, bits-most, bits-some, next-mul, inside-words}
 use Rattle.unpack.proofs.CycleLaws.{done-few, done-exactly}
-use Rattle.unpack.proofs.VectorLaws.{Words, none, more, element-word, element-on}
+use Rattle.unpack.proofs.VectorLaws.{Words, none, more, element-word, element-on, width-power, shifted as power}
 use Rattle.unpack.proofs.WholeLaws.{same-vector, same-place, same-writes, words-write}
 use Rattle.unpack.proofs.ShortLaws.{word-below}
 
@@ -250,3 +250,68 @@ module _ (size : ℕ) (f : Format) (u : Unpacking) (r : Registers) (main : List 
       words-write size f u r (wordsFrom main a n) w c (more h1 (more h2 (more h3 (words-below main bytes n a)))) m (rw e l) ek
       ∙ rw (e, ← et, ← ev, ← ef, ← el)
       (same-writes size (u .address) (acting f u r) _ (vectorFrom f (u .usn) main a v) (last - first) first w (λ j b t. same-write j b (omega arith)))
+
+-- ---- what the code reads
+
+pub cut : {w : ℕ} → Width w → (x : ℕ) {y : ℕ} → y ≡ x → (y % (1 * 2 ^ w % 2 ^ 64) ≡ x % 2 ^ w) × (y % (1 * 2 ^ w % 2 ^ 64) < 2 ^ w)
+cut k x e = rw (power k, e) (refl, mod-lt x (width-power k .0))
+
+module _ (f : Format) (usn : Bool) (main : List ℕ) (bytes : (k : ℕ) → getD main k 0 < 256) (at : ℕ) {width : ℕ} (ew : width ≡ elementBits f) where
+  eighths : {w : ℕ} → Width w → (e : ℕ) → (0 + e * w) / 8 ≡ e * (w / 8)
+  eighths eight e = omega arith
+  eighths sixteen e = omega arith
+  eighths whole e = omega arith
+
+  element-in : (e : ℕ) → e < elements f → element (elementBits f) (value (wordsFrom main at 4)) 0 e ≡ wordAt main (at + e * (elementBits f / 8)) % 2 ^ elementBits f
+  unfolding vectorBits
+  element-in e h =
+      let k = width-of f in
+      let b = bits-most f in
+      let m = mul-le-mul-right {m = suc e} {n = elements f} (elementBits f) h in
+      let t : suc e * elementBits f ≡ e * elementBits f + elementBits f = suc-mul e (elementBits f) in
+      element-from main bytes k 4 at 0 e (zero-mod (elementBits f)) (omega arith) ∙ rw (eighths k e)
+
+  pub part-in : (e : ℕ) → e < elements f → (b x : ℕ) → b ≡ at + e * (width / 8) → x ≡ extended width usn (wordAt main b % 2 ^ width)
+      → x ≡ extendedAt f usn (value (wordsFrom main at 4)) 0 e
+  part-in e h b x eb ex = ex ∙ rw (eb, ew, element-in e h)
+
+  pub five-in : {x : ℕ} → x ≡ wordAt main at % 2 ^ width → x ≡ element (elementBits f) (value (wordsFrom main at 4)) 0 0
+  five-in ex =
+      let z : at + 0 * (elementBits f / 8) ≡ at = omega arith in
+      ex ∙ sym (element-in 0 (few-elements f .some) ∙ rw (z, ew))
+
+module _ (f : Format) {width : ℕ} (ew : width ≡ elementBits f) where
+  pub part-known : Width width
+  part-known = rw ew (width-of f)
+
+  pub part-inside : (at n e : ℕ) → at + vectorBytes f + 4 ≤ n → e < elements f → at + e * (width / 8) + 4 ≤ n
+  unfolding vectorBytes vectorBits
+  part-inside at n e l h =
+      let m = mul-le-mul-right {m = e} {n = elements f} (elementBits f) (omega arith) in
+      rw ew (go (width-of f) m l)
+    where
+      go : {w : ℕ} → Width w → e * w ≤ elements f * w → at + elements f * w / 8 + 4 ≤ n → at + e * (w / 8) + 4 ≤ n
+      go eight m l = omega arith
+      go sixteen m l = omega arith
+      go whole m l = omega arith
+
+-- ---- runs of vectors
+
+module _ (f : Format) (a : ℕ) where
+  -- vector j of n lies inside
+  pub run-inside : (n j len : ℕ) {at : ℕ} → a + vectorBytes f * n + 4 ≤ len → j < n → at ≡ a + vectorBytes f * j → at + vectorBytes f + 4 ≤ len
+  run-inside n j len l h e =
+      let m = mul-le-mul-left {m = suc j} (vectorBytes f) h in
+      let s = mul-suc (vectorBytes f) j in
+      omega arith
+
+  pub run-next : (j : ℕ) {at b : ℕ} → b ≡ vectorBytes f → at ≡ a + vectorBytes f * j → at + b ≡ a + vectorBytes f * (j + 1)
+  run-next j e h = let s = mul-add (vectorBytes f) j 1 in let t = mul-one (vectorBytes f) in omega arith
+
+module _ (f : Format) (usn : Bool) (main : List ℕ) (a : ℕ) where
+  pub run-vector : (v i : ℕ) {at : ℕ} → at ≡ a + vectorBytes f * (i - v) → vectorIn f usn main at ≡ vectorFrom f usn main a v i
+  unfolding vectorFrom
+  run-vector v i e = rw e
+
+  pub run-first : (i : ℕ) {at : ℕ} → at ≡ a + vectorBytes f * i → vectorIn f usn main at ≡ vectorFrom f usn main a 0 i
+  run-first i e = run-vector 0 i (rw (sub-zero i) e)

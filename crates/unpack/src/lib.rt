@@ -8,6 +8,7 @@ mod range;
 mod short;
 mod step;
 mod vector;
+mod vectors;
 mod words;
 mod write;
 
