@@ -1,6 +1,6 @@
 -- Quadwords of main memory stored as they are: one after another, up to the wrap, apart and again where writes fill.
 use mathlib.Core.Path.{_≡_, refl, sym, ap, _∙_}
-use mathlib.Core.Logic.{⊎-elim}
+use mathlib.Core.Logic.{_⊎_, inl, inr, ⊎-elim}
 use mathlib.Core.Bool.{Bool, true, false}
 use mathlib.Core.List.{List, [], _∷_}
 use Prim.Native.Nat.{ℕ, zero, suc, _+_, _*_, _-_, _/_, _%_, _^_, _<_, _≤_}
@@ -28,7 +28,7 @@ module _ (place : ℕ → ℕ) (words : ℕ → List ℕ) where
   unfolding storesFrom
   stores-none to i mem h = let k : to - i ≡ 0 = omega arith in rw k
 
-  stores-join : (m n i : ℕ) (mem : List ℕ) → storesFrom place words n (i + m) (storesFrom place words m i mem) ≡ storesFrom place words (m + n) i mem
+  pub stores-join : (m n i : ℕ) (mem : List ℕ) → storesFrom place words n (i + m) (storesFrom place words m i mem) ≡ storesFrom place words (m + n) i mem
   unfolding storesFrom
   stores-join zero n i mem =
       let j : i + 0 ≡ i = omega arith in
@@ -44,6 +44,19 @@ pub same-stores : (place on : ℕ → ℕ) (words us : ℕ → List ℕ) (n i : 
 unfolding storesFrom
 same-stores place on words us zero i mem p q = refl
 same-stores place on words us (suc n) i mem p q = rw (p i, q i) (same-stores place on words us n (suc i) _ p q)
+
+-- the same under other numbers
+pub moved-stores : (place on : ℕ → ℕ) (words us : ℕ → List ℕ) (n i k : ℕ) (mem : List ℕ) → ((j : ℕ) → j < n → place (i + j) ≡ on (k + j))
+    → ((j : ℕ) → words (i + j) ≡ us (k + j))
+    → storesFrom place words n i mem ≡ storesFrom on us n k mem
+unfolding storesFrom
+moved-stores place on words us zero i k mem p q = refl
+moved-stores place on words us (suc n) i k mem p q =
+    let p0 : place i ≡ on k = ap place (omega arith) ∙ p 0 (omega arith) ∙ ap on (omega arith) in
+    let q0 : words i ≡ us k = ap words (omega arith) ∙ q 0 ∙ ap us (omega arith) in
+    rw (p0, q0)
+    (moved-stores place on words us n (suc i) (suc k) _ (λ j l. ap place (omega arith) ∙ p (suc j) (omega arith) ∙ ap on (omega arith))
+    (λ j. ap words (omega arith) ∙ q (suc j) ∙ ap us (omega arith)))
 
 -- ---- words one after another
 
@@ -96,6 +109,12 @@ module _ (main : List ℕ) where
       ∙ run-copied place words n (a + 16) (suc i) (suc q) _ (λ j l. ap place (omega arith) ∙ h (suc j) (omega arith) ∙ omega arith)
       (λ j. ap words (omega arith) ∙ g (suc j) ∙ ap (quadFrom main) (omega arith)))
 
+-- the places up to the wrap follow one another
+pub places-follow : (size address i q run : ℕ) → q ≡ (address + i) % size → q + run ≤ size → (j : ℕ) → j < run → (address + (i + j)) % size ≡ q + j
+places-follow size address i q run eq l j s =
+    let b : address + (i + j) ≡ address + i + j = omega arith in
+    rw (b, ← mod-add-mod (address + i) size j, ← eq) (mod-eq-of-lt (omega arith))
+
 -- one run more, up to the wrap at most
 pub run-more : (main : List ℕ) (size address first a to i at run q : ℕ) (mem : List ℕ) {m : List ℕ} → i + run ≤ to → at + 16 * first ≡ a + 16 * i
     → q ≡ (address + i) % size → q + run ≤ size → m ≡ copyWords main (4 * run) at (4 * q) mem
@@ -105,12 +124,7 @@ run-more main size address first a to i at run q mem h ea eq l em =
     let place : ℕ → ℕ = λ (i : ℕ). (address + i) % size in
     let words : ℕ → List ℕ = λ (i : ℕ). quadFrom main (a + 16 * suc i - 16 * suc first) in
     let k : run + (to - (i + run)) ≡ to - i = omega arith in
-    rw (em, run-copied main place words run at i q mem follows (λ j. ap (quadFrom main) (omega arith))) (stores-join place words run (to - (i + run)) i mem ∙ rw k)
-  where
-    follows : (j : ℕ) → j < run → (address + (i + j)) % size ≡ q + j
-    follows j s =
-        let b : address + (i + j) ≡ address + i + j = omega arith in
-        rw (b, ← mod-add-mod (address + i) size j, ← eq) (mod-eq-of-lt (omega arith))
+    rw (em, run-copied main place words run at i q mem (places-follow size address i q run eq l) (λ j. ap (quadFrom main) (omega arith))) (stores-join place words run (to - (i + run)) i mem ∙ rw k)
 
 pub four-read : (main : List ℕ) (at : ℕ) {x y z w : ℕ} → x ≡ wordAt main at → y ≡ wordAt main (at + 4) → z ≡ wordAt main (at + 8) → w ≡ wordAt main (at + 12)
     → x ∷ y ∷ z ∷ w ∷ [] ≡ quadFrom main at
@@ -184,20 +198,31 @@ module _ (wl i : ℕ) (h : 1 ≤ wl) where
           next-plain size a cl q c (ltb-false cl wl e) (eq ∙ plain-place size a cl wl i e) ec f ∙ sym (plain-place size a cl wl (i + 1) e)
       go true e = next-filling size a cl q c (ltb-true cl wl e) (eq ∙ filling-place size a cl wl i e) f ∙ sym (filling-place size a cl wl (i + 1) e)
 
-  -- where the next write's vector lies
+  -- the next write takes one vector more, or fills
+  next-either : (cl c at s : ℕ) {b : ℕ} → c ≡ (i + 1) % wl → (c < cl → b ≡ at + s) × (cl ≤ c → b ≡ at)
+      → ((vectorsBefore cl wl (suc (suc i)) ≡ suc (vectorsBefore cl wl (suc i))) × (b ≡ at + s))
+      ⊎ ((vectorsBefore cl wl (suc (suc i)) ≡ vectorsBefore cl wl (suc i)) × (b ≡ at))
+  next-either cl c at s {b} ec f = go (fills cl wl (i + 1)) refl
+    where
+      go : (t : Bool) → fills cl wl (i + 1) ≡ t
+          → ((vectorsBefore cl wl (suc (suc i)) ≡ suc (vectorsBefore cl wl (suc i))) × (b ≡ at + s))
+          ⊎ ((vectorsBefore cl wl (suc (suc i)) ≡ vectorsBefore cl wl (suc i)) × (b ≡ at))
+      go true q = inr (rw (add-one, add-one) at (fill-next cl wl h (i + 1) q), f .1 (rw ec (fill-late cl wl h (i + 1) q)))
+      go false q = inl (rw (add-one, add-one) at (payload-next cl wl h (i + 1) q), f .0 (rw ec (payload-early cl wl h (i + 1) q)))
+
+  -- where its vector lies
   pub next-vector : (cl a at v c : ℕ) {b : ℕ} → at + v ≡ a + 16 * vectorsBefore cl wl (suc i) → c ≡ (i + 1) % wl
       → (c < cl → b ≡ at + 16) × (cl ≤ c → b ≡ at) → b + v ≡ a + 16 * vectorsBefore cl wl (suc (i + 1))
-  next-vector cl a at v c {b} e ec f = go (fills cl wl (i + 1)) refl
-    where
-      go : (t : Bool) → fills cl wl (i + 1) ≡ t → b + v ≡ a + 16 * vectorsBefore cl wl (suc (i + 1))
-      go true q =
-          let n = rw (add-one, add-one) at (fill-next cl wl h (i + 1) q) in
-          let y = f .1 (rw ec (fill-late cl wl h (i + 1) q)) in
-          rw (add-one) (omega arith)
-      go false q =
-          let n = rw (add-one, add-one) at (payload-next cl wl h (i + 1) q) in
-          let y = f .0 (rw ec (payload-early cl wl h (i + 1) q)) in
-          rw (add-one) (omega arith)
+  next-vector cl a at v c e ec f =
+      rw add-one
+      (⊎-elim (λ p. let q = p .0 in let y = p .1 in omega arith) (λ p. let q = p .0 in let y = p .1 in omega arith) (next-either cl c at 16 ec f))
+
+  -- which of the vectors read it is
+  pub next-index : (cl at v c : ℕ) {b : ℕ} → at + v ≡ vectorsBefore cl wl (suc i) → c ≡ (i + 1) % wl → (c < cl → b ≡ at + 1) × (cl ≤ c → b ≡ at)
+      → b + v ≡ vectorsBefore cl wl (suc (i + 1))
+  next-index cl at v c e ec f =
+      rw add-one
+      (⊎-elim (λ p. let q = p .0 in let y = p .1 in omega arith) (λ p. let q = p .0 in let y = p .1 in omega arith) (next-either cl c at 1 ec f))
 
 -- ---- what the functions need
 

@@ -1,30 +1,36 @@
 -- Whole vectors read where they lie in main memory: `vectors-write`, what words of main memory from a vector's start on write.
 use mathlib.Core.Path.{_≡_, refl, sym, ap, _∙_}
-use mathlib.Core.Bool.{Bool, true, false}
+use mathlib.Core.Bool.{Bool, true, false, _&&_}
 use mathlib.Core.List.{List, [], _∷_}
 use Prim.Native.Nat.{ℕ, zero, suc, _+_, _*_, _-_, _/_, _%_, _^_, _<_, _≤_, min}
-use native.Mathlib.Nat.{add-zero, zero-add, mul-assoc, mul-comm, mul-left-comm, add-mul, mul-le-mul-left, mul-le-mul-right, suc-mul, mul-suc, div-one, div-add-mod', zero-mod, min-eq-right, mul-div-cancel, lt-of-mul-lt-mul-right, mul-add, mul-one, sub-zero, mod-lt}
+use native.Mathlib.Nat.{add-zero, zero-add, mul-assoc, mul-comm, mul-left-comm, add-mul, mul-le-mul-left, mul-le-mul-right, suc-mul, mul-suc, div-one, div-add-mod', zero-mod, min-eq-right, mul-div-cancel, lt-of-mul-lt-mul-right, mul-add, mul-one, sub-zero, mul-zero, mod-lt}
 use native.Mathlib.Omega.{arith}
 use borrow.Author.Tests.{leb-true, leb-false}
 use lib.ListN.{length, getD}
 use lib.Dec.{leb}
+use lib.Seq.{getD-set-other}
+use Rattle.fields.specs.Fields.{if}
 use Rattle.fields.specs.Memory.{wordAt}
 use Rattle.unpack.specs.declared.Format.{Format}
 use Rattle.unpack.specs.declared.Unpacking.{Unpacking}
 use Rattle.unpack.specs.declared.Registers.{Registers}
 use Rattle.unpack.specs.Payload.{elementBits, elements, vectorBits, payloadWords, value, wholeVectors}
 use Rattle.unpack.specs.Vector.{element, extended, extendedAt, vectorAt}
-use Rattle.unpack.specs.Position.{vectorsBefore, writesDone}
+use Rattle.unpack.specs.Position.{filling, fills, vectorsBefore, writesDone, positionOf}
+use Rattle.unpack.specs.Mask.{rowOfCycle}
 use Rattle.unpack.specs.Range.{payloadFor}
-use Rattle.unpack.specs.Write.{Written, lastVector, writesFrom}
+use Rattle.unpack.specs.Write.{fieldOf, putField, writtenAt, Written, written, writeVector, registersAt, lastVector, writeAt, writesFrom}
 use Rattle.unpack.specs.Step.{takenWords, acting, doneAfter}
 use Rattle.unpack.specs.Inner.{Width, eight, sixteen, whole}
-use Rattle.unpack.specs.Whole.{wordsFrom, takeWords}
-use Rattle.unpack.specs.Vectors.{vectorBytes, vectorIn, vectorFrom}
+use Rattle.unpack.specs.Whole.{wordsFrom, takeWords, storeQuadword}
+use Rattle.unpack.specs.Short.{storesFrom}
+use Rattle.unpack.specs.Vectors.{vectorBytes, vectorIn, vectorFrom, quadOf, vectorOf, fieldsAfter, WritesFit}
 use Rattle.unpack.proofs.PayloadLaws.{width-of, few-elements, bits-most, bits-some, next-mul, inside-words}
-use Rattle.unpack.proofs.CycleLaws.{done-few, done-exactly}
+use Rattle.unpack.proofs.CycleLaws.{done-few, done-exactly, vectors-few}
+use Rattle.unpack.proofs.WriteLaws.{filling-at}
 use Rattle.unpack.proofs.VectorLaws.{Words, none, more, element-word, element-on, width-power, shifted as power}
 use Rattle.unpack.proofs.WholeLaws.{same-vector, same-place, same-writes, words-write}
+use Rattle.unpack.proofs.CopyLaws.{stores-join, moved-stores, places-follow}
 use Rattle.unpack.proofs.ShortLaws.{word-below}
 
 -- ---- an element of words of main memory is one at its byte
@@ -315,3 +321,107 @@ module _ (f : Format) (usn : Bool) (main : List ℕ) (a : ℕ) where
 
   pub run-first : (i : ℕ) {at : ℕ} → at ≡ a + vectorBytes f * i → vectorIn f usn main at ≡ vectorFrom f usn main a 0 i
   run-first i e = run-vector 0 i (rw (sub-zero i) e)
+
+  -- one run more, up to the wrap at most
+  pub runs-more : (size address first to i at run q : ℕ) (mem : List ℕ) {m : List ℕ} → first ≤ i → i + run ≤ to → at ≡ a + vectorBytes f * (i - first)
+      → q ≡ (address + i) % size → q + run ≤ size → m ≡ storesFrom (λ (j : ℕ). q + j) (vectorFrom f usn main at 0) run 0 mem
+      → storesFrom (λ (i : ℕ). (address + i) % size) (vectorFrom f usn main a first) (to - (i + run)) (i + run) m
+      ≡ storesFrom (λ (i : ℕ). (address + i) % size) (vectorFrom f usn main a first) (to - i) i mem
+  unfolding vectorFrom
+  runs-more size address first to i at run q mem h few ea eq l em =
+      let place : ℕ → ℕ = λ (i : ℕ). (address + i) % size in
+      let k : run + (to - (i + run)) ≡ to - i = omega arith in
+      rw (em, ← moved-stores place (λ (j : ℕ). q + j) (vectorFrom f usn main a first) (vectorFrom f usn main at 0) run i 0 mem (λ j s. places-follow size address i q run eq l j s ∙ omega arith) along)
+      (stores-join place (vectorFrom f usn main a first) run (to - (i + run)) i mem ∙ rw k)
+    where
+      along : (j : ℕ) → vectorFrom f usn main a first (i + j) ≡ vectorFrom f usn main at 0 (0 + j)
+      along j =
+          let b : i + j - first ≡ i - first + j = omega arith in
+          let z : 0 + j - 0 ≡ j = omega arith in
+          let g = mul-add (vectorBytes f) (i - first) j in
+          rw (b, z, g) (ap (vectorIn f usn main) (omega arith))
+
+-- a run's end
+pub runs-inside : (f : Format) (a first last i run len : ℕ) {at : ℕ} → a + vectorBytes f * (last - first) + 4 ≤ len → first ≤ i → i + run ≤ last
+    → at ≡ a + vectorBytes f * (i - first) → at + vectorBytes f * run + 4 ≤ len
+runs-inside f a first last i run len l h few e =
+    let m = mul-le-mul-left {m = i - first + run} {n = last - first} (vectorBytes f) (omega arith) in
+    let g = mul-add (vectorBytes f) (i - first) run in
+    omega arith
+
+pub runs-first : (f : Format) (a first : ℕ) → a ≡ a + vectorBytes f * (first - first)
+runs-first f a first =
+    let z : first - first ≡ 0 = omega arith in
+    rw (z, mul-zero, add-zero)
+
+pub runs-next : (f : Format) (a first i run : ℕ) {at b : ℕ} → b ≡ vectorBytes f → first ≤ i → at ≡ a + vectorBytes f * (i - first)
+    → at + b * run ≡ a + vectorBytes f * (i + run - first)
+runs-next f a first i run eb h e =
+    let g = mul-add (vectorBytes f) (i - first) run in
+    let k : i + run - first ≡ i - first + run = omega arith in
+    rw (k, eb, e, g) (omega arith)
+
+-- ---- writes of vectors read
+
+-- the fields of a quadword are written side by side
+pub side-by-side : (m fields row codes : List ℕ) (q col mode : ℕ) {old new s : List ℕ} → old ≡ quadOf m q → new ≡ fieldsAfter codes mode fields row col old
+    → s ≡ storeQuadword m q new → s ≡ writtenAt m q fields row col codes mode
+unfolding writtenAt putField storeQuadword fieldsAfter quadOf
+side-by-side m fields row codes q col mode eo en es =
+    rw (es, en, eo, getD-set-other {A = ℕ} _ (4 * q) (4 * q + 1) _ 0 (λ e. omega arith), getD-set-other {A = ℕ} _ (4 * q + 1) (4 * q + 2) _ 0 (λ e. omega arith), getD-set-other {A = ℕ} _ (4 * q) (4 * q + 2) _ 0 (λ e. omega arith), getD-set-other {A = ℕ} _ (4 * q + 2) (4 * q + 3) _ 0 (λ e. omega arith), getD-set-other {A = ℕ} _ (4 * q + 1) (4 * q + 3) _ 0 (λ e. omega arith), getD-set-other {A = ℕ} _ (4 * q) (4 * q + 3) _ 0 (λ e. omega arith))
+
+pub new-fields : (codes fields row old : List ℕ) (mode col : ℕ) {a b x y : ℕ}
+    → a ≡ fieldOf (getD codes 0 0) mode (getD fields 0 0) (getD row 0 0) col (getD old 0 0)
+    → b ≡ fieldOf (getD codes 1 0) mode (getD fields 1 0) (getD row 1 0) col (getD old 1 0)
+    → x ≡ fieldOf (getD codes 2 0) mode (getD fields 2 0) (getD row 2 0) col (getD old 2 0)
+    → y ≡ fieldOf (getD codes 3 0) mode (getD fields 3 0) (getD row 3 0) col (getD old 3 0)
+    → a ∷ b ∷ x ∷ y ∷ [] ≡ fieldsAfter codes mode fields row col old
+unfolding fieldsAfter
+new-fields codes fields row old mode col ea eb ex ey = rw (ea, eb, ex, ey)
+
+-- MODE and the mask's row of a write, by its place in its cycle
+pub mode-in : (r : Registers) (i : ℕ) {cycle m : ℕ} → cycle ≡ i % r .wl → m ≡ if (filling (r .cl) (r .wl) && leb (r .cl) cycle) 0 (r .mode)
+    → m ≡ registersAt r i .mode
+unfolding registersAt fills
+mode-in r i e h = rw e at h
+
+pub row-in : (wl i : ℕ) {cycle c : ℕ} → cycle ≡ i % wl → c ≡ min cycle 3 → c ≡ rowOfCycle wl i
+unfolding rowOfCycle
+row-in wl i e h = rw e at h
+
+-- the vector of a write
+module _ {size address cl wl first last : ℕ} {mem : List ℕ} (x : WritesFit size address cl wl first last mem) {i : ℕ} (index : ℕ) (l : i < last) (e : index + suc (vectorsBefore cl wl first) ≡ vectorsBefore cl wl (suc i)) where
+  pub index-few : index ≤ 255
+  index-few =
+      let v = vectors-few cl wl (suc i) in
+      let f = x .few in
+      omega arith
+
+  pub index-words : (xs : List ℕ) {words : List ℕ} → words ≡ quadOf xs index → words ≡ vectorOf xs cl wl first i
+  unfolding vectorOf
+  index-words xs h = let q : vectorsBefore cl wl (suc i) - suc (vectorsBefore cl wl first) ≡ index = omega arith in rw q h
+
+pub index-first : {size address cl wl first last : ℕ} {mem : List ℕ} → WritesFit size address cl wl first last mem
+    → 0 + suc (vectorsBefore cl wl first) ≡ vectorsBefore cl wl (suc first)
+index-first x = let b = x .begins in omega arith
+
+pub index-written : (size a : ℕ) (r : Registers) (xs : List ℕ) (v i index : ℕ) (w : Written) {fields : List ℕ} → fields ≡ quadOf xs index
+    → index + suc v ≡ vectorsBefore (r .cl) (r .wl) (suc i)
+    → writeVector size a (registersAt r i) i fields w ≡ writeAt size a r (λ (k : ℕ). quadOf xs (k - v)) i w
+index-written size a r xs v i index w ef e =
+    let q : index + v - v ≡ index = omega arith in
+    let y : quadOf xs (index + v - v) ≡ quadOf xs index = rw q in
+    rw (ef, ← y) (filling-at size a r (λ (k : ℕ). quadOf xs (k - v)) i {j = index + v} (omega arith) w)
+
+pub writes-again : {size address cl wl first last : ℕ} {mem m : List ℕ} → WritesFit size address cl wl first last mem → length m ≡ length mem
+    → WritesFit size address cl wl first last m
+writes-again x e =
+    record {
+      cycle = x .cycle;
+      memory = record { some = x .memory .some; most = x .memory .most; long = e ∙ x .memory .long };
+      inside = x .inside;
+      some = x .some;
+      small = x .small;
+      few = x .few;
+      begins = x .begins;
+    }

@@ -10,6 +10,7 @@ use Rattle.unpack.specs.declared.Registers.{Registers}
 use Rattle.unpack.specs.Payload.{elements, vectorBits, value}
 use Rattle.unpack.specs.Vector.{vectorAt}
 use Rattle.unpack.specs.Position.{addressMost, vectorsBefore}
+use Rattle.unpack.specs.Write.{fieldOf}
 use Rattle.unpack.specs.Range.{CycleFits, UnpackingFits}
 use Rattle.unpack.specs.Step.{takenWords}
 use Rattle.unpack.specs.Whole.{wordsFrom}
@@ -30,17 +31,34 @@ vectorFrom f usn main a v i = vectorIn f usn main (a + vectorBytes f * (i - v))
 unfoldable pub quadOf : List ℕ → ℕ → List ℕ
 quadOf xs q = getD xs (4 * q) 0 ∷ getD xs (4 * q + 1) 0 ∷ getD xs (4 * q + 2) 0 ∷ getD xs (4 * q + 3) 0 ∷ []
 
--- what the writes from `first` to below `last` need, whose vectors are `n` from that of write `first` on; the first of them is no fill
-pub record WritesFit (size address cl wl first last n : ℕ) (mem : List ℕ) : Type 0 where
+-- the four fields that a write leaves, from the old ones
+unfoldable pub fieldsAfter : List ℕ → ℕ → List ℕ → List ℕ → ℕ → List ℕ → List ℕ
+fieldsAfter codes mode fields row col old = new 0 ∷ new 1 ∷ new 2 ∷ new 3 ∷ []
+  where
+    new : ℕ → ℕ
+    new f = fieldOf (getD codes f 0) mode (getD fields f 0) (getD row f 0) col (getD old f 0)
+
+-- the vector of write j among vectors read, of which that of write `first` is the first; a fill has that of the write before it
+unfoldable pub vectorOf : List ℕ → ℕ → ℕ → ℕ → ℕ → List ℕ
+vectorOf xs cl wl first j = quadOf xs (vectorsBefore cl wl (suc j) - suc (vectorsBefore cl wl first))
+
+-- what the writes from `first` to below `last` need; the first of them is no fill
+pub record WritesFit (size address cl wl first last : ℕ) (mem : List ℕ) : Type 0 where
   pub cycle : CycleFits cl wl
   pub memory : MemoryFits size mem
   pub inside : address ≤ addressMost
   pub some : first ≤ last
+  pub small : first ≤ 255
   pub few : last ≤ 256
   pub begins : vectorsBefore cl wl (suc first) ≡ suc (vectorsBefore cl wl first)
-  pub lies : vectorsBefore cl wl last - vectorsBefore cl wl first ≤ n
 
--- what n words need whose first vector begins with them; a word more lies inside main memory
+-- n vectors from address a on, those of these writes, lie inside main memory
+pub record ReadsFit (f : Format) (cl wl first last n a : ℕ) (main : List ℕ) : Type 0 where
+  pub taken : vectorsBefore cl wl last - vectorsBefore cl wl first ≤ n
+  pub most : n ≤ 256
+  pub lies : a + vectorBytes f * n + 4 ≤ length main
+
+-- what n words need with the first of which a vector begins; a word more lies inside main memory
 pub record VectorsFit (size : ℕ) (f : Format) (u : Unpacking) (r : Registers) (a n : ℕ) (main mem : List ℕ) : Type 0 where
   pub cycle : CycleFits (r .cl) (r .wl)
   pub memory : MemoryFits size mem

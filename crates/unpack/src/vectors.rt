@@ -38,7 +38,7 @@ ghost use Rattle.unpack.specs.Write.{fieldOf, rowsAfter, writtenAt, writ
 ghost use Rattle.unpack.specs.Whole.{storeQuadword, wordsFrom, takeWords};
 ghost use Rattle.unpack.specs.Inner.{Width, MemoryFits};
 ghost use Rattle.unpack.specs.Short.{storesFrom};
-ghost use Rattle.unpack.specs.Vectors.{vectorBytes, vectorIn, vectorFrom, quadOf, WritesFit, VectorsFit};
+ghost use Rattle.unpack.specs.Vectors.{vectorBytes, vectorIn, vectorFrom, quadOf, vectorOf, fieldsAfter, WritesFit, ReadsFit, VectorsFit};
 
 // The element at a byte.
 fn element_inside(main: &[u8], at: usize, width: u32) -> u32
@@ -107,4 +107,171 @@ fn store_run(f: Format, usn: bool, main: &[u8], a: usize, n: usize, data: &mut [
         at += bytes;
         j += 1;
     }
+}
+
+// Vector after vector, up to the wrap and on from it.
+fn store_runs(
+    size: u32,
+    address: u32,
+    first: u32,
+    last: u32,
+    f: Format,
+    usn: bool,
+    main: &[u8],
+    a: usize,
+    data: &mut [u32],
+)
+    requires { ⌜ MemoryFits size (now «data») × (address ≤ addressMost) × (last ≤ 256) × (first ≤ last)
+        × (a + vectorBytes f * (last - first) + 4 ≤ length (now main)) ⌝ }
+    ensures { λ _. ⌜ now («data» .exit)
+        ≡ storesFrom (λ (i : ℕ). (address + i) % size) (vectorFrom f usn (now (main .entry)) a first) (last - first) first (now («data» .entry)) ⌝ }
+{
+    let bytes = vector_bytes(f);
+    let mut i = first;
+    let mut at = a;
+    while i < last {
+        let quad = wrapped(size, address + i);
+        let run = smaller(last - i, size - quad);
+        store_run(f, usn, main, at, run as usize, data, quad as usize);
+        at += bytes * run as usize;
+        i += run;
+    }
+}
+
+fn quad_of(xs: &[u32], quad: usize) -> [u32; 4]
+    requires { ⌜ 4 * quad + 4 ≤ length (now xs) ⌝ }
+    ensures { λ r. ⌜ r ≡ quadOf (now (xs .entry)) quad ⌝ }
+{
+    let at = 4 * quad;
+    [xs[at], xs[at + 1], xs[at + 2], xs[at + 3]]
+}
+
+// Which vector a write at a place of its cycle has, from that of the write before it: a fill has the same.
+fn next_index(cl: u32, cycle: u32, index: usize) -> usize
+    requires { ⌜ index ≤ 256 ⌝ }
+    ensures { λ b. ⌜ (cycle < cl → b ≡ index + 1) × (cl ≤ cycle → b ≡ index) ⌝ }
+{
+    if cycle < cl { index + 1 } else { index }
+}
+
+// Write after write of vectors read, as they are, their places advanced.
+fn store_apart(
+    size: u32,
+    address: u32,
+    r: Registers,
+    first: u32,
+    last: u32,
+    xs: &[u32],
+    data: &mut [u32],
+)
+    requires { ⌜ WritesFit size address (r .cl) (r .wl) first last (now «data») × (1024 ≤ length (now xs)) ⌝ }
+    ensures { λ _. ⌜ now («data» .exit)
+        ≡ storesFrom (positionOf size address (r .cl) (r .wl)) (vectorOf (now (xs .entry)) (r .cl) (r .wl) first) (last - first) first
+        (now («data» .entry)) ⌝ }
+{
+    let mut quad = place(size, address, r.cl, r.wl, first);
+    let mut cycle = place_in_cycle(r.wl, first);
+    let mut index: usize = 0;
+    let mut i = first;
+    while i < last {
+        let words = quad_of(xs, index);
+        store_quadword(data, quad as usize, words);
+        let next = wrapped(size, quad + stride(r.cl, r.wl, cycle));
+        quad = next;
+        let turn = next_in_cycle(r.wl, cycle);
+        cycle = turn;
+        let from = next_index(r.cl, turn, index);
+        index = from;
+        i += 1;
+    }
+}
+
+// MODE of a write at a place of its cycle: a fill is without.
+fn mode_in(cl: u32, wl: u32, mode: u32, cycle: u32) -> u32
+    ensures { λ m. ⌜ m ≡ if (filling cl wl && leb cl cycle) 0 mode ⌝ }
+{
+    if cl < wl {
+        if cl <= cycle {
+            return 0;
+        }
+    }
+    mode
+}
+
+fn next_fields(
+    codes: [u32; 4],
+    mode: u32,
+    fields: [u32; 4],
+    row: [u32; 4],
+    col: u32,
+    old: [u32; 4],
+) -> [u32; 4]
+    ensures { λ r. ⌜ r ≡ fieldsAfter codes mode fields row col old ⌝ }
+{
+    [
+        field(codes[0], mode, fields[0], row[0], col, old[0]),
+        field(codes[1], mode, fields[1], row[1], col, old[1]),
+        field(codes[2], mode, fields[2], row[2], col, old[2]),
+        field(codes[3], mode, fields[3], row[3], col, old[3]),
+    ]
+}
+
+// The four fields of a quadword, written side by side.
+fn write_fields(
+    data: &mut [u32],
+    quad: usize,
+    fields: [u32; 4],
+    row: [u32; 4],
+    col: u32,
+    codes: [u32; 4],
+    mode: u32,
+) -> [u32; 4]
+    requires { ⌜ 4 * quad + 4 ≤ length (now «data») ⌝ }
+    ensures { λ r. ⌜ (r ≡ rowsAfter codes mode fields row) × (now («data» .exit) ≡ writtenAt (now («data» .entry)) quad fields row col codes mode) ⌝ }
+{
+    let old = quad_of(data, quad);
+    let words = next_fields(codes, mode, fields, row, col, old);
+    store_quadword(data, quad, words);
+    next_rows(codes, mode, fields, row)
+}
+
+// Write after write of vectors read, with the mask's codes and MODE, their places advanced.
+fn write_apart(
+    size: u32,
+    address: u32,
+    r: Registers,
+    first: u32,
+    last: u32,
+    xs: &[u32],
+    row: [u32; 4],
+    data: &mut [u32],
+) -> [u32; 4]
+    requires { ⌜ WritesFit size address (r .cl) (r .wl) first last (now «data») × (1024 ≤ length (now xs)) ⌝ }
+    ensures { λ rows. ⌜ written rows (now («data» .exit))
+        ≡ writesFrom size address r (λ (v : ℕ). quadOf (now (xs .entry)) (v - vectorsBefore (r .cl) (r .wl) first)) (last - first) first
+        (written row (now («data» .entry))) ⌝ }
+{
+    let codes = unfold_mask(r.mask);
+    let col = r.col;
+    let mut rows = row;
+    let mut quad = place(size, address, r.cl, r.wl, first);
+    let mut cycle = place_in_cycle(r.wl, first);
+    let mut index: usize = 0;
+    let mut i = first;
+    while i < last {
+        let fields = quad_of(xs, index);
+        let c = smaller(cycle, 3) as usize;
+        let chosen = codes[c];
+        let mode = mode_in(r.cl, r.wl, r.mode, cycle);
+        let after = write_fields(data, quad as usize, fields, rows, col[c], chosen, mode);
+        rows = after;
+        let next = wrapped(size, quad + stride(r.cl, r.wl, cycle));
+        quad = next;
+        let turn = next_in_cycle(r.wl, cycle);
+        cycle = turn;
+        let from = next_index(r.cl, turn, index);
+        index = from;
+        i += 1;
+    }
+    rows
 }

@@ -1,0 +1,152 @@
+use mathlib.Core.Path.{_≡_, refl, sym, ap, _∙_}
+use Prim.Native.Nat.{ℕ, suc, _+_, _*_, _-_, _%_, _≤_, _<_}
+use native.Mathlib.Nat.{mod-lt}
+use native.Mathlib.Numerals.{add-one}
+use native.Mathlib.Omega.{arith}
+use lib.ListN.{length}
+use borrow.Author.Needs.{needs}
+use Rattle.unpack.specs.Position.{vectorsBefore, positionOf}
+use Rattle.unpack.specs.Short.{storesFrom}
+use Rattle.unpack.specs.Vectors.{vectorOf}
+use Rattle.unpack.proofs.WriteLaws.{position-inside}
+use Rattle.unpack.proofs.CopyLaws.{next-cycle, next-place, next-index, stores-more, stores-none}
+use Rattle.unpack.proofs.VectorsLaws.{index-few, index-words, index-first}
+use Rattle.unpack.proofs.vectors.store_apart.Statement.{statement}
+use Rattle.unpack.proofs.vectors.store_apart.Tie as tie
+
+abbrev Inv-loop : tie.InvT-loop
+Inv-loop size address r first last xs data₀ quad₀ cycle₀ index₀ i₀ «data» quad cycle index i =
+    record {
+      sizes : length «data» ≡ length data₀;
+      place : quad ≡ positionOf size address (r .cl) (r .wl) i;
+      below : quad < size;
+      turn : cycle ≡ i % r .wl;
+      short : cycle < r .wl;
+      vector : index + suc (vectorsBefore (r .cl) (r .wl) first) ≡ vectorsBefore (r .cl) (r .wl) (suc i);
+      same :
+          storesFrom (positionOf size address (r .cl) (r .wl)) (vectorOf xs (r .cl) (r .wl) first) (last - i) i «data»
+          ≡ storesFrom (positionOf size address (r .cl) (r .wl)) (vectorOf xs (r .cl) (r .wl) first) (last - first) first data₀;
+    }
+
+abbrev μ-loop : tie.MeasureT-loop
+μ-loop size address r first last xs data₀ quad₀ cycle₀ index₀ i₀ «data» quad cycle index i = last - i
+
+place-requires : tie.Need-place-requires Inv-loop μ-loop
+place-requires c κs =
+    let p = c .before .before .pre .0 in
+    (p .cycle, p .memory .some, p .inside, p .small)
+
+loop-holds : tie.Need-loop-holds Inv-loop μ-loop
+loop-holds c =
+    let s = c .before .before .before .before in
+    let p = s .pre .0 in
+    let e = c .before .place .ensures in
+    let t = c .place-in-cycle .ensures in
+    let q = position-inside (s .args .size) (s .args .address) (s .args .r .cl) (s .args .r .wl) (s .args .first) (p .memory .some) in
+    record {
+      sizes = refl;
+      place = e;
+      below = rw e q;
+      turn = t;
+      short = rw t (mod-lt _ (p .cycle .some));
+      vector = index-first p;
+      same = refl;
+    }
+
+quad-of-requires : tie.Need-quad-of-requires Inv-loop μ-loop
+quad-of-requires c κs =
+    let l = c .before in
+    let s = l .before .before .before .before .before in
+    let f = index-few (s .pre .0) _ (c .loop-test .taken) (l .loop .inv .vector) in
+    let x = s .pre .1 in
+    omega arith
+
+store-quadword-requires : tie.Need-store-quadword-requires Inv-loop μ-loop
+store-quadword-requires c κs =
+    let l = c .before .before .before in
+    let q = l .loop .inv in
+    let m = l .before .before .before .before .before .pre .0 .memory .long in
+    let s = q .sizes in
+    let b = q .below in
+    omega arith
+
+stride-requires : tie.Need-stride-requires Inv-loop μ-loop
+stride-requires c κs =
+    let l = c .before .before .before .before .before .before in
+    (l .before .before .before .before .before .pre .0 .cycle, l .loop .inv .short)
+
+add-wrapped : tie.Need-add-wrapped Inv-loop μ-loop
+add-wrapped c =
+    let l = c .before .before .before .before .before .before .before in
+    let m = l .before .before .before .before .before .pre .0 .memory .most in
+    let b = l .loop .inv .below in
+    let s = c .stride .ensures .few in
+    omega arith
+
+wrapped-requires : tie.Need-wrapped-requires Inv-loop μ-loop
+wrapped-requires c κs =
+    let l = c .before .before .before .before .before .before .before in
+    l .before .before .before .before .before .pre .0 .memory .some
+
+next-in-cycle-requires : tie.Need-next-in-cycle-requires Inv-loop μ-loop
+next-in-cycle-requires c κs =
+    let l = c .before .before .before .before .before .before .before .before in
+    (l .before .before .before .before .before .pre .0 .cycle .wide, l .loop .inv .short)
+
+next-index-requires : tie.Need-next-index-requires Inv-loop μ-loop
+next-index-requires c κs =
+    let t = c .before .before .before .before .before .before .before .before in
+    let l = t .before in
+    let f = index-few (l .before .before .before .before .before .pre .0) _ (t .loop-test .taken) (l .loop .inv .vector) in
+    omega arith
+
+loop-again : tie.Need-loop-again Inv-loop μ-loop
+loop-again c =
+    let n = c .before in
+    let w = n .before in
+    let d = w .before in
+    let s = d .before .before .before in
+    let r = s .before .before in
+    let t = r .before in
+    let l = t .before in
+    let p = l .before .before .before .before .before .pre .0 in
+    let q = l .loop .inv in
+    let e = w .wrapped .ensures in
+    let y = next-cycle _ _ (p .cycle .some) _ (q .turn) (n .next-in-cycle .ensures) in
+    record {
+      sizes = s .store-quadword .kept .0 ∙ q .sizes;
+      place = e ∙ next-place _ _ (p .cycle .some) _ _ _ _ _ (q .place) (q .turn) (d .stride .ensures);
+      below = rw e (mod-lt _ (p .memory .some));
+      turn = y;
+      short = rw y (mod-lt _ (p .cycle .some));
+      vector = next-index _ _ (p .cycle .some) _ _ _ _ (q .vector) y (c .next-index .ensures);
+      same =
+          stores-more _ _ _ _ _ _ (t .loop-test .taken) (q .place) (index-words p _ (t .loop-test .taken) (q .vector) _ (r .quad-of .ensures)) (s .store-quadword .ensures)
+          ∙ q .same;
+    }
+
+returns : tie.Need-returns Inv-loop μ-loop
+returns c = sym (stores-none _ _ _ _ _ (c .loop-test .left)) ∙ c .before .loop .inv .same
+
+pub store-apart-spec : {M : Type 1} → statement M
+store-apart-spec =
+    tie.close
+    (tie.spec
+    Inv-loop
+    μ-loop
+    place-requires
+    (λ c κs. c .before .before .before .pre .0 .cycle .some)
+    loop-holds
+    quad-of-requires
+    (λ c. search needs)
+    store-quadword-requires
+    stride-requires
+    add-wrapped
+    wrapped-requires
+    next-in-cycle-requires
+    next-index-requires
+    (λ c. search needs)
+    (λ c. search needs)
+    loop-again
+    (λ c. c .before .loop .inv .sizes)
+    returns)
