@@ -134,7 +134,7 @@ four-read main at ex ey ez ew = rw (ex, ey, ez, ew)
 -- ---- places
 
 -- CL = WL: quadwords one after another
-even-place : (size a cl : ℕ) (i : ℕ) → (a + i) % size ≡ positionOf size a cl cl i
+pub even-place : (size a cl : ℕ) (i : ℕ) → (a + i) % size ≡ positionOf size a cl cl i
 even-place size a cl i =
     let d = div-add-mod' i cl in
     let e : a + i / cl * cl + i % cl ≡ a + i = omega arith in

@@ -11,3 +11,4 @@ pub mod WordsLaws
 pub mod CopyLaws
 pub mod ShortLaws
 pub mod VectorsLaws
+pub mod ReadLaws

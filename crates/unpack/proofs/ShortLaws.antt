@@ -261,7 +261,7 @@ short-writes size u r vec n i row mem c p h =
     stored-writes size (u .address) (acting V4x32 u r) (kept-mode u r p) (clear-mask u r c) vec n i (written row mem) h
 
 -- where CL is not 0, each write has a vector
-last-is : (cl wl : ℕ) → 1 ≤ cl → 1 ≤ wl → (vec : ℕ → List ℕ) (j : ℕ) → lastVector vec (vectorsBefore cl wl (suc j)) ≡ vec (vectorsBefore cl wl (suc j) - 1)
+pub last-is : (cl wl : ℕ) → 1 ≤ cl → 1 ≤ wl → (vec : ℕ → List ℕ) (j : ℕ) → lastVector vec (vectorsBefore cl wl (suc j)) ≡ vec (vectorsBefore cl wl (suc j) - 1)
 last-is cl wl c w vec j = go (vectorsBefore cl wl (suc j)) (vectors-some cl wl c w (suc j) (omega arith))
   where
     go : (v : ℕ) → 1 ≤ v → lastVector vec v ≡ vec (v - 1)
@@ -424,7 +424,7 @@ vectors-after {u = u} {ended} {r} main a n {v} {first} {last} bytes x e some few
 
 -- ---- what waits
 
-held-on : (main : List ℕ) (m a : ℕ) (u : Unpacking)
+pub held-on : (main : List ℕ) (m a : ℕ) (u : Unpacking)
     → heldAfter u (wordsFrom main a (m + 3)) ≡ skipped u (m + 3) (wordAt main (a + 4 * m)) (wordAt main (a + 4 * m + 4)) (wordAt main (a + 4 * m + 8))
 unfolding heldAfter wordsFrom
 held-on main zero a u =
@@ -451,7 +451,7 @@ copied-words {u = u} main a n h c e =
     let t = rw (k, b1, b2, b3) at (held-on main (n - 3) a u) in
     record { leaves = λ row g. rw (c .leaves row g, t, e) }
 
-words-append : (main : List ℕ) (m n a : ℕ) → wordsFrom main a (m + n) ≡ wordsFrom main a m ++ wordsFrom main (a + 4 * m) n
+pub words-append : (main : List ℕ) (m n a : ℕ) → wordsFrom main a (m + n) ≡ wordsFrom main a m ++ wordsFrom main (a + 4 * m) n
 unfolding wordsFrom
 words-append main zero n a =
     let e : 0 + n ≡ n = omega arith in
@@ -476,7 +476,7 @@ copy-join {size} {u} {r} {mem} main a k n h x y =
     }
 
 -- what the words of a vector's end leave waiting
-after-words : (main : List ℕ) (n a : ℕ) (u : Unpacking) → n ≤ u .due
+pub after-words : (main : List ℕ) (n a : ℕ) (u : Unpacking) → n ≤ u .due
     → (heldAfter u (wordsFrom main a n) .address ≡ u .address) × (heldAfter u (wordsFrom main a n) .count ≡ u .count)
     × (heldAfter u (wordsFrom main a n) .masked ≡ u .masked)
     × (heldAfter u (wordsFrom main a n) .due + n ≡ u .due)

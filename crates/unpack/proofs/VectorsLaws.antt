@@ -48,6 +48,43 @@ unfolding wordsFrom
 words-length main zero a = refl
 words-length main (suc n) a = ap suc (words-length main n (a + 4))
 
+lane : {w : ℕ} → Width w → (b : ℕ) → b % w ≡ 0 → (b % 32 + w ≤ 32) × (b % 32 % w ≡ 0) × (b + w ≤ 32 * (b / 32) + 32)
+lane eight b h = (omega arith, omega arith, omega arith)
+lane sixteen b h = (omega arith, omega arith, omega arith)
+lane whole b h = (omega arith, omega arith, omega arith)
+
+multiple : {w : ℕ} → Width w → (at e : ℕ) → at % w ≡ 0 → (at + e * w) % w ≡ 0
+multiple eight at e h = omega arith
+multiple sixteen at e h = omega arith
+multiple whole at e h = omega arith
+
+-- a vector's bytes
+pub scaled : {w : ℕ} → Width w → (m i : ℕ) → m * w / 8 * i ≡ i * (m * w) / 8
+scaled {w} k m i = rw (← mul-assoc i m w) (go k)
+  where
+    by : (b : ℕ) → m * b * i ≡ i * m * b
+    by b = mul-comm (m * b) i ∙ sym (mul-assoc i m b)
+
+    go : {w : ℕ} → Width w → m * w / 8 * i ≡ i * m * w / 8
+    go eight =
+        let c : m * 8 / 8 ≡ m * 1 = omega arith in
+        rw (c, by 1) (omega arith)
+    go sixteen =
+        let c : m * 16 / 8 ≡ m * 2 = omega arith in
+        rw (c, by 2) (omega arith)
+    go whole =
+        let c : m * 32 / 8 ≡ m * 4 = omega arith in
+        rw (c, by 4) (omega arith)
+
+-- where its elements lie
+places : {w : ℕ} → Width w → (m i e : ℕ) → (i * (m * w) % w ≡ 0) × ((i * (m * w) + e * w) / 8 ≡ i * (m * w) / 8 + (0 + e * w) / 8)
+places {w} k m i e = rw (← mul-assoc i m w) (go k (i * m))
+  where
+    go : {w : ℕ} → Width w → (j : ℕ) → (j * w % w ≡ 0) × ((j * w + e * w) / 8 ≡ j * w / 8 + (0 + e * w) / 8)
+    go eight j = (omega arith, omega arith)
+    go sixteen j = (omega arith, omega arith)
+    go whole j = (omega arith, omega arith)
+
 module _ (main : List ℕ) (bytes : (k : ℕ) → getD main k 0 < 256) where
   pub words-below : (n a : ℕ) → Words (wordsFrom main a n)
   unfolding wordsFrom
@@ -83,16 +120,6 @@ module _ (main : List ℕ) (bytes : (k : ℕ) → getD main k 0 < 256) where
       let d : a + 0 / 8 ≡ a = omega arith in
       rw (e, d, div-one)
 
-  lane : {w : ℕ} → Width w → (b : ℕ) → b % w ≡ 0 → (b % 32 + w ≤ 32) × (b % 32 % w ≡ 0) × (b + w ≤ 32 * (b / 32) + 32)
-  lane eight b h = (omega arith, omega arith, omega arith)
-  lane sixteen b h = (omega arith, omega arith, omega arith)
-  lane whole b h = (omega arith, omega arith, omega arith)
-
-  multiple : {w : ℕ} → Width w → (at e : ℕ) → at % w ≡ 0 → (at + e * w) % w ≡ 0
-  multiple eight at e h = omega arith
-  multiple sixteen at e h = omega arith
-  multiple whole at e h = omega arith
-
   pub element-from : {w : ℕ} → Width w → (n a at e : ℕ) → at % w ≡ 0 → at + e * w + w ≤ 32 * n
       → element w (value (wordsFrom main a n)) at e ≡ wordAt main (a + (at + e * w) / 8) % 2 ^ w
   element-from {w} k n a at e h l =
@@ -110,33 +137,6 @@ module _ (main : List ℕ) (bytes : (k : ℕ) → getD main k 0 < 256) where
       inside whole b h l = omega arith
 
   -- ---- so a vector of them is the one at its byte
-
-  -- a vector's bytes
-  scaled : {w : ℕ} → Width w → (m i : ℕ) → m * w / 8 * i ≡ i * (m * w) / 8
-  scaled {w} k m i = rw (← mul-assoc i m w) (go k)
-    where
-      by : (b : ℕ) → m * b * i ≡ i * m * b
-      by b = mul-comm (m * b) i ∙ sym (mul-assoc i m b)
-
-      go : {w : ℕ} → Width w → m * w / 8 * i ≡ i * m * w / 8
-      go eight =
-          let c : m * 8 / 8 ≡ m * 1 = omega arith in
-          rw (c, by 1) (omega arith)
-      go sixteen =
-          let c : m * 16 / 8 ≡ m * 2 = omega arith in
-          rw (c, by 2) (omega arith)
-      go whole =
-          let c : m * 32 / 8 ≡ m * 4 = omega arith in
-          rw (c, by 4) (omega arith)
-
-  -- where its elements lie
-  places : {w : ℕ} → Width w → (m i e : ℕ) → (i * (m * w) % w ≡ 0) × ((i * (m * w) + e * w) / 8 ≡ i * (m * w) / 8 + (0 + e * w) / 8)
-  places {w} k m i e = rw (← mul-assoc i m w) (go k (i * m))
-    where
-      go : {w : ℕ} → Width w → (j : ℕ) → (j * w % w ≡ 0) × ((j * w + e * w) / 8 ≡ j * w / 8 + (0 + e * w) / 8)
-      go eight j = (omega arith, omega arith)
-      go sixteen j = (omega arith, omega arith)
-      go whole j = (omega arith, omega arith)
 
   pub vector-from : (f : Format) (usn : Bool) (n a i : ℕ) → (i + 1) * vectorBits f ≤ 32 * n
       → vectorAt f usn (value (wordsFrom main a n)) (i * vectorBits f) ≡ vectorIn f usn main (a + vectorBytes f * i)

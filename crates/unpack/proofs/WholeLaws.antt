@@ -204,7 +204,7 @@ module _ (size a : ℕ) (r : Registers) where
       let j = writes-join vec (mid - from) (to - mid) from w in
       rw (e, q) at j
 
-whole-mono : (f : Format) (n k l : ℕ) → k ≤ l → wholeVectors f n k ≤ wholeVectors f n l
+pub whole-mono : (f : Format) (n k l : ℕ) → k ≤ l → wholeVectors f n k ≤ wholeVectors f n l
 unfolding wholeVectors
 whole-mono f n k l h =
     let m = div-mul-le-self (32 * k) (vectorBits f) in

@@ -275,3 +275,110 @@ fn write_apart(
     }
     rows
 }
+
+// Whether writes store their data as it is and leave ROW, whatever their place in the cycle.
+fn is_bare(r: Registers) -> bool
+    ensures { λ b. ⌜ b ≡ (eqb (r .mode) 0 && eqb (r .mask) 0) ⌝ }
+{
+    if r.mode != 0 {
+        return false;
+    }
+    r.mask == 0
+}
+
+// The writes from number `first` to below `last`, whose n vectors are read before them.
+fn write_read(
+    size: u32,
+    address: u32,
+    r: Registers,
+    first: u32,
+    last: u32,
+    n: u32,
+    f: Format,
+    usn: bool,
+    main: &[u8],
+    a: usize,
+    row: [u32; 4],
+    data: &mut [u32],
+) -> [u32; 4]
+    requires { ⌜ WritesFit size address (r .cl) (r .wl) first last (now «data») × ReadsFit f (r .cl) (r .wl) first last n a (now main) ⌝ }
+    ensures { λ rows. ⌜ written rows (now («data» .exit))
+        ≡ writesFrom size address r (vectorFrom f usn (now (main .entry)) a (vectorsBefore (r .cl) (r .wl) first)) (last - first) first
+        (written row (now («data» .entry))) ⌝ }
+{
+    let mut xs = [0u32; 1024];
+    store_run(f, usn, main, a, n as usize, &mut xs, 0);
+    if is_bare(r) {
+        store_apart(size, address, r, first, last, &xs, data);
+        return row;
+    }
+    write_apart(size, address, r, first, last, &xs, row, data)
+}
+
+// The writes from number `first` to below `last`, whose n vectors lie in main memory from byte a on.
+fn write_all(
+    size: u32,
+    address: u32,
+    r: Registers,
+    first: u32,
+    last: u32,
+    n: u32,
+    f: Format,
+    usn: bool,
+    main: &[u8],
+    a: usize,
+    row: [u32; 4],
+    data: &mut [u32],
+) -> [u32; 4]
+    requires { ⌜ WritesFit size address (r .cl) (r .wl) first last (now «data») × ReadsFit f (r .cl) (r .wl) first last n a (now main) ⌝ }
+    ensures { λ rows. ⌜ written rows (now («data» .exit))
+        ≡ writesFrom size address r (vectorFrom f usn (now (main .entry)) a (vectorsBefore (r .cl) (r .wl) first)) (last - first) first
+        (written row (now («data» .entry))) ⌝ }
+{
+    if r.cl == r.wl {
+        if is_bare(r) {
+            store_runs(size, address, first, last, f, usn, main, a, data);
+            return row;
+        }
+    }
+    write_read(size, address, r, first, last, n, f, usn, main, a, row, data)
+}
+
+// The next n payload words, with the first of which a vector begins.
+pub(crate) fn take_vectors(
+    size: u32,
+    f: Format,
+    u: Unpacking,
+    r: Registers,
+    main: &[u8],
+    a: usize,
+    n: u32,
+    row: [u32; 4],
+    data: &mut [u32],
+) -> [u32; 4]
+    requires { ⌜ VectorsFit size f u r a n (now main) (now «data») ⌝ }
+    ensures { λ rows. ⌜ written rows (now («data» .exit))
+        ≡ takeWords size f u r (wordsFrom (now (main .entry)) a n) (written row (now («data» .entry))) ⌝ }
+{
+    let vectors = vectors_before(r.cl, r.wl, u.count);
+    let k = payload_words(f, vectors) - u.due;
+    let from = whole_vectors(f, vectors, k);
+    let to = whole_vectors(f, vectors, k + n);
+    let first = writes_done(r.cl, r.wl, from, u.count);
+    let last = writes_done(r.cl, r.wl, to, u.count);
+    let s = acting_registers(f, u, r);
+    write_all(
+        size,
+        u.address,
+        s,
+        first,
+        last,
+        to - from,
+        f,
+        u.usn,
+        main,
+        a,
+        row,
+        data,
+    )
+}

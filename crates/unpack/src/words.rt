@@ -5,15 +5,20 @@ use super::Registers;
 use super::Unpacking;
 use super::WordsTaken;
 use super::cycle::vectors_before;
+use super::payload::elements_of;
 use super::payload::payload_words;
 use super::payload::whole_vectors;
 use super::short::goes_short;
+use super::short::has_vectors;
+use super::short::skip;
 use super::short::take_all;
 use super::step::acceptable_input;
 use super::step::write_completed;
+use super::vectors::take_vectors;
 use fields::word_at;
 ghost use mathlib.Core.Path.{_≡_};
-ghost use Prim.Native.Nat.{_-_, _≤_, _<_};
+ghost use Prim.Native.Nat.{_+_, _-_, _%_, _≤_, _<_};
+ghost use Rattle.unpack.specs.Payload.{elements};
 ghost use Rattle.unpack.specs.Write.{written};
 ghost use Rattle.unpack.specs.Range.{CycleFits, UnpackingFits};
 ghost use Rattle.unpack.specs.Inner.{MemoryFits};
@@ -83,6 +88,48 @@ fn take_each(
     }
 }
 
+// The words up to one with which a vector begins, after k words: as many words as a vector has elements hold whole vectors.
+fn words_before(f: Format, k: u32) -> u32
+    ensures { λ r. ⌜ ((k + r) % elements f ≡ 0) × (r < 4) ⌝ }
+{
+    let n = elements_of(f);
+    let over = k % n;
+    if over == 0 { 0 } else { n - over }
+}
+
+// The next n payload words, where all was tested: from a word on with which a vector begins, all vectors at once.
+fn take_most(
+    size: u32,
+    f: Format,
+    u: Unpacking,
+    r: Registers,
+    main: &[u8],
+    a: u32,
+    n: u32,
+    row: [u32; 4],
+    data: &mut [u32],
+) -> WordsTaken
+    requires { ⌜ CycleFits (r .cl) (r .wl) × UnpackingFits f (r .cl) (r .wl) u × MemoryFits size (now «data») × (a ≤ 1048576) × (n < u .due) ⌝ }
+    ensures { λ s. ⌜ wordsLeft s (now («data» .exit))
+        ≡ takenBy size f u r (wordsFrom (now (main .entry)) a n) (written row (now («data» .entry))) ⌝ }
+{
+    let vectors = vectors_before(r.cl, r.wl, u.count);
+    let lead = words_before(f, payload_words(f, vectors) - u.due);
+    if has_vectors(main, a, lead, n + 1) {
+        let begun = take_each(size, f, u, r, main, a, lead, row, data);
+        let rest = begun.rest;
+        let rows = begun.row;
+        let at = a as usize + 4 * lead as usize;
+        let next = take_vectors(size, f, rest, r, main, at, n - lead, rows, data);
+        return WordsTaken {
+            accepted: true,
+            row: next,
+            rest: skip(rest, n - lead, main, a as usize + 4 * n as usize),
+        };
+    }
+    take_each(size, f, u, r, main, a, n, row, data)
+}
+
 // The next n payload words of an UNPACK, not its last, which lie in main memory from an address on, on any input at all.
 pub fn take_words(
     size: u32,
@@ -106,7 +153,7 @@ pub fn take_words(
                 rest,
             };
         }
-        take_each(size, f, u, r, main, a, n, row, data)
+        take_most(size, f, u, r, main, a, n, row, data)
     } else {
         WordsTaken {
             accepted: false,

@@ -27,8 +27,8 @@ returns c =
     rw (sym (i .before .words-acceptable .ensures) ∙ i .if1 .taken)
     (words-as _ (goes-short _ _ _ (sym (g .goes-short .ensures) ∙ t .if2 .taken)) (y .take-all .ensures) (search (needs, s .good .1 .1 .1 .1 .1 .1 .1 .0)))
 
-take-each-requires : tie.Need-take-each-requires
-take-each-requires c κs =
+take-most-requires : tie.Need-take-most-requires
+take-most-requires c κs =
     let i = c .before .before .before in
     let w = words-accepted _ _ _ _ _ _ _ (sym (i .before .words-acceptable .ensures) ∙ i .if1 .taken) in
     let a = acceptable-fits _ _ _ _ _ (w .accepted) in
@@ -39,7 +39,7 @@ unfolding takeWordsOf if
 returns-2 c =
     let t = c .before .before in
     let i = t .before .before .before .before in
-    rw (sym (i .before .words-acceptable .ensures) ∙ i .if1 .taken) (t .take-each .ensures)
+    rw (sym (i .before .words-acceptable .ensures) ∙ i .if1 .taken) (t .take-most .ensures)
 
 returns-3 : tie.Need-returns-3
 unfolding takeWordsOf if
@@ -54,7 +54,7 @@ take-words-spec =
     take-all-requires
     (λ c. search needs)
     returns
-    take-each-requires
+    take-most-requires
     (λ c. search needs)
     returns-2
     (λ c. search needs)
