@@ -23,6 +23,7 @@ use super::write::field;
 use super::write::next_rows;
 use super::write::place;
 use super::write::store_quadword;
+use super::write::store_words;
 use super::write::wrapped;
 ghost use mathlib.Core.Path.{_≡_};
 ghost use mathlib.Core.Bool.{_&&_};
@@ -32,6 +33,7 @@ ghost use lib.ListN.{length, getD};
 ghost use lib.Dec.{eqb, leb};
 ghost use Rattle.fields.specs.Fields.{if};
 ghost use Rattle.fields.specs.Memory.{wordAt};
+ghost use Rattle.unpack.specs.Payload.{elementBits, elements};
 ghost use Rattle.unpack.specs.Vector.{extended};
 ghost use Rattle.unpack.specs.Position.{addressMost, filling, positionOf, vectorsBefore};
 ghost use Rattle.unpack.specs.Write.{fieldOf, rowsAfter, writtenAt, written, lastVector, writesFrom};
@@ -55,36 +57,43 @@ fn extended_inside(main: &[u8], at: usize, width: u32, usn: bool) -> u32
     extend(element_inside(main, at, width), width, usn)
 }
 
-// The vector at a byte, stored at a quadword as it is.
-fn store_vector(f: Format, usn: bool, main: &[u8], at: usize, data: &mut [u32], quad: usize)
-    requires { ⌜ (at + vectorBytes f + 4 ≤ length (now main)) × (4 * quad + 4 ≤ length (now «data»)) ⌝ }
+// The vector at a byte, of n elements of a width, stored at a quadword as it is.
+fn store_vector(
+    f: Format,
+    n: u32,
+    width: u32,
+    usn: bool,
+    main: &[u8],
+    at: usize,
+    data: &mut [u32],
+    quad: usize,
+)
+    requires { ⌜ (at + vectorBytes f + 4 ≤ length (now main)) × (4 * quad + 4 ≤ length (now «data»)) × (width ≡ elementBits f) × (n ≡ elements f) ⌝ }
     ensures { λ _. ⌜ now («data» .exit) ≡ storeQuadword (now («data» .entry)) quad (vectorIn f usn (now (main .entry)) at) ⌝ }
 {
-    let width = element_bits(f);
     if is_five(f) {
         let fields = five_fields(element_inside(main, at, width));
         store_quadword(data, quad, fields);
         return;
     }
-    let n = elements_of(f);
     let size = (width / 8) as usize;
     let x = extended_inside(main, at, width, usn);
     if n == 1 {
-        store_quadword(data, quad, [x, x, x, x]);
+        store_words(data, quad, x, x, x, x);
         return;
     }
     let y = extended_inside(main, at + size, width, usn);
     if n == 2 {
-        store_quadword(data, quad, [x, y, x, y]);
+        store_words(data, quad, x, y, x, y);
         return;
     }
     let z = extended_inside(main, at + 2 * size, width, usn);
     if n == 3 {
-        store_quadword(data, quad, [x, y, z, 0]);
+        store_words(data, quad, x, y, z, 0);
         return;
     }
     let w = extended_inside(main, at + 3 * size, width, usn);
-    store_quadword(data, quad, [x, y, z, w]);
+    store_words(data, quad, x, y, z, w);
 }
 
 fn vector_bytes(f: Format) -> usize
@@ -100,10 +109,12 @@ fn store_run(f: Format, usn: bool, main: &[u8], a: usize, n: usize, data: &mut [
         ≡ storesFrom (λ (i : ℕ). to + i) (vectorFrom f usn (now (main .entry)) a 0) n 0 (now («data» .entry)) ⌝ }
 {
     let bytes = vector_bytes(f);
+    let width = element_bits(f);
+    let elements = elements_of(f);
     let mut at = a;
     let mut j: usize = 0;
     while j < n {
-        store_vector(f, usn, main, at, data, to + j);
+        store_vector(f, elements, width, usn, main, at, data, to + j);
         at += bytes;
         j += 1;
     }

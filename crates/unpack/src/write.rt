@@ -89,15 +89,22 @@ fn put_fields(
 }
 
 // Four words stored at a quadword.
+pub(crate) fn store_words(data: &mut [u32], quad: usize, x: u32, y: u32, z: u32, w: u32)
+    requires { ⌜ 4 * quad + 4 ≤ length (now «data») ⌝ }
+    ensures { λ _. ⌜ now («data» .exit) ≡ storeQuadword (now («data» .entry)) quad (x ∷ y ∷ z ∷ w ∷ []) ⌝ }
+{
+    let at = 4 * quad;
+    data[at] = x;
+    data[at + 1] = y;
+    data[at + 2] = z;
+    data[at + 3] = w;
+}
+
 pub(crate) fn store_quadword(data: &mut [u32], quad: usize, words: [u32; 4])
     requires { ⌜ 4 * quad + 4 ≤ length (now «data») ⌝ }
     ensures { λ _. ⌜ now («data» .exit) ≡ storeQuadword (now («data» .entry)) quad words ⌝ }
 {
-    let at = 4 * quad;
-    data[at] = words[0];
-    data[at + 1] = words[1];
-    data[at + 2] = words[2];
-    data[at + 3] = words[3];
+    store_words(data, quad, words[0], words[1], words[2], words[3]);
 }
 
 // Whether a write stores its data as it is and leaves ROW.

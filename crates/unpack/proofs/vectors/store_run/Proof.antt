@@ -12,7 +12,7 @@ use Rattle.unpack.proofs.vectors.store_run.Statement.{statement}
 use Rattle.unpack.proofs.vectors.store_run.Tie as tie
 
 abbrev Inv-loop : tie.InvT-loop
-Inv-loop f usn main a n data₀ to bytes at₀ j₀ «data» at j =
+Inv-loop f usn main a n data₀ to bytes width elements at₀ j₀ «data» at j =
     record {
       sizes : length «data» ≡ length data₀;
       few : j ≤ n;
@@ -23,7 +23,7 @@ Inv-loop f usn main a n data₀ to bytes at₀ j₀ «data» at j =
     }
 
 abbrev μ-loop : tie.MeasureT-loop
-μ-loop f usn main a n data₀ to bytes at₀ j₀ «data» at j = n - j
+μ-loop f usn main a n data₀ to bytes width elements at₀ j₀ «data» at j = n - j
 
 loop-holds : tie.Need-loop-holds Inv-loop μ-loop
 loop-holds c = record { sizes = refl; few = omega arith; byte = rw (mul-zero, add-zero); same = rw sub-zero }
@@ -32,16 +32,17 @@ store-vector-requires : tie.Need-store-vector-requires Inv-loop μ-loop
 store-vector-requires c κs =
     let t = c .before in
     let l = t .before in
-    let s = l .before .before .before .before in
+    let w = l .before .before in
+    let s = w .before .before .before .before in
     let i = l .loop .inv in
     let e = i .sizes in
-    (run-inside (s .args .f) (s .args .a) _ _ _ (s .pre .0) (t .loop-test .taken) (i .byte), (let h = t .loop-test .taken in let p = s .pre .1 in omega arith))
+    (run-inside (s .args .f) (s .args .a) _ _ _ (s .pre .0) (t .loop-test .taken) (i .byte), (let h = t .loop-test .taken in let p = s .pre .1 in omega arith), w .element-bits .ensures, l .before .elements-of .ensures)
 
 add-at : tie.Need-add-at Inv-loop μ-loop
 add-at c =
     let t = c .before .before .before .before in
     let l = t .before in
-    let s = l .before .before .before .before in
+    let s = l .before .before .before .before .before .before in
     let r = run-inside (s .args .f) (s .args .a) _ _ _ (s .pre .0) (t .loop-test .taken) (l .loop .inv .byte) in
     search (needs, r)
 
@@ -52,9 +53,9 @@ loop-again c =
     let l = t .before in
     let i = l .loop .inv in
     record {
-      sizes = v .store-vector .kept .1 .1 .1 .1 .0 ∙ i .sizes;
+      sizes = v .store-vector .kept .1 .1 .1 .1 .1 .1 .0 ∙ i .sizes;
       few = omega (arith, t .loop-test .taken);
-      byte = run-next _ _ _ (l .before .vector-bytes .ensures) (i .byte);
+      byte = run-next _ _ _ (l .before .before .before .vector-bytes .ensures) (i .byte);
       same = stores-more _ _ _ _ _ _ (t .loop-test .taken) refl (run-first _ _ _ _ _ (i .byte)) (v .store-vector .ensures) ∙ i .same;
     }
 
@@ -67,6 +68,8 @@ store-run-spec =
     (tie.spec
     Inv-loop
     μ-loop
+    (λ c κs. search needs)
+    (λ c κs. search needs)
     (λ c κs. search needs)
     loop-holds
     (λ c. search needs)
