@@ -64,3 +64,8 @@ module _ (size : ℕ) (f : Format) (r : Registers) (main : List ℕ) where
       → takenBy size f u r (wordsFrom main a (n - k)) w ≡ record { accepted = true; row = w .row; mem = w .mem; rest = u }
   unfolding takenBy wordsFrom takeWords heldAfter
   words-none u a k n w h = let z : n - k ≡ 0 = omega arith in rw z
+
+  pub words-zero : (u : Unpacking) (a : ℕ) (w : Written) {n : ℕ} → n ≡ 0
+      → record { accepted = true; row = w .row; mem = w .mem; rest = u } ≡ takenBy size f u r (wordsFrom main a n) w
+  unfolding takenBy wordsFrom takeWords heldAfter
+  words-zero u a w e = rw e

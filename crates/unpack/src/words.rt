@@ -97,6 +97,32 @@ fn words_before(f: Format, k: u32) -> u32
     if over == 0 { 0 } else { n - over }
 }
 
+// The next n payload words, often none, where all was tested.
+fn take_few(
+    size: u32,
+    f: Format,
+    u: Unpacking,
+    r: Registers,
+    main: &[u8],
+    a: u32,
+    n: u32,
+    row: [u32; 4],
+    data: &mut [u32],
+) -> WordsTaken
+    requires { ⌜ CycleFits (r .cl) (r .wl) × UnpackingFits f (r .cl) (r .wl) u × MemoryFits size (now «data») × (a ≤ 1048576) × (n < u .due) ⌝ }
+    ensures { λ s. ⌜ wordsLeft s (now («data» .exit))
+        ≡ takenBy size f u r (wordsFrom (now (main .entry)) a n) (written row (now («data» .entry))) ⌝ }
+{
+    if n == 0 {
+        return WordsTaken {
+            accepted: true,
+            row,
+            rest: u,
+        };
+    }
+    take_each(size, f, u, r, main, a, n, row, data)
+}
+
 // The next n payload words, where all was tested: from a word on with which a vector begins, all vectors at once.
 fn take_most(
     size: u32,
@@ -116,7 +142,7 @@ fn take_most(
     let vectors = vectors_before(r.cl, r.wl, u.count);
     let lead = words_before(f, payload_words(f, vectors) - u.due);
     if has_vectors(main, a, lead, n + 1) {
-        let begun = take_each(size, f, u, r, main, a, lead, row, data);
+        let begun = take_few(size, f, u, r, main, a, lead, row, data);
         let rest = begun.rest;
         let rows = begun.row;
         let at = a as usize + 4 * lead as usize;

@@ -28,8 +28,8 @@ has-vectors-requires c κs =
     let d = p .1 .most in
     (c .words-before .ensures .1, p .3, omega arith)
 
-take-each-requires : tie.Need-take-each-requires
-take-each-requires c κs =
+take-few-requires : tie.Need-take-few-requires
+take-few-requires c κs =
     let t = c .before in
     let p = t .before .before .before .before .before .before .before .before .pre in
     let h = t .before .has-vectors .ensures (t .if1 .taken) in
@@ -53,13 +53,13 @@ take-vectors-requires c κs =
     let a = s .args in
     let h = t .before .has-vectors .ensures (t .if1 .taken) in
     let l = b .words-before .ensures in
-    let f = begun-fits (a .size) (a .f) (a .u) (a .r) _ (a .a) _ (a .n) _ (e .take-each .ensures) (p .1) (omega arith) in
-    let d = begun-due (a .size) (a .f) (a .u) (a .r) _ (a .a) _ (a .n) _ (e .take-each .ensures) (p .1) (omega arith) in
-    let k = begun-taken (a .size) (a .f) (a .u) (a .r) _ (a .a) _ (a .n) _ (e .take-each .ensures) (p .1) (omega arith) in
+    let f = begun-fits (a .size) (a .f) (a .u) (a .r) _ (a .a) _ (a .n) _ (e .take-few .ensures) (p .1) (omega arith) in
+    let d = begun-due (a .size) (a .f) (a .u) (a .r) _ (a .a) _ (a .n) _ (e .take-few .ensures) (p .1) (omega arith) in
+    let k = begun-taken (a .size) (a .f) (a .u) (a .r) _ (a .a) _ (a .n) _ (e .take-few .ensures) (p .1) (omega arith) in
     let q = taken-is (a .f) (a .r) (a .u) (v .vectors-before .ensures) (w .payload-words .ensures) in
     record {
       cycle = p .0;
-      memory = record { some = p .2 .some; most = p .2 .most; long = e .take-each .kept .1 .1 .1 .1 .1 .1 .1 .1 .0 ∙ p .2 .long };
+      memory = record { some = p .2 .some; most = p .2 .most; long = e .take-few .kept .1 .1 .1 .1 .1 .1 .1 .1 .0 ∙ p .2 .long };
       unpacking = f;
       fewer = omega arith;
       begins = rw (k, ← q) (l .0);
@@ -92,7 +92,7 @@ skip-requires c κs =
     let p = s .pre in
     let a = s .args in
     let h = t .before .has-vectors .ensures (t .if1 .taken) in
-    let d = begun-due (a .size) (a .f) (a .u) (a .r) _ (a .a) _ (a .n) _ (e .take-each .ensures) (p .1) (omega arith) in
+    let d = begun-due (a .size) (a .f) (a .u) (a .r) _ (a .a) _ (a .n) _ (e .take-few .ensures) (p .1) (omega arith) in
     (omega arith, omega arith, omega arith)
 
 returns : tie.Need-returns
@@ -102,7 +102,7 @@ returns c =
     let t = e .before .before in
     let a = t .before .before .before .before .before .before .before .before .args in
     let h = t .before .has-vectors .ensures (t .if1 .taken) in
-    words-joined (a .size) (a .f) (a .u) (a .r) _ (a .a) _ (a .n) _ (e .take-each .ensures) (omega arith) refl (v .take-vectors .ensures) (c .skip .ensures)
+    words-joined (a .size) (a .f) (a .u) (a .r) _ (a .a) _ (a .n) _ (e .take-few .ensures) (omega arith) refl (v .take-vectors .ensures) (c .skip .ensures)
 
 pub take-most-spec : {M : Type 1} → statement M
 take-most-spec =
@@ -114,7 +114,7 @@ take-most-spec =
     (λ c κs. search needs)
     (λ c. search needs)
     has-vectors-requires
-    take-each-requires
+    take-few-requires
     (λ c. search needs)
     (λ c. search needs)
     (λ c. search needs)
