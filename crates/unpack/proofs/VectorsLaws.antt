@@ -3,7 +3,7 @@ use mathlib.Core.Path.{_≡_, refl, sym, ap, _∙_}
 use mathlib.Core.Bool.{Bool, true, false, _&&_}
 use mathlib.Core.List.{List, [], _∷_}
 use Prim.Native.Nat.{ℕ, zero, suc, _+_, _*_, _-_, _/_, _%_, _^_, _<_, _≤_, min}
-use native.Mathlib.Nat.{add-zero, zero-add, mul-assoc, mul-comm, mul-left-comm, add-mul, mul-le-mul-left, mul-le-mul-right, suc-mul, mul-suc, div-one, div-add-mod', zero-mod, min-eq-right, mul-div-cancel, lt-of-mul-lt-mul-right, mul-add, mul-one, sub-zero, mul-zero, mod-lt}
+use native.Mathlib.Nat.{add-zero, zero-add, mul-assoc, mul-comm, mul-left-comm, add-mul, mul-le-mul-left, mul-le-mul-right, suc-mul, mul-suc, div-one, div-add-mod', zero-mod, min-eq-right, mul-div-cancel, lt-of-mul-lt-mul-right, mul-add, mul-one, one-mul, sub-zero, mul-zero, mod-lt}
 use native.Mathlib.Omega.{arith}
 use borrow.Author.Tests.{leb-true, leb-false}
 use lib.ListN.{length, getD}
@@ -24,7 +24,7 @@ use Rattle.unpack.specs.Step.{takenWords, acting, doneAfter}
 use Rattle.unpack.specs.Inner.{Width, eight, sixteen, whole}
 use Rattle.unpack.specs.Whole.{wordsFrom, takeWords, storeQuadword}
 use Rattle.unpack.specs.Short.{storesFrom}
-use Rattle.unpack.specs.Vectors.{vectorBytes, vectorIn, vectorFrom, quadOf, vectorOf, fieldsAfter, WritesFit}
+use Rattle.unpack.specs.Vectors.{Scalar, vectorBytes, vectorIn, vectorFrom, quadOf, vectorOf, fieldsAfter, WritesFit}
 use Rattle.unpack.proofs.PayloadLaws.{width-of, few-elements, bits-most, bits-some, next-mul, inside-words}
 use Rattle.unpack.proofs.CycleLaws.{done-few, done-exactly, vectors-few}
 use Rattle.unpack.proofs.WriteLaws.{filling-at}
@@ -313,6 +313,11 @@ module _ (f : Format) (a : ℕ) where
 
   pub run-next : (j : ℕ) {at b : ℕ} → b ≡ vectorBytes f → at ≡ a + vectorBytes f * j → at + b ≡ a + vectorBytes f * (j + 1)
   run-next j e h = let s = mul-add (vectorBytes f) j 1 in let t = mul-one (vectorBytes f) in omega arith
+
+-- the bytes of a vector of one element
+pub scalar-bytes : (f : Format) {width : ℕ} → Scalar f → width ≡ elementBits f → width / 8 ≡ vectorBytes f
+unfolding vectorBytes vectorBits
+scalar-bytes f s e = rw (s .single, e) (ap (λ (x : ℕ). x / 8) (sym (one-mul (elementBits f))))
 
 module _ (f : Format) (usn : Bool) (main : List ℕ) (a : ℕ) where
   pub run-vector : (v i : ℕ) {at : ℕ} → at ≡ a + vectorBytes f * (i - v) → vectorIn f usn main at ≡ vectorFrom f usn main a v i

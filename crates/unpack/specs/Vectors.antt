@@ -1,13 +1,13 @@
 -- Vectors read where they lie in main memory, for proofs. No promise of a public function cites them.
 use Prim.Native.Nat.{ℕ, suc, _+_, _*_, _-_, _/_, _%_, _<_, _≤_}
 use mathlib.Core.Path.{_≡_}
-use mathlib.Core.Bool.{Bool}
+use mathlib.Core.Bool.{Bool, false}
 use mathlib.Core.List.{List, [], _∷_}
 use lib.ListN.{length, getD}
 use Rattle.unpack.specs.declared.Format.{Format}
 use Rattle.unpack.specs.declared.Unpacking.{Unpacking}
 use Rattle.unpack.specs.declared.Registers.{Registers}
-use Rattle.unpack.specs.Payload.{elements, vectorBits, value}
+use Rattle.unpack.specs.Payload.{elements, isFive, vectorBits, value}
 use Rattle.unpack.specs.Vector.{vectorAt}
 use Rattle.unpack.specs.Position.{addressMost, vectorsBefore}
 use Rattle.unpack.specs.Write.{fieldOf}
@@ -15,6 +15,11 @@ use Rattle.unpack.specs.Range.{CycleFits, UnpackingFits}
 use Rattle.unpack.specs.Step.{takenWords}
 use Rattle.unpack.specs.Whole.{wordsFrom}
 use Rattle.unpack.specs.Inner.{MemoryFits}
+
+-- S: a vector is one element, extended
+pub record Scalar (f : Format) : Type 0 where
+  pub single : elements f ≡ 1
+  pub extends : isFive f ≡ false
 
 unfoldable pub vectorBytes : Format → ℕ
 vectorBytes f = vectorBits f / 8

@@ -26,7 +26,7 @@ use super::write::store_quadword;
 use super::write::store_words;
 use super::write::wrapped;
 ghost use mathlib.Core.Path.{_≡_};
-ghost use mathlib.Core.Bool.{_&&_};
+ghost use mathlib.Core.Bool.{true, _&&_};
 ghost use mathlib.Core.List.{[], _∷_};
 ghost use Prim.Native.Nat.{ℕ, suc, _<_, _≤_, _+_, _*_, _-_, _%_, _^_, min};
 ghost use lib.ListN.{length, getD};
@@ -40,7 +40,7 @@ ghost use Rattle.unpack.specs.Write.{fieldOf, rowsAfter, writtenAt, writ
 ghost use Rattle.unpack.specs.Whole.{storeQuadword, wordsFrom, takeWords};
 ghost use Rattle.unpack.specs.Inner.{Width, MemoryFits};
 ghost use Rattle.unpack.specs.Short.{storesFrom};
-ghost use Rattle.unpack.specs.Vectors.{vectorBytes, vectorIn, vectorFrom, quadOf, vectorOf, fieldsAfter, WritesFit, ReadsFit, VectorsFit};
+ghost use Rattle.unpack.specs.Vectors.{Scalar, vectorBytes, vectorIn, vectorFrom, quadOf, vectorOf, fieldsAfter, WritesFit, ReadsFit, VectorsFit};
 
 // The element at a byte.
 fn element_inside(main: &[u8], at: usize, width: u32) -> u32
@@ -55,6 +55,23 @@ fn extended_inside(main: &[u8], at: usize, width: u32, usn: bool) -> u32
     ensures { λ r. ⌜ r ≡ extended width usn (wordAt (now (main .entry)) at % 2 ^ width) ⌝ }
 {
     extend(element_inside(main, at, width), width, usn)
+}
+
+// The vector of one element at a byte, stored at a quadword as it is.
+fn store_scalar(
+    f: Format,
+    width: u32,
+    usn: bool,
+    main: &[u8],
+    at: usize,
+    data: &mut [u32],
+    quad: usize,
+)
+    requires { ⌜ (at + vectorBytes f + 4 ≤ length (now main)) × (4 * quad + 4 ≤ length (now «data»)) × (width ≡ elementBits f) × Scalar f ⌝ }
+    ensures { λ _. ⌜ now («data» .exit) ≡ storeQuadword (now («data» .entry)) quad (vectorIn f usn (now (main .entry)) at) ⌝ }
+{
+    let x = extended_inside(main, at, width, usn);
+    store_words(data, quad, x, x, x, x);
 }
 
 // The vector at a byte, of n elements of a width, stored at a quadword as it is.
@@ -102,8 +119,82 @@ fn vector_bytes(f: Format) -> usize
     (vector_bits(f) / 8) as usize
 }
 
+// n vectors of one element from a byte on, stored one after another from a quadword on.
+fn store_scalars(
+    f: Format,
+    width: u32,
+    usn: bool,
+    main: &[u8],
+    a: usize,
+    n: usize,
+    data: &mut [u32],
+    to: usize,
+)
+    requires { ⌜ (a + vectorBytes f * n + 4 ≤ length (now main)) × (4 * (to + n) ≤ length (now «data»)) × (width ≡ elementBits f) × Scalar f ⌝ }
+    ensures { λ _. ⌜ now («data» .exit)
+        ≡ storesFrom (λ (i : ℕ). to + i) (vectorFrom f usn (now (main .entry)) a 0) n 0 (now («data» .entry)) ⌝ }
+{
+    let bytes = (width / 8) as usize;
+    let mut at = a;
+    let mut j: usize = 0;
+    while j < n {
+        store_scalar(f, width, usn, main, at, data, to + j);
+        at += bytes;
+        j += 1;
+    }
+}
+
+// The same, in a loop for a width and USN that are known where it is compiled.
+fn store_scalars_by(
+    f: Format,
+    width: u32,
+    usn: bool,
+    main: &[u8],
+    a: usize,
+    n: usize,
+    data: &mut [u32],
+    to: usize,
+)
+    requires { ⌜ (a + vectorBytes f * n + 4 ≤ length (now main)) × (4 * (to + n) ≤ length (now «data»)) × (width ≡ elementBits f) × Scalar f ⌝ }
+    ensures { λ _. ⌜ now («data» .exit)
+        ≡ storesFrom (λ (i : ℕ). to + i) (vectorFrom f usn (now (main .entry)) a 0) n 0 (now («data» .entry)) ⌝ }
+{
+    if usn {
+        store_scalars(f, width, true, main, a, n, data, to);
+        return;
+    }
+    if width == 8 {
+        store_scalars(f, 8, false, main, a, n, data, to);
+        return;
+    }
+    store_scalars(f, width, false, main, a, n, data, to);
+}
+
+// Whether a vector is one element, extended.
+fn is_scalar(f: Format) -> bool
+    ensures { λ b. ⌜ (b ≡ true → Scalar f) ⌝ }
+{
+    if is_five(f) {
+        return false;
+    }
+    elements_of(f) == 1
+}
+
 // n vectors from a byte on, stored one after another from a quadword on.
 fn store_run(f: Format, usn: bool, main: &[u8], a: usize, n: usize, data: &mut [u32], to: usize)
+    requires { ⌜ (a + vectorBytes f * n + 4 ≤ length (now main)) × (4 * (to + n) ≤ length (now «data»)) ⌝ }
+    ensures { λ _. ⌜ now («data» .exit)
+        ≡ storesFrom (λ (i : ℕ). to + i) (vectorFrom f usn (now (main .entry)) a 0) n 0 (now («data» .entry)) ⌝ }
+{
+    if is_scalar(f) {
+        store_scalars_by(f, element_bits(f), usn, main, a, n, data, to);
+        return;
+    }
+    store_vectors(f, usn, main, a, n, data, to);
+}
+
+// The same for vectors of any format.
+fn store_vectors(f: Format, usn: bool, main: &[u8], a: usize, n: usize, data: &mut [u32], to: usize)
     requires { ⌜ (a + vectorBytes f * n + 4 ≤ length (now main)) × (4 * (to + n) ≤ length (now «data»)) ⌝ }
     ensures { λ _. ⌜ now («data» .exit)
         ≡ storesFrom (λ (i : ℕ). to + i) (vectorFrom f usn (now (main .entry)) a 0) n 0 (now («data» .entry)) ⌝ }
