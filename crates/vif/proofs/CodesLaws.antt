@@ -3,7 +3,7 @@ use mathlib.Core.Path.{_≡_, refl, sym, ap, _∙_}
 use mathlib.Core.Bool.{Bool, true, false, not}
 use mathlib.Core.List.{List}
 use mathlib.Core.Logic.{⊎-elim}
-use Prim.Native.Nat.{ℕ, zero, suc, _+_, _*_, _-_, _/_, _%_, _<_, _≤_}
+use Prim.Native.Nat.{ℕ, zero, suc, _+_, _*_, _-_, _/_, _%_, _^_, _<_, _≤_}
 use native.Mathlib.Nat.{add-zero, sub-zero, eq-or-lt-of-le}
 use native.Mathlib.Numerals.{one-add}
 use native.Mathlib.Omega.{arith}
@@ -413,29 +413,38 @@ waiting-fits which v h = go (v .waiting) refl
 pub still-few : {k j n : ℕ} → k ≤ n → j ≤ n - k → k + j ≤ n
 still-few h l = omega arith
 
+-- so many of them fit their numbers
+pub codes-fit : {limit a count k n nops : ℕ} {s : WordsResult} → Going limit a count s → limit < 2 ^ 64 → k ≤ n
+    → (n ≤ count - s .words) × (n ≤ limit - s .counts .steps) → nops ≤ k
+    → (s .words + k < 2 ^ 32) × (s .counts .steps + k < 2 ^ 64) × Counted (s .counts) × (nops ≤ k)
+codes-fit g l h b f =
+    let near = g .near in
+    let few = g .few-words in
+    let few-steps = g .few-steps in
+    let b0 = b .0 in
+    let b1 = b .1 in
+    (omega arith, omega arith, g .counted, f)
+
 -- words after s
-pub codes-taken : {which : VifUnit} {main : List ℕ} {limit a count k nops used : ℕ} {s t : WordsResult} {m m′ : Lent} {v : Vif} → FedReady which (fedIn s m) → Going limit a count s
-    → k ≤ count - s .words → k ≤ limit - s .counts .steps → nops ≤ k
+pub codes-taken : {which : VifUnit} {main : List ℕ} {limit a count k n nops used : ℕ} {s t : WordsResult} {m m′ : Lent} {v : Vif} → FedReady which (fedIn s m) → Going limit a count s
+    → k ≤ n → (n ≤ count - s .words) × (n ≤ limit - s .counts .steps) → nops ≤ k
     → Leads which main (a + 4 * s .words) k (wordsWith k nops) (fedIn s m) (fed v (s .path2) used m′)
     → t ≡ takenWith v (s .path2) used (s .words + k) (plusUnits (s .counts) (wordsWith k nops)) (s .interrupt)
     → Takes which main limit a count s m t m′
-codes-taken {which} {main} {limit} {a} {count} {k} {nops} {used} {s} {t} {m} {m′} {v} r g h l f i e =
+codes-taken {which} {main} {limit} {a} {count} {k} {n} {nops} {used} {s} {t} {m} {m′} {v} r g h b f i e =
     let w = g .few-words in
+    let b0 = b .0 in
+    let b1 = b .1 in
     let c : Counted (wordsWith k nops) = record { few-packets = omega arith; few-words = omega arith; few-nops = f } in
     rw e
     (record {
-      same = rest-leads which main limit a count s m i h l (s .interrupt);
+      same = rest-leads which main limit a count s m i (omega arith) (omega arith) (s .interrupt);
       ready = i .stays r;
       later = omega arith;
       counted = counted-plus (g .counted) c;
       quiet = g .quiet;
       idle = λ z. record { near = g .near; few-words = omega arith; few-steps = omega arith; counted = counted-plus (g .counted) c; quiet = g .quiet };
     })
-
--- none
-pub codes-none : {which : VifUnit} {main : List ℕ} {limit a count : ℕ} {s : WordsResult} {m : Lent} → FedReady which (fedIn s m) → Going limit a count s
-    → Takes which main limit a count s m s m
-codes-none r g = record { same = refl; ready = r; later = omega arith; counted = g .counted; quiet = g .quiet; idle = λ z. g }
 
 -- ---- by the case of what waits
 

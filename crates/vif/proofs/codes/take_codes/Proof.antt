@@ -8,7 +8,7 @@ use Rattle.vif.specs.Feeds.{fed}
 use Rattle.vif.specs.Inner.{Leads, fedIn, wordsWith}
 use Rattle.vif.proofs.RangeKept.{code-ready}
 use Rattle.vif.proofs.FeedLaws.{leads-none}
-use Rattle.vif.proofs.CodesLaws.{codes-more, words-more, code-leads, code-refused, code-quadword, ahead-is, waiting-fits, still-few, codes-taken}
+use Rattle.vif.proofs.CodesLaws.{codes-more, words-more, code-leads, code-refused, code-quadword, ahead-is, waiting-fits, still-few, codes-fit, codes-taken}
 use Rattle.vif.proofs.codes.take_codes.Statement.{statement}
 use Rattle.vif.proofs.codes.take_codes.Tie as tie
 
@@ -123,42 +123,30 @@ payload-again c =
 with-codes-requires : tie.Need-with-codes-requires Inv-loop μ-loop
 with-codes-requires c κs =
     let turn = c .before .before .before in
-    let sized = turn .before .before .before in
     let start = turn .before .before .before .before .before .before .before .before .before .before in
-    let g = start .pre .1 in
     let l = start .fits .limit in
-    let q = turn .loop .inv in
-    (omega (arith, sized .smaller .ensures .0, q .few), omega (arith, sized .smaller .ensures .1, q .few), g .counted, q .few-nops)
+    codes-fit (start .pre .1) (omega arith) (turn .loop .inv .few) (turn .before .before .before .smaller .ensures) (turn .loop .inv .few-nops)
 
 with-codes-requires-2 : tie.Need-with-codes-requires-2 Inv-loop μ-loop
 with-codes-requires-2 c κs =
     let turn = c .before .before .before .before .before .before .before .before .before .before .before .before .before .before .before .before .before .before in
-    let sized = turn .before .before .before in
     let start = turn .before .before .before .before .before .before .before .before .before .before in
-    let g = start .pre .1 in
     let l = start .fits .limit in
-    let q = turn .loop .inv in
-    (omega (arith, sized .smaller .ensures .0, q .few), omega (arith, sized .smaller .ensures .1, q .few), g .counted, q .few-nops)
+    codes-fit (start .pre .1) (omega arith) (turn .loop .inv .few) (turn .before .before .before .smaller .ensures) (turn .loop .inv .few-nops)
 
 with-codes-requires-3 : tie.Need-with-codes-requires-3 Inv-loop μ-loop
 with-codes-requires-3 c κs =
     let turn = c .before .before .before .before .before .before .before .before .before .before .before .before .before .before .before .before .before .before in
-    let sized = turn .before .before .before in
     let start = turn .before .before .before .before .before .before .before .before .before .before in
-    let g = start .pre .1 in
     let l = start .fits .limit in
-    let q = turn .loop .inv in
-    (omega (arith, sized .smaller .ensures .0, q .few), omega (arith, sized .smaller .ensures .1, q .few), g .counted, q .few-nops)
+    codes-fit (start .pre .1) (omega arith) (turn .loop .inv .few) (turn .before .before .before .smaller .ensures) (turn .loop .inv .few-nops)
 
 with-codes-requires-4 : tie.Need-with-codes-requires-4 Inv-loop μ-loop
 with-codes-requires-4 c κs =
     let turn = c .before in
-    let sized = turn .before .before .before in
     let start = turn .before .before .before .before .before .before .before .before .before .before in
-    let g = start .pre .1 in
     let l = start .fits .limit in
-    let q = turn .loop .inv in
-    (omega (arith, sized .smaller .ensures .0, q .few), omega (arith, sized .smaller .ensures .1, q .few), g .counted, q .few-nops)
+    codes-fit (start .pre .1) (omega arith) (turn .loop .inv .few) (turn .before .before .before .smaller .ensures) (turn .loop .inv .few-nops)
 
 none-ahead : tie.Need-returns Inv-loop μ-loop
 none-ahead c =
@@ -166,7 +154,7 @@ none-ahead c =
     let sized = turn .before .before .before in
     let start = turn .before .before .before .before .before .before .before .before .before .before in
     let q = turn .loop .inv in
-    codes-taken (start .pre .0) (start .pre .1) (omega (arith, sized .smaller .ensures .0, q .few)) (omega (arith, sized .smaller .ensures .1, q .few)) (q .few-nops) (q .leads) (c .with-codes .ensures)
+    codes-taken (start .pre .0) (start .pre .1) (q .few) (sized .smaller .ensures) (q .few-nops) (q .leads) (c .with-codes .ensures)
 
 no-quadword : tie.Need-returns-2 Inv-loop μ-loop
 no-quadword c =
@@ -200,7 +188,7 @@ refused c =
     let a = ahead-is _ _ _ w (ahead .words-ahead .ensures .1 (some .if1 .left)) in
     let kept = code-refused _ _ _ (turn .loop .unit) _ _ _ _ _ w (a .1) (read .word-at .ensures) (took .take-code .ensures) (q .leads .stays (start .pre .0)) (told .enum-told3 .given .1) in
     rw (kept .0, kept .1)
-    (codes-taken (start .pre .0) (start .pre .1) (omega (arith, sized .smaller .ensures .0, q .few)) (omega (arith, sized .smaller .ensures .1, q .few)) (q .few-nops) (q .leads) (c .with-codes3 .ensures))
+    (codes-taken (start .pre .0) (start .pre .1) (q .few) (sized .smaller .ensures) (q .few-nops) (q .leads) (c .with-codes3 .ensures))
 
 all-taken : tie.Need-returns-4 Inv-loop μ-loop
 all-taken c =
@@ -208,7 +196,7 @@ all-taken c =
     let sized = turn .before .before .before in
     let start = turn .before .before .before .before .before .before .before .before .before .before in
     let q = turn .loop .inv in
-    codes-taken (start .pre .0) (start .pre .1) (omega (arith, sized .smaller .ensures .0, q .few)) (omega (arith, sized .smaller .ensures .1, q .few)) (q .few-nops) (q .leads) (c .with-codes4 .ensures)
+    codes-taken (start .pre .0) (start .pre .1) (q .few) (sized .smaller .ensures) (q .few-nops) (q .leads) (c .with-codes4 .ensures)
 
 pub take-codes-spec : {M : Type 1} → statement M
 take-codes-spec =
