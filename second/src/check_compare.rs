@@ -9,7 +9,7 @@ use crate::check_generate::{cases, Made, KINDS, LARGE_KINDS};
 use crate::check_points;
 use crate::compare::{case_at, Program};
 use crate::comparison::{file_of, Comparison};
-use crate::damaged::{filling_not_zero, Damage, Files, Spoilt};
+use crate::damaged::{Damage, Files, Spoilt};
 use crate::memory::cases::{MOST_CODE, MOST_DATA, MOST_LOG, MOST_MAIN};
 use crate::random::Random;
 use crate::words::{word, WORD};
@@ -80,11 +80,7 @@ fn damaged(cases: &[Made], random: &mut Random) -> Files {
         (1..300).contains(&case.sheet.len()) && case.main.len() < 300
     };
     let file = file_of(cases.iter().filter(is_short).take(4), Case::write);
-    let starts = case_starts(&file);
-    let mut made = DAMAGE.files(&file, &starts, random);
-    let filled = filling_not_zero(&file, &starts, DAMAGE.header);
-    made.push(("filling not zero".to_string(), filled));
-    made
+    DAMAGE.files_of_sheets(&file, &case_starts(&file), random)
 }
 
 /// The kinds of cases with the verdicts that they have to come to.
@@ -146,6 +142,7 @@ mod tests {
     use super::*;
     use crate::check_cases::results;
     use crate::compare::zeros;
+    use crate::damaged::filling_not_zero;
 
     fn own(file: &[u8]) -> Results {
         results(file, &mut Counts::default())

@@ -90,3 +90,27 @@ pub fn kind_rows(
     };
     kinds.map(row).collect()
 }
+
+/// What cases of several kinds reached: what is counted over their results, and the kind of each.
+#[derive(Default)]
+pub struct ReachedByKind<Counts> {
+    pub counts: Counts,
+    pub made: Vec<&'static str>,
+}
+
+impl<Counts> ReachedByKind<Counts> {
+    /// Compares on cases, so many at once; `compare_file` takes the number of a file's first case.
+    pub fn compare_batches<C>(
+        &mut self,
+        cases: &[Made<C>],
+        batch: usize,
+        write: impl Fn(&C, &mut Vec<u8>),
+        compare_file: impl Fn(&[u8], usize, &mut Counts) -> Result<(), String>,
+    ) -> Result<(), String> {
+        self.made.extend(cases.iter().map(|made| made.name));
+        for (i, some) in cases.chunks(batch).enumerate() {
+            compare_file(&file_of(some, &write), i * batch, &mut self.counts)?;
+        }
+        Ok(())
+    }
+}

@@ -41,6 +41,14 @@ impl Damage {
         made
     }
 
+    /// The same, and the file with the bytes that fill up its sheets not zero.
+    pub fn files_of_sheets(&self, file: &[u8], starts: &[usize], random: &mut Random) -> Files {
+        let mut made = self.files(file, starts, random);
+        let filled = filling_not_zero(file, starts, self.header);
+        made.push(("filling not zero".to_string(), filled));
+        made
+    }
+
     /// The file cut near its start and its end, and in cases that start at these places.
     fn cuts(&self, file: &[u8], starts: impl Iterator<Item = usize>, random: &mut Random) -> Files {
         let about = |start: usize, cuts: &'static [isize]| {

@@ -1,8 +1,8 @@
 //! Another program's salvage results against our own.
 
 use crate::compare::{case_at, Program};
-use crate::comparison::{file_of, kind_rows, Comparison};
-use crate::damaged::{filling_not_zero, Damage, Files, Spoilt};
+use crate::comparison::{file_of, kind_rows, Comparison, ReachedByKind};
+use crate::damaged::{Damage, Files, Spoilt};
 use crate::random::Random;
 use crate::salvage_cases::{
     self, case_starts, describe_case, describe_place, first_case, Case, HEADER,
@@ -24,13 +24,19 @@ const DAMAGE: Damage = Damage {
     spoil,
 };
 
+type Reached = ReachedByKind<Counts>;
+
 const COMPARISON: Comparison<Vec<Made>, Reached> = Comparison {
     cases,
-    compare_cases: |program, cases, reached| compare_batches(program, cases, reached),
+    compare_cases: |program, cases, reached| {
+        reached.compare_batches(cases, BATCH, Case::write, |file, first, counts| {
+            compare_file(program, file, first, counts)
+        })
+    },
     damaged: |cases, random| damaged(cases, random),
     compare_file: |program, file| compare_file(program, file, 0, &mut Counts::default()),
     compare_more: |_, _, _, _| Ok(()),
-    rows: Reached::rows,
+    rows,
 };
 
 /// Compares on the points worked by hand, on the cases of each seed and on damaged files made
@@ -43,38 +49,16 @@ pub fn compare(program: &Program, seeds: &[u64], count: u64) -> Result<(), Strin
     COMPARISON.compare(program, seeds, count, &[("points", points)])
 }
 
-#[derive(Default)]
-struct Reached {
-    counts: Counts,
-    /// The kinds of the cases.
-    made: Vec<&'static str>,
-}
-
-impl Reached {
-    fn rows(&self) -> Vec<(String, u64)> {
-        let kinds = KINDS.iter().chain(&LARGE_KINDS).map(|&(name, _)| name);
-        [self.counts.rows(), kind_rows(kinds, &self.made)].concat()
-    }
-}
-
-fn compare_batches(program: &Program, cases: &[Made], reached: &mut Reached) -> Result<(), String> {
-    reached.made.extend(cases.iter().map(|made| made.name));
-    for (i, batch) in cases.chunks(BATCH).enumerate() {
-        let file = file_of(batch, Case::write);
-        compare_file(program, &file, i * BATCH, &mut reached.counts)?;
-    }
-    Ok(())
+fn rows(reached: &Reached) -> Vec<(String, u64)> {
+    let kinds = KINDS.iter().chain(&LARGE_KINDS).map(|&(name, _)| name);
+    [reached.counts.rows(), kind_rows(kinds, &reached.made)].concat()
 }
 
 /// Made from short cases.
 fn damaged(cases: &[Made], random: &mut Random) -> Files {
     let is_short = |made: &&Made| (1..600).contains(&made.case.sheet.len());
     let file = file_of(cases.iter().filter(is_short).take(6), Case::write);
-    let starts = case_starts(&file);
-    let mut made = DAMAGE.files(&file, &starts, random);
-    let filled = filling_not_zero(&file, &starts, DAMAGE.header);
-    made.push(("filling not zero".to_string(), filled));
-    made
+    DAMAGE.files_of_sheets(&file, &case_starts(&file), random)
 }
 
 /// Compares on a file whose cases are counted from `first`.
@@ -108,6 +92,7 @@ mod tests {
     use super::*;
     use crate::case_results::Results;
     use crate::compare::zeros;
+    use crate::damaged::filling_not_zero;
     use crate::salvage_cases::results;
 
     fn own(file: &[u8]) -> Results {

@@ -1,7 +1,7 @@
 //! Another program's totals results against our own.
 
 use crate::compare::{case_at, Program};
-use crate::comparison::{file_of, kind_rows, Comparison};
+use crate::comparison::{file_of, kind_rows, Comparison, ReachedByKind};
 use crate::damaged::{Damage, Files, Spoilt};
 use crate::random::Random;
 use crate::totals_cases::{
@@ -25,13 +25,19 @@ const DAMAGE: Damage = Damage {
     spoil,
 };
 
+type Reached = ReachedByKind<Counts>;
+
 const COMPARISON: Comparison<Vec<Made>, Reached> = Comparison {
     cases,
-    compare_cases: |program, cases, reached| compare_batches(program, cases, reached),
+    compare_cases: |program, cases, reached| {
+        reached.compare_batches(cases, BATCH, Case::write, |file, first, counts| {
+            compare_file(program, file, first, counts)
+        })
+    },
     damaged: |cases, random| damaged(cases, random),
     compare_file: |program, file| compare_file(program, file, 0, &mut Counts::default()),
     compare_more: |_, _, _, _| Ok(()),
-    rows: Reached::rows,
+    rows,
 };
 
 /// Compares on the points worked by hand, on the cases of each seed and on damaged files made
@@ -43,27 +49,9 @@ pub fn compare(program: &Program, seeds: &[u64], count: u64) -> Result<(), Strin
     COMPARISON.compare(program, seeds, count, &[("points", point_count)])
 }
 
-#[derive(Default)]
-struct Reached {
-    counts: Counts,
-    /// The kinds of the cases.
-    made: Vec<&'static str>,
-}
-
-impl Reached {
-    fn rows(&self) -> Vec<(String, u64)> {
-        let kinds = KINDS.iter().map(|&(name, _)| name).chain([MANY]);
-        [self.counts.rows(), kind_rows(kinds, &self.made)].concat()
-    }
-}
-
-fn compare_batches(program: &Program, cases: &[Made], reached: &mut Reached) -> Result<(), String> {
-    reached.made.extend(cases.iter().map(|made| made.name));
-    for (i, batch) in cases.chunks(BATCH).enumerate() {
-        let file = file_of(batch, Case::write);
-        compare_file(program, &file, i * BATCH, &mut reached.counts)?;
-    }
-    Ok(())
+fn rows(reached: &Reached) -> Vec<(String, u64)> {
+    let kinds = KINDS.iter().map(|&(name, _)| name).chain([MANY]);
+    [reached.counts.rows(), kind_rows(kinds, &reached.made)].concat()
 }
 
 /// Made from short cases.
