@@ -3,7 +3,7 @@
 use crate::capture_cases::{
     self, case_starts, describe_case, describe_result, first_case, Case, Results, HEADER,
 };
-use crate::capture_counts::Counts;
+use crate::capture_counts::{self, Counts};
 use crate::capture_cut_check;
 use crate::capture_cut_counts;
 use crate::capture_cuts::{self, Family};
@@ -11,7 +11,7 @@ use crate::capture_generate::{cases, file_of};
 use crate::capture_long_cases;
 use crate::capture_long_counts;
 use crate::compare::{case_at, ends, lengths, Program};
-use crate::comparison::Comparison;
+use crate::comparison::{sums, Comparison, Rows};
 use crate::count_points;
 use crate::damaged::{three_and_some, Damage, Files, Spoilt};
 use crate::memory::cases::{
@@ -48,7 +48,7 @@ const COMPARISON: Comparison<Vec<Case>, Reached> = Comparison {
         Ok(())
     },
     compare_more: |program, seed, cases, reached| compare_more(program, seed, cases, reached),
-    rows: Reached::rows,
+    rows: Reached::rows_of_all,
 };
 
 /// Compares on the cases of each seed, which have the points worked by hand among them, on damaged
@@ -76,7 +76,19 @@ struct Reached {
 }
 
 impl Reached {
-    fn rows(&self) -> Vec<(String, u64)> {
+    /// The sums; what is said of the lengths of runs is said of all runs.
+    fn rows_of_all(all: &[Reached]) -> Rows {
+        let lengths = all.iter().flat_map(|reached| reached.counts.lengths());
+        let of_lengths = capture_counts::length_rows(lengths.collect());
+        let mut rows = sums(all, Reached::rows);
+        for (name, count) in &mut rows {
+            let found = of_lengths.iter().find(|(of_lengths, _)| of_lengths == name);
+            *count = found.map_or(*count, |&(_, found)| found);
+        }
+        rows
+    }
+
+    fn rows(&self) -> Rows {
         let in_parts = "runs in parts that give what the uncut run gives".to_string();
         let mut rows = [self.counts.rows(), self.cuts.rows(), self.long.rows()].concat();
         rows.push((in_parts, self.in_parts));

@@ -804,6 +804,11 @@ impl Counts {
         }
     }
 
+    /// The step counts of runs that are allowed many.
+    pub fn lengths(&self) -> impl Iterator<Item = u64> + '_ {
+        self.lengths.iter().copied()
+    }
+
     /// Every count by name.
     pub fn rows(&self) -> Vec<(String, u64)> {
         let mut rows: Vec<(String, u64)> = Vec::new();
@@ -812,13 +817,9 @@ impl Counts {
         row("starts", self.starts);
         row("runs", self.runs);
         row("steps in all", self.steps);
-        let mut lengths = self.lengths.clone();
-        lengths.sort_unstable();
-        let median = lengths.get(lengths.len() / 2).copied().unwrap_or(0);
-        let past_entry = lengths.len() as u64;
-        row("runs past entry, allowed 50 steps or more", past_entry);
-        row("median of their steps", median);
-        row("most of their steps", lengths.last().copied().unwrap_or(0));
+        for (name, count) in length_rows(self.lengths.clone()) {
+            row(name, count);
+        }
         for (id, name) in IDS.iter().enumerate() {
             for tte in 0..2 {
                 row(&format!("tags, {name}, TTE {tte}"), self.tags[id][tte]);
@@ -849,6 +850,20 @@ impl Counts {
         rows.extend(named_rows(&self.by_name, names()));
         rows
     }
+}
+
+/// What is said of the step counts of runs that are allowed many.
+pub fn length_rows(mut lengths: Vec<u64>) -> [(&'static str, u64); 3] {
+    lengths.sort_unstable();
+    let at = |index: usize| lengths.get(index).copied().unwrap_or(0);
+    [
+        (
+            "runs past entry, allowed 50 steps or more",
+            lengths.len() as u64,
+        ),
+        ("median of their steps", at(lengths.len() / 2)),
+        ("most of their steps", at(lengths.len().saturating_sub(1))),
+    ]
 }
 
 fn waits_for_quadwords(unit: &Unit) -> bool {

@@ -8,7 +8,7 @@ use crate::check_counts::{Counts, VERDICTS};
 use crate::check_generate::{cases, Made, KINDS, LARGE_KINDS};
 use crate::check_points;
 use crate::compare::{case_at, Program};
-use crate::comparison::{file_of, Comparison};
+use crate::comparison::{file_of, sums, Comparison};
 use crate::damaged::{Damage, Files, Spoilt};
 use crate::memory::cases::{MOST_CODE, MOST_DATA, MOST_LOG, MOST_MAIN};
 use crate::random::Random;
@@ -39,7 +39,7 @@ const COMPARISON: Comparison<Vec<Made>, Reached> = Comparison {
         Ok(())
     },
     compare_more: |_, _, _, _| Ok(()),
-    rows: Reached::rows,
+    rows: |all| sums(all, Reached::rows),
 };
 
 /// Compares on the points worked by hand, on the cases of each seed and on damaged files made

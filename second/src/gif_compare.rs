@@ -1,7 +1,7 @@
 //! Another program's GIF results against our own.
 
 use crate::compare::{ends, lengths, Program};
-use crate::comparison::Comparison;
+use crate::comparison::{sums, Comparison};
 use crate::damaged::{three_and_some, Damage, Spoilt};
 use crate::gif_cases::{
     self, case_starts, describe_case, describe_result, Results, HEADER, NUMBER_AT,
@@ -31,7 +31,7 @@ const COMPARISON: Comparison<Vec<u8>, Counts> = Comparison {
     },
     compare_file: |program, file| compare_file(program, file, &mut Counts::default()),
     compare_more: |_, _, _, _| Ok(()),
-    rows: Counts::rows,
+    rows: |all| sums(all, Counts::rows),
 };
 
 /// Compares on the cases of each seed, which have the points worked by hand among them, and on

@@ -1,7 +1,7 @@
 //! Another program's sheet results against our own.
 
 use crate::compare::{case_at, Program};
-use crate::comparison::Comparison;
+use crate::comparison::{sums, Comparison};
 use crate::damaged::{some_cases, Damage, Files, Spoilt};
 use crate::group_points;
 use crate::memory::cases::{MOST_CODE, MOST_DATA, MOST_LOG, MOST_MAIN};
@@ -32,7 +32,7 @@ const COMPARISON: Comparison<Vec<u8>, Counts> = Comparison {
     damaged: |file, random| damaged(file, random),
     compare_file: |program, file| compare_file(program, file, 0, &mut Counts::default()),
     compare_more: |_, _, _, _| Ok(()),
-    rows: Counts::rows,
+    rows: |all| sums(all, Counts::rows),
 };
 
 /// Compares on the bench points, on the cases of each seed and on damaged files made

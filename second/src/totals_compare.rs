@@ -1,7 +1,7 @@
 //! Another program's totals results against our own.
 
 use crate::compare::{case_at, Program};
-use crate::comparison::{file_of, kind_rows, Comparison, ReachedByKind};
+use crate::comparison::{file_of, kind_rows, sums, Comparison, ReachedByKind, Rows};
 use crate::damaged::{Damage, Files, Spoilt};
 use crate::random::Random;
 use crate::totals_cases::{
@@ -37,7 +37,7 @@ const COMPARISON: Comparison<Vec<Made>, Reached> = Comparison {
     damaged: |cases, random| damaged(cases, random),
     compare_file: |program, file| compare_file(program, file, 0, &mut Counts::default()),
     compare_more: |_, _, _, _| Ok(()),
-    rows,
+    rows: |all| sums(all, rows),
 };
 
 /// Compares on the points worked by hand, on the cases of each seed and on damaged files made
@@ -49,7 +49,7 @@ pub fn compare(program: &Program, seeds: &[u64], count: u64) -> Result<(), Strin
     COMPARISON.compare(program, seeds, count, &[("points", point_count)])
 }
 
-fn rows(reached: &Reached) -> Vec<(String, u64)> {
+fn rows(reached: &Reached) -> Rows {
     let kinds = KINDS.iter().map(|&(name, _)| name).chain([MANY]);
     [reached.counts.rows(), kind_rows(kinds, &reached.made)].concat()
 }

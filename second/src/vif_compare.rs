@@ -1,7 +1,7 @@
 //! Another program's VIF results against our own.
 
 use crate::compare::{case_at, ends, lengths, Program};
-use crate::comparison::Comparison;
+use crate::comparison::{sums, Comparison};
 use crate::damaged::{three_and_some, Damage, Spoilt};
 use crate::memory::cases::{MOST_CODE, MOST_DATA, MOST_LOG};
 use crate::packet_points;
@@ -34,7 +34,7 @@ const COMPARISON: Comparison<Vec<u8>, Counts> = Comparison {
     },
     compare_file: |program, file| compare_file(program, file, &mut Counts::default()),
     compare_more: |_, _, _, _| Ok(()),
-    rows: Counts::rows,
+    rows: |all| sums(all, Counts::rows),
 };
 
 /// Compares on the cases of each seed, which have the points worked by hand among them, and on
