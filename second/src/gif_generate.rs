@@ -422,7 +422,7 @@ fn random_nloop(random: &mut Random) -> u64 {
 }
 
 /// Sixteen descriptors; B only by chance of the case, or past the first NREG.
-fn random_descriptors(random: &mut Random, with_b: bool, nreg: u64) -> u64 {
+pub fn random_descriptors(random: &mut Random, with_b: bool, nreg: u64) -> u64 {
     let mut descriptors = 0;
     for i in 0..16 {
         let mut descriptor = random.below(16);

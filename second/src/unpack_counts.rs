@@ -2,6 +2,7 @@
 
 use crate::compare::named_rows;
 use crate::model::Model;
+use crate::unpack_kind::{Relation, RELATIONS};
 use crate::vif::{Registers, MOST_NUM};
 use crate::vif_unpack::{Cycle, Format, Unpack};
 use std::collections::HashMap;
@@ -203,7 +204,7 @@ impl Counts {
         if step.payload.is_some() {
             self.completed[number][unpack.masked as usize][unpack.unsigned as usize][mode] += 1;
         }
-        let relation = relation(cycle);
+        let relation = Relation::of(cycle).name();
         let interrupt = step.interrupt;
         self.add_if(&format!("UNPACK completed, {relation}"), true);
         let name = format!("UNPACK completed with its bit 31 set, {relation}");
@@ -233,7 +234,10 @@ impl Counts {
         if unpack.count == MOST_NUM {
             let name = format_name(&unpack.format);
             self.add_if(&format!("UNPACK {name} of 256 writes completed"), true);
-            let name = format!("UNPACK of 256 writes completed, {}", relation(cycle));
+            let name = format!(
+                "UNPACK of 256 writes completed, {}",
+                Relation::of(cycle).name()
+            );
             self.add_if(&name, true);
             let moves = mode == 2 && !unpack.format.is_five_bits();
             self.add_if("UNPACK of 256 writes completed with MODE 2", moves);
@@ -306,18 +310,6 @@ pub fn all_formats() -> Vec<Format> {
     (0..16).filter_map(Format::from_number).collect()
 }
 
-/// How CL and WL stand to each other.
-const RELATIONS: [&str; 4] = ["WL < CL", "WL = CL", "WL > CL", "CL 0"];
-
-fn relation(cycle: Cycle) -> &'static str {
-    match cycle {
-        Cycle { cl: 0, .. } => RELATIONS[3],
-        Cycle { cl, wl } if wl > cl => RELATIONS[2],
-        Cycle { cl, wl } if wl == cl => RELATIONS[1],
-        _ => RELATIONS[0],
-    }
-}
-
 /// CL and WL that have a row of their own.
 const EXTREMES: [(u32, u32); 8] = [
     (0, 1),
@@ -333,7 +325,7 @@ const EXTREMES: [(u32, u32); 8] = [
 /// The names of the counts that are kept by name.
 fn names() -> Vec<String> {
     let mut names: Vec<String> = NAMES.iter().map(|name| name.to_string()).collect();
-    for relation in RELATIONS {
+    for relation in RELATIONS.map(Relation::name) {
         names.push(format!("UNPACK completed, {relation}"));
         names.push(format!("UNPACK completed with its bit 31 set, {relation}"));
         names.push(format!("UNPACK completed in several rounds, {relation}"));

@@ -1,7 +1,8 @@
-//! V4-32 with M clear and MODE 0, and the UNPACKs that are nearly that.
+//! V4-32 with M clear and MODE 0, and the UNPACKs that are nearly that; how CL and WL stand to each
+//! other.
 
 use crate::vif::Registers;
-use crate::vif_unpack::Format;
+use crate::vif_unpack::{Cycle, Format};
 
 #[derive(Clone, Copy, PartialEq, Eq, Debug)]
 pub enum Kind {
@@ -84,9 +85,50 @@ impl Kind {
     pub fn masked(self) -> bool {
         matches!(self, Kind::ZeroMask | Kind::Masked | Kind::MaskedMode)
     }
+}
 
-    pub fn command(self) -> u32 {
-        0x60 | (self.masked() as u32) << 4 | self.format().number()
+/// The CMD of an UNPACK.
+pub fn command(format: &Format, masked: bool) -> u32 {
+    0x60 | (masked as u32) << 4 | format.number()
+}
+
+/// How CL and WL stand to each other.
+#[derive(Clone, Copy, PartialEq, Eq, Debug)]
+pub enum Relation {
+    /// The writes leave gaps.
+    Gaps,
+    Equal,
+    /// Some writes fill.
+    Fills,
+    /// CL 0: all writes fill, and there is no payload.
+    NoPayload,
+}
+
+pub const RELATIONS: [Relation; 4] = [
+    Relation::Gaps,
+    Relation::Equal,
+    Relation::Fills,
+    Relation::NoPayload,
+];
+
+impl Relation {
+    /// Under a cycle with WL above 0.
+    pub fn of(cycle: Cycle) -> Relation {
+        match cycle {
+            Cycle { cl: 0, .. } => Relation::NoPayload,
+            Cycle { cl, wl } if wl > cl => Relation::Fills,
+            Cycle { cl, wl } if wl == cl => Relation::Equal,
+            _ => Relation::Gaps,
+        }
+    }
+
+    pub fn name(self) -> &'static str {
+        match self {
+            Relation::Gaps => "WL < CL",
+            Relation::Equal => "WL = CL",
+            Relation::Fills => "WL > CL",
+            Relation::NoPayload => "CL 0",
+        }
     }
 }
 
@@ -96,7 +138,7 @@ mod tests {
 
     #[test]
     fn kinds_by_code_and_registers() {
-        for (kind, command, mode, mask) in [
+        for (kind, cmd, mode, mask) in [
             (Kind::Plain, 0x6C, 0, 0),
             (Kind::Plain, 0x6C, 0, 0xFF),
             (Kind::ZeroMask, 0x7C, 0, 0),
@@ -115,7 +157,7 @@ mod tests {
                 ..Registers::default()
             };
             let (format, masked) = (kind.format(), kind.masked());
-            assert_eq!(kind.command(), command);
+            assert_eq!(command(&format, masked), cmd);
             assert_eq!(Kind::of(&format, masked, &registers), Some(kind));
         }
     }

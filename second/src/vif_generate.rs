@@ -1179,7 +1179,7 @@ fn goes_up(random: &mut Random, number: u32) -> bool {
 }
 
 /// A code that is refused with 20, 21 or 23; on VIF0 with 26 too, where not with 22.
-fn illegal_code(random: &mut Random, model: Model) -> u32 {
+pub fn illegal_code(random: &mut Random, model: Model) -> u32 {
     let rest = random.word() & 0x00FF_FFFF;
     match random.below(if model.has_tops() { 6 } else { 8 }) {
         0 => code_word(0x05, 0, 0) | rest | 3,
