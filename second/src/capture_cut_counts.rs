@@ -43,7 +43,7 @@ const NAMES: [&str; 25] = [
 
 /// What the step before a cut took, where a code waits.
 const TAKEN: [&str; 3] = ["the code", "some payload", "a tag"];
-const FORMATS: [Format; 3] = [Format::Packed, Format::Reglist, Format::Image];
+pub const FORMATS: [Format; 3] = [Format::Packed, Format::Reglist, Format::Image];
 const ENTRY: [u32; 6] = [
     refusals::MAIN,
     refusals::DATA,

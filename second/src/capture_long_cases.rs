@@ -5,6 +5,7 @@ use crate::capture_cases::{Case, Standing};
 use crate::capture_cut_counts;
 use crate::capture_cuts::{self, Family};
 use crate::capture_generate::{plain_case, run, split, start, NO_LIMIT};
+use crate::capture_long_codes::in_instruction;
 use crate::capture_long_packets::Packets;
 use crate::capture_long_tags::{Chain, Spread};
 use crate::capture_long_words::{Maker, Wanted};
@@ -22,19 +23,15 @@ use crate::way::{Way, WAYS};
 
 /// Captures of V4-32 and of what is nearly that by seed.
 const CAPTURES: u64 = 48;
-/// Captures of some codes that go on from a state block.
+/// Captures of some codes that go on from a state block, and such that start again inside a payload.
 const FROM_BLOCKS: u64 = 16;
+const STARTED_AGAIN: u64 = 16;
 /// Captures by seed with siblings.
 const FAMILIES: u64 = 32;
 /// The most steps of a run with siblings.
 const MOST_STEPS: u64 = 20_000;
 /// An UNPACK has at least so many writes where it is to be long.
 pub const LONG: u32 = 16;
-pub const PACKET_FORMATS: [gif::Format; 3] = [
-    gif::Format::Packed,
-    gif::Format::Reglist,
-    gif::Format::Image,
-];
 
 /// What a capture is like.
 struct Taste {
@@ -54,7 +51,7 @@ impl Taste {
         Taste {
             payload: random.within(300..=3_000) as usize,
             plain: random.percent(60),
-            interrupts: random.percent(30),
+            interrupts: random.percent(40),
             spread: Spread {
                 tte: random.percent(60),
                 quadwords: random.pick(&[(0, few), (0, few), (50, many), (50, many), (0, many)]),
@@ -95,8 +92,16 @@ pub fn cases(seed: u64) -> Vec<Case> {
         let (case, _) = some_case(&mut random, model);
         cases.push(from_a_block(&mut random, case, model));
     }
+    for turn in 0..STARTED_AGAIN {
+        let upload = turn % 4 < 2;
+        cases.push(started_again(
+            &mut random,
+            MODELS[turn as usize % 2],
+            upload,
+        ));
+    }
     for way in WAYS {
-        for format in PACKET_FORMATS {
+        for format in capture_cut_counts::FORMATS {
             cases.extend(packet_cases(&mut random, way, format));
         }
     }
@@ -162,7 +167,9 @@ fn every_case(random: &mut Random, model: Model, format: Format) -> Case {
     let mut maker = taste.maker(random, model);
     for wanted in Wanted::all(maker.random, format) {
         maker.add_others();
-        maker.add_unpack(&wanted, LONG);
+        // More than CL, so that fills and gaps come.
+        let cl = wanted.cycle.map_or(0, |cycle| cycle.cl);
+        maker.add_unpack(&wanted, LONG.max(cl + 1));
     }
     let main = maker.main(None);
     let case = started(random, channel_of(model), &main, &taste, None);
@@ -203,25 +210,34 @@ fn refused_case(random: &mut Random, model: Model, refusal: u32, whole: bool) ->
     ended(random, case, whole)
 }
 
-/// Captures of packets of a format on a way: one that ends, and one for each refusal.
+/// Captures of packets of a format on a way, which end or are refused, in one run or cut anywhere.
 fn packet_cases(random: &mut Random, way: Way, format: gif::Format) -> Vec<Case> {
     let mut ends = vec![None, Some(refusals::ROOM)];
     if format != gif::Format::Image {
         ends.push(Some(refusals::DESCRIPTOR));
     }
-    let all = ends.into_iter().map(|refusal| {
-        let mut taste = Taste::new(random);
-        taste.spread.tte = false;
-        taste.interrupts &= refusal.is_none();
-        let b = refusal == Some(refusals::DESCRIPTOR);
-        let main = match way {
-            Way::Channel2 => quadwords_alone(random, &taste, format, b),
-            _ => quadwords_in_codes(random, &taste, (way, format), b),
-        };
-        let case = started(random, way.channel(), &main, &taste, refusal);
-        ended(random, case, refusal.is_some())
-    });
-    all.collect()
+    let both = [true, false].into_iter();
+    let all = both.flat_map(|whole| ends.iter().map(move |&refusal| (whole, refusal)));
+    all.map(|(whole, refusal)| packet_case(random, (way, format), refusal, whole))
+        .collect()
+}
+
+fn packet_case(
+    random: &mut Random,
+    (way, format): (Way, gif::Format),
+    refusal: Option<u32>,
+    whole: bool,
+) -> Case {
+    let mut taste = Taste::new(random);
+    taste.spread.tte = false;
+    taste.interrupts &= !whole;
+    let b = refusal == Some(refusals::DESCRIPTOR);
+    let main = match way {
+        Way::Channel2 => quadwords_alone(random, &taste, format, b),
+        _ => quadwords_in_codes(random, &taste, (way, format), b),
+    };
+    let case = started(random, way.channel(), &main, &taste, refusal);
+    ended(random, case, whole)
 }
 
 /// Main memory with packets for channel 2, the last with a B or not.
@@ -296,10 +312,40 @@ fn entries_of(case: &Case) -> u64 {
     standing.used()
 }
 
+/// A capture whose chain starts again where a payload is due, or the second word of an instruction;
+/// the words are then taken for others.
+fn started_again(random: &mut Random, model: Model, upload: bool) -> Case {
+    let mut taste = Taste::new(random);
+    taste.interrupts = false;
+    let mut maker = taste.maker(random, model);
+    maker.add_upload();
+    add_some(&mut maker);
+    let main = maker.main(None);
+    let mut case = started(random, channel_of(model), &main, &taste, None);
+    let cut = random.pick(&payload_due(&case, upload));
+    case.calls.extend([run(cut), case.calls[0]]);
+    cut_anywhere(random, case, &[60, 300, 900, 3_000])
+}
+
+/// The counts of steps after which payload is due in a run, or the second word of an instruction.
+fn payload_due(case: &Case, upload: bool) -> Vec<u64> {
+    let mut standing = Standing::new(case);
+    standing.make(&case.calls[0]);
+    let (mut steps, mut due) = (0, Vec::new());
+    standing.run(NO_LIMIT, |_, new, _| {
+        steps += 1;
+        let waiting = new.unit().waiting.as_ref();
+        if waiting.is_some_and(|waiting| !upload || in_instruction(waiting)) {
+            due.push(steps);
+        }
+    });
+    due
+}
+
 /// The case with runs to its end: without a limit, or cut anywhere.
 fn ended(random: &mut Random, mut case: Case, whole: bool) -> Case {
     if !whole {
-        return cut_anywhere(random, case, &[60, 300, 900, 3_000]);
+        return cut_anywhere(random, case, &[9, 60, 300, 900]);
     }
     case.calls.extend([run(NO_LIMIT), run(1)]);
     case
@@ -377,7 +423,7 @@ mod tests {
                 }
             }
         }
-        assert_eq!(done, CAPTURES + 26 + FROM_BLOCKS + 9);
+        assert!(done >= CAPTURES + 26 + FROM_BLOCKS + 18);
         for refusal in MODELS.into_iter().flat_map(refusals_of) {
             assert!(refused.contains(&refusal), "{refusal}");
         }
@@ -388,8 +434,8 @@ mod tests {
         let mut random = Random::new(3);
         for model in MODELS {
             for refusal in refusals_of(model) {
-                for whole in [true, false] {
-                    let case = refused_case(&mut random, model, refusal, whole);
+                for turn in 0..10 {
+                    let case = refused_case(&mut random, model, refusal, turn % 2 == 0);
                     assert_eq!(last_answers(&case), [refusal; 2], "{model:?}, {refusal}");
                 }
             }

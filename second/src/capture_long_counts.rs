@@ -1,16 +1,18 @@
-//! What long captures of V4-32 reached. Plain is V4-32 with M clear and MODE 0.
+//! What long captures reached: of V4-32, and of what the other modules count. Plain is V4-32 with M clear
+//! and MODE 0.
 
 use crate::capture_cases::{Call, Case, Standing};
+use crate::capture_long_codes;
+use crate::capture_long_data;
+use crate::capture_long_unpacks::{self, Stretch, Waits, STRETCH};
 use crate::chain::{word_at, Next, State, Step, Tag};
 use crate::compare::named_rows;
 use crate::model::{Model, MODELS};
 use crate::unpack_kind::{Kind, KINDS};
-use crate::vif::{Code, Payload, Unit};
-use crate::vif_unpack::{Cycle, Unpack};
+use crate::vif::{Code, Unit};
+use crate::vif_unpack::Cycle;
 use std::collections::HashMap;
 
-/// A stretch has at least so many whole vectors.
-const STRETCH: u32 = 16;
 /// Tags of few quadwords have at most so many, tags of many at least.
 const FEW: u32 = 3;
 const MANY: u32 = 50;
@@ -42,71 +44,27 @@ pub struct Counts {
     words: [[u64; 2]; KINDS.len()],
     /// Plain vectors by how CL and WL stand to each other, and by unit.
     vectors: [[u64; 2]; 3],
+    pub unpacks: capture_long_unpacks::Counts,
+    codes: capture_long_codes::Counts,
+    data: capture_long_data::Counts,
     stretch: Stretch,
     /// No step of the run has been noted.
     at_start: bool,
 }
 
-/// The plain vectors of a code that a run takes one after another, with no tag between.
-#[derive(Default)]
-struct Stretch {
-    vectors: u32,
-    /// The vector under way was begun in the stretch.
-    begun: bool,
+/// An UNPACK that waits and is plain.
+fn plain(unit: &Unit) -> Option<Waits<'_>> {
+    Waits::of(unit).filter(|waits| kind(waits) == Some(Kind::Plain))
 }
 
-impl Stretch {
-    /// Takes a word of a vector; whether the vectors are now enough.
-    fn take(&mut self, number: u32) -> bool {
-        self.begun |= number == 0;
-        let whole = self.begun && number == WORDS - 1;
-        self.vectors += whole as u32;
-        whole && self.vectors == STRETCH
-    }
+fn kind(waits: &Waits) -> Option<Kind> {
+    let unpack = waits.unpack;
+    Kind::of(&unpack.format, unpack.masked, &waits.unit.registers)
 }
 
-/// An UNPACK that waits and has a kind.
-struct Waits<'a> {
-    unit: &'a Unit,
-    unpack: &'a Unpack,
-    kind: Kind,
-    due: u32,
-}
-
-impl Waits<'_> {
-    fn of(unit: &Unit) -> Option<Waits<'_>> {
-        let waiting = unit.waiting.as_ref()?;
-        let Payload::Unpack(unpack) = &waiting.payload else {
-            return None;
-        };
-        let kind = Kind::of(&unpack.format, unpack.masked, &unit.registers)?;
-        Some(Waits {
-            unit,
-            unpack,
-            kind,
-            due: waiting.due,
-        })
-    }
-
-    fn plain(unit: &Unit) -> Option<Waits<'_>> {
-        Waits::of(unit).filter(|waits| waits.kind == Kind::Plain)
-    }
-
-    fn cycle(&self) -> Cycle {
-        self.unit.registers.cycle()
-    }
-
-    /// The next word's number in a vector of four words.
-    fn number(&self) -> u32 {
-        (self.unpack.all_words(self.cycle()) - self.due) % WORDS
-    }
-
-    /// Whether write `i` goes round the memory's end after the write before it.
-    fn wraps(&self, i: u32) -> bool {
-        let size = self.unit.model.sizes().quadwords;
-        let rounds = |i| self.unpack.position(self.cycle(), i) / size;
-        i > 0 && rounds(i) > rounds(i - 1)
-    }
+/// The next word's number in a vector of four words.
+fn number(waits: &Waits) -> u32 {
+    waits.taken() % WORDS
 }
 
 impl Counts {
@@ -122,7 +80,7 @@ impl Counts {
         let mut standing = Standing::new(case);
         let main = standing.main.clone();
         let state = standing.state.expect("a state");
-        let inside = Waits::plain(state.unit()).is_some();
+        let inside = plain(state.unit()).is_some();
         self.add_if("long captures that begin inside a plain V4-32", inside);
         for call in &case.calls {
             match *call {
@@ -138,19 +96,37 @@ impl Counts {
         self.add_if("runs over long captures", true);
         self.stretch = Stretch::default();
         self.at_start = true;
-        standing.run(allowance, |old, _, tried| {
-            if let Ok(step) = tried {
-                self.note_step(main, old, &step);
-            }
+        self.unpacks.begin_run();
+        self.codes.begin_run();
+        self.data.begin_run();
+        let stop = standing.run(allowance, |old, _, tried| {
+            self.note_tried(main, old, &tried)
         });
+        let state = standing.state.as_ref().expect("a state");
+        self.data.end_run(state, stop.answer);
+        if state.channel != 2 {
+            self.codes.end_run(main, state, stop.answer);
+        }
+    }
+
+    fn note_tried(&mut self, main: &[u8], old: &State, tried: &Result<Step, u32>) {
+        self.data.note_step(old, tried);
+        if old.channel == 2 {
+            return;
+        }
+        self.codes.note_step(main, old, tried);
+        if let Ok(step) = tried {
+            self.note_step(main, old, step);
+        }
     }
 
     fn note_step(&mut self, main: &[u8], old: &State, step: &Step) {
         let unit = old.unit();
         let first = std::mem::take(&mut self.at_start);
-        let plain = Waits::plain(unit);
+        let plain = plain(unit);
         if let Step::Tag(tag) = step {
             self.stretch = Stretch::default();
+            self.unpacks.note_tag(unit);
             if let Some(plain) = &plain {
                 self.note_tag(plain, tag, first);
             }
@@ -174,7 +150,7 @@ impl Counts {
 
     /// Notes a tag that is read while a plain UNPACK waits.
     fn note_tag(&mut self, plain: &Waits, tag: &Tag, first: bool) {
-        let inside = plain.number() != 0;
+        let inside = plain.inside();
         let few = (1..=FEW).contains(&tag.qwc);
         self.add_if("plain V4-32: tags of few quadwords inside", few);
         let name = "plain V4-32: tags of many quadwords inside";
@@ -186,8 +162,9 @@ impl Counts {
 
     /// Notes a word that a unit takes: payload by its kind, or a code.
     fn note_word(&mut self, main: &[u8], address: u32, unit: &Unit) {
-        if let Some(waits) = Waits::of(unit) {
-            self.words[waits.kind as usize][unit.model as usize] += 1;
+        self.unpacks.note_word(unit, word_at(main, address));
+        if let Some(kind) = Waits::of(unit).and_then(|waits| kind(&waits)) {
+            self.words[kind as usize][unit.model as usize] += 1;
         } else if unit.waiting.is_none() {
             self.note_code(unit, word_at(main, address));
         }
@@ -216,11 +193,11 @@ impl Counts {
 
     /// Notes a word of plain payload.
     fn note_plain(&mut self, plain: &Waits, first: bool) {
-        let (model, number) = (plain.unit.model, plain.number());
+        let (model, number) = (plain.unit.model, number(plain));
         if first {
             self.add_if(&begins_at(model, number), true);
         }
-        if self.stretch.take(number) {
+        if self.stretch.take(plain) {
             self.add_if(&stretches(model), true);
         }
         if number == WORDS - 1 {
@@ -233,7 +210,7 @@ impl Counts {
         let (cycle, model) = (plain.cycle(), plain.unit.model);
         self.vectors[relation(cycle)][model as usize] += 1;
         self.add_if("plain V4-32: vectors with WL above 4", cycle.wl > 4);
-        let (first, end) = plain.unpack.written(cycle, plain.due);
+        let (first, end) = plain.written();
         for i in first..end {
             self.add_if("plain V4-32: fills", cycle.is_fill(i));
             if plain.wraps(i) {
@@ -255,6 +232,8 @@ impl Counts {
                 rows.push((name, self.vectors[relation][model as usize]));
             }
         }
+        let others = [self.unpacks.rows(), self.codes.rows(), self.data.rows()];
+        rows.extend(others.concat());
         rows
     }
 }
@@ -301,13 +280,31 @@ fn names() -> Vec<String> {
 #[cfg(test)]
 mod tests {
     use super::*;
-    use crate::capture_generate::{plain_case, run, start, tagged, NO_LIMIT};
-    use crate::chain::END;
+    use crate::capture_generate::{plain_case, run, split, start, tagged, NO_LIMIT};
+    use crate::capture_long_cases;
+    use crate::chain::{CNT, END};
+    use crate::compare::zeros;
+    use crate::gif_generate::tag_quadword;
     use crate::vif_generate::{code_word, stcycl};
 
-    fn count(counts: &Counts, name: &str) -> u64 {
+    const MASK: [u32; 2] = [0x2000_0000, 0xE4];
+
+    /// What the runs of a chain on a channel reach, with a log of so many entries.
+    fn counted(channel: u32, main: &[u32], entries: u64, allowances: &[u64]) -> Counts {
+        let mut calls = vec![start(channel, 0, 0)];
+        calls.extend(allowances.iter().map(|&allowance| run(allowance)));
+        let mut counts = Counts::default();
+        counts.note_case(&plain_case(&State::reset(), main, entries, &calls));
+        counts
+    }
+
+    fn assert_counts(counts: &Counts, expected: &[(&str, u64)]) {
         let rows = counts.rows();
-        rows.iter().find(|row| row.0 == name).unwrap().1
+        for (name, expected) in expected {
+            let row = rows.iter().find(|row| row.0 == *name);
+            let (_, count) = row.unwrap_or_else(|| panic!("no row {name}"));
+            assert_eq!(count, expected, "{name}");
+        }
     }
 
     /// 20 vectors from quadword 1,020 on, in three runs: the code and 5 words, 65 words, the rest.
@@ -315,37 +312,166 @@ mod tests {
     fn a_capture_by_hand() {
         let mut payload = vec![0, 0, stcycl(1, 1), code_word(0x6C, 20, 1_020)];
         payload.extend(1..=80);
-        let calls = [start(1, 0, 0), run(10), run(65), run(NO_LIMIT)];
-        let main = tagged(END, &payload);
-        let mut counts = Counts::default();
-        counts.note_case(&plain_case(&State::reset(), &main, 0, &calls));
-        for (name, expected) in [
-            ("runs over long captures".to_string(), 3),
-            (begins_at(Model::Vif1, 1), 1),
-            (begins_at(Model::Vif1, 2), 1),
-            (wraps(Model::Vif1, "CL = WL"), 1),
-            (stretches(Model::Vif1), 0),
-            ("plain V4-32: vectors on VIF1, CL = WL".to_string(), 20),
-            (
-                "payload words on VIF1: V4-32, M clear, MODE 0".to_string(),
-                80,
-            ),
-        ] {
-            assert_eq!(count(&counts, &name), expected, "{name}");
+        let counts = counted(1, &tagged(END, &payload), 0, &[10, 65, NO_LIMIT]);
+        assert_counts(
+            &counts,
+            &[
+                ("runs over long captures", 3),
+                (&begins_at(Model::Vif1, 1), 1),
+                (&begins_at(Model::Vif1, 2), 1),
+                (&wraps(Model::Vif1, "CL = WL"), 1),
+                (&stretches(Model::Vif1), 0),
+                ("plain V4-32: vectors on VIF1, CL = WL", 20),
+                ("payload words on VIF1: V4-32, M clear, MODE 0", 80),
+                ("long V4-32 on VIF1: vectors", 20),
+                ("long V4-32 on VIF1: vectors with M set", 0),
+                ("long V4-32 on VIF1: vectors with gaps", 0),
+                (WRAPS_OF_V4_32, 1),
+                ("long V4-32 on VIF0: vectors", 0),
+                (
+                    "long captures on VIF1: runs that the allowance ends inside UNPACK after vectors",
+                    2,
+                ),
+                (
+                    "long captures on VIF1: runs that the allowance ends inside a vector",
+                    2,
+                ),
+            ],
+        );
+    }
+
+    const WRAPS_OF_V4_32: &str = "long V4-32 on VIF1: writes round the end of memory inside a code";
+
+    /// V3-8 with M set, MODE 2, CL 2 and WL 3: 32 writes, 22 of them vectors in 17 words, of which the
+    /// first two lie behind the first tag; then V2-16 with CL 0 and 256 writes.
+    #[test]
+    fn unpacks_by_hand() {
+        let first = [
+            &MASK[..],
+            &[stcycl(2, 3), 0x0500_0002, 0, code_word(0x7A, 32, 0), 1, 2],
+        ];
+        let mut second = vec![3; 15];
+        second.extend([stcycl(0, 1), code_word(0x65, 0, 250), 0, 0, 0]);
+        let main = [tagged(CNT, &first.concat()), tagged(END, &second)].concat();
+        let counts = counted(0, &main, 0, &[NO_LIMIT]);
+        assert_counts(
+            &counts,
+            &[
+                ("long V3-8 on VIF0: vectors", 22),
+                ("long V3-8 on VIF0: vectors with M set", 22),
+                ("long V3-8 on VIF0: vectors with USN set", 0),
+                ("long V3-8 on VIF0: vectors with MODE 1", 0),
+                ("long V3-8 on VIF0: vectors with MODE 2", 22),
+                ("long V3-8 on VIF0: vectors with gaps", 0),
+                ("long V3-8 on VIF0: fills after a vector", 10),
+                ("long V3-8 on VIF0: fills without a vector", 0),
+                ("long V3-8 on VIF0: tags inside a vector", 1),
+                // Of 19 vectors that lie behind the second tag the first was begun before it.
+                (
+                    "long V3-8 on VIF0: stretches of 16 whole vectors and more",
+                    1,
+                ),
+                ("long V2-16 on VIF0: vectors", 0),
+                ("long V2-16 on VIF0: codes of 256 writes", 1),
+                ("long V2-16 on VIF0: fills without a vector", 256),
+                (
+                    "long V2-16 on VIF0: writes round the end of memory inside a code",
+                    1,
+                ),
+                ("long captures on VIF0: tags inside UNPACK", 1),
+                ("long captures on VIF0: tags inside a vector", 1),
+            ],
+        );
+    }
+
+    /// A chain of tags with these words behind them, of which the last ends it.
+    fn chain(pieces: &[&[[u32; 4]]]) -> Vec<u32> {
+        let (last, others) = pieces.split_last().unwrap();
+        let mut main: Vec<u32> = Vec::new();
+        others
+            .iter()
+            .for_each(|piece| main.extend(tagged(CNT, &piece.concat())));
+        main.extend(tagged(END, &last.concat()));
+        main
+    }
+
+    /// Two runs end with interrupts: at the second NOP of two, and at the end of an MPG that goes round
+    /// the end of memory. The last is refused after a vector.
+    #[test]
+    fn codes_by_hand() {
+        for (channel, unit, last) in [(0, "VIF0", 511), (1, "VIF1", 2_047)] {
+            let main = chain(&[
+                &[[0; 4], [0x2000_0000, 0xE4, 0, 0x3100_0000], [5, 6, 7, 8]],
+                &[[0; 4]],
+                &[[0, 0, 0x3000_0000, 1]],
+                &[
+                    [2, 3, 4, 0],
+                    [0x8000_0000, 0, 0, 0xCA02_0000 | last],
+                    [1, 2, 3, 4],
+                    [stcycl(1, 1), 0x6001_0000, 9, 0x0800_0000],
+                ],
+            ]);
+            let counts = counted(channel, &main, 0, &[3, NO_LIMIT, NO_LIMIT, NO_LIMIT]);
+            for (name, expected) in [
+                ("two NOPs and more in a row behind one tag", 6),
+                ("100 NOPs and more in a row behind one tag", 0),
+                ("NOPs on both sides of a tag", 1),
+                ("runs that the allowance ends between NOPs", 1),
+                ("interrupts at a NOP after a NOP", 1),
+                ("STMASK between other codes behind one tag", 1),
+                ("STROW between other codes behind one tag", 0),
+                ("STCOL between other codes behind one tag", 0),
+                ("tags inside STROW", 1),
+                ("tags inside MPG", 0),
+                ("MPG payload round the end of code memory", 1),
+                ("interrupts at the end of MPG", 1),
+                ("refused with 20 after vectors of the run", 1),
+            ] {
+                let name = format!("long captures on {unit}: {name}");
+                assert_counts(&counts, &[(&name, expected)]);
+            }
         }
     }
 
-    /// A vector that the stretch began inside does not count.
+    /// Two quadwords of IMAGE on channel 2, of which the second has no room in the log; two of REGLIST
+    /// inside DIRECT behind a second tag, with a run's end between.
     #[test]
-    fn stretches_are_of_whole_vectors() {
-        for (first, words) in [(0, 64), (1, 67), (2, 66), (3, 65)] {
-            let mut stretch = Stretch::default();
-            let takes = (0..words).map(|i| stretch.take((first + i) % WORDS));
-            let takes: Vec<bool> = takes.collect();
-            assert_eq!(
-                takes.iter().position(|&enough| enough),
-                Some(words as usize - 1)
-            );
+    fn data_by_hand() {
+        let image = [split(tag_quadword(2, 2, 1, 0)), [1; 4], [2; 4]];
+        let counts = counted(2, &chain(&[&image]), 2, &[NO_LIMIT]);
+        assert_counts(
+            &counts,
+            &[
+                ("long data, Image, channel 2: quadwords", 1),
+                (
+                    "long data, Image, channel 2: refused with 31 after quadwords of the run",
+                    1,
+                ),
+                ("long data, Image, channel 2: tags inside", 0),
+            ],
+        );
+        let direct = [[0, 0, 0, 0x5000_0003], split(tag_quadword(2, 1, 2, 0x00))];
+        let main = chain(&[&direct, &[[1; 4], [2; 4]]]);
+        assert_counts(
+            &counted(1, &main, 4, &[8, NO_LIMIT]),
+            &[
+                ("long data, Reglist, DIRECT: quadwords", 2),
+                ("long data, Reglist, DIRECT: tags inside", 1),
+                (
+                    "long data, Reglist, DIRECT: runs that the allowance ends inside",
+                    1,
+                ),
+                ("long captures on VIF1: tags inside DIRECT", 1),
+            ],
+        );
+    }
+
+    #[test]
+    fn every_count_is_reached() {
+        let mut counts = Counts::default();
+        for case in [1, 2].into_iter().flat_map(capture_long_cases::cases) {
+            counts.note_case(&case);
         }
+        assert_eq!(zeros(&counts.rows()), Vec::<&str>::new());
     }
 }

@@ -22,34 +22,37 @@ impl Packets {
             self.due -= 1;
             return random.quadword();
         }
-        let (most, nreg) = (random.pick(&[3, 20, 60]), random.below(16));
-        let descriptors = random_descriptors(random, false, nreg);
-        self.tag(random, (most, nreg), descriptors)
-    }
-
-    /// The rest of the packet, and one with a B behind some data.
-    pub fn with_b(&mut self, random: &mut Random) -> Vec<u128> {
-        let mut quadwords: Vec<u128> = (0..self.due).map(|_| random.quadword()).collect();
-        let nreg = random.within(3..=15);
-        let last = 4 * (nreg - 1);
-        let descriptors = random_descriptors(random, false, nreg) & !(0xF << last) | 0xB << last;
-        quadwords.push(self.tag(random, (3, nreg), descriptors));
-        quadwords.extend((0..nreg).map(|_| random.quadword()));
-        quadwords
-    }
-
-    /// A tag with at most so many loops and so many descriptors.
-    fn tag(&mut self, random: &mut Random, (most, nreg): (u64, u64), descriptors: u64) -> u128 {
         let flg = match self.format {
             Some(Format::Packed) => 0,
             Some(Format::Reglist) => 1,
             Some(Format::Image) => random.pick(&[2, 3]),
             None => random.below(4),
         };
-        // EOP, the unused bits, PRE and PRIM are free.
+        let (most, nreg) = (random.pick(&[3, 20, 60]), random.below(16));
+        let descriptors = random_descriptors(random, false, nreg);
+        let nloop = random.within(1..=most);
+        self.begin(random, tag_quadword(nloop, flg, nreg, descriptors))
+    }
+
+    /// The rest of the packet, and one with a B behind some data, PACKED or REGLIST.
+    pub fn with_b(&mut self, random: &mut Random) -> Vec<u128> {
+        let mut quadwords: Vec<u128> = (0..self.due).map(|_| random.quadword()).collect();
+        let flg = match self.format {
+            Some(format) => (format == Format::Reglist) as u64,
+            None => random.below(2),
+        };
+        let nreg = random.within(3..=15);
+        let last = 4 * (nreg - 1);
+        let descriptors = random_descriptors(random, false, nreg) & !(0xF << last) | 0xB << last;
+        quadwords.push(self.begin(random, tag_quadword(2, flg, nreg, descriptors)));
+        quadwords.extend((0..nreg).map(|_| random.quadword()));
+        quadwords
+    }
+
+    /// Begins a packet with a tag in which EOP, PRE, PRIM and the unused bits are still free.
+    fn begin(&mut self, random: &mut Random, tag: u128) -> u128 {
         let rest = random.number() & 0x03FF_FFFF_FFFF_8000;
-        let tag = tag_quadword(random.within(1..=most), flg, nreg, descriptors) | rest as u128;
         self.due = Tag::decode(tag).all_data();
-        tag
+        tag | rest as u128
     }
 }

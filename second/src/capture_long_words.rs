@@ -138,7 +138,7 @@ impl Maker<'_> {
 
     /// Adds a code, at times with its bit 31 set.
     fn add_code(&mut self, code: u32) {
-        let interrupt = self.interrupts && self.random.percent(10);
+        let interrupt = self.interrupts && self.random.percent(20);
         self.add_word(code | BIT_31 * interrupt as u32);
     }
 
@@ -285,7 +285,7 @@ impl Maker<'_> {
     }
 
     /// MPG, often round the memory's end.
-    fn add_upload(&mut self) {
+    pub fn add_upload(&mut self) {
         self.pad_to(|number| number % 2 == 1);
         let count = some_count(self.random);
         let size = self.model.sizes().instructions;
