@@ -293,28 +293,38 @@ mod tests {
         }
     }
 
+    /// Whether there are writes with M and without it in every MODE under a relation.
+    fn reached(counts: &ByFlags, relation: Relation) -> bool {
+        let mut all = counts.iter().flatten();
+        all.all(|by_relation| by_relation[relation as usize] > 0)
+    }
+
+    fn assert_reached(of: &OfFormat, name: &str) {
+        for (relation, vectors, fills) in [
+            (Relation::Gaps, true, false),
+            (Relation::Equal, true, false),
+            (Relation::Fills, true, true),
+            (Relation::NoPayload, false, true),
+        ] {
+            assert_eq!(
+                reached(&of.vectors, relation),
+                vectors,
+                "{name}, {relation:?}"
+            );
+            assert_eq!(reached(&of.fills, relation), fills, "{name}, {relation:?}");
+        }
+    }
+
     /// Every format with M and MODE under every relation of CL and WL, in the captures of each seed.
     #[test]
     fn every_kind_is_reached() {
         for seed in [1, 2] {
             let mut counts = capture_long_counts::Counts::default();
             cases(seed).iter().for_each(|case| counts.note_case(case));
-            for (model, format) in MODELS
-                .into_iter()
-                .flat_map(|model| all_formats().into_iter().map(move |format| (model, format)))
-            {
-                let of = counts.unpacks.of(model, &format);
-                for relation in RELATIONS {
-                    let reached = |counts: &ByFlags| {
-                        let all = counts.iter().flatten();
-                        all.map(|by_relation| by_relation[relation as usize])
-                            .all(|count| count > 0)
-                    };
-                    let vectors = relation != Relation::NoPayload;
-                    let fills = !vectors || relation == Relation::Fills;
-                    let name = format_name(&format);
-                    assert_eq!(reached(&of.vectors), vectors, "{name}, {relation:?}");
-                    assert_eq!(reached(&of.fills), fills, "{name}, {relation:?}");
+            for of_unit in &counts.unpacks.counts {
+                for format in all_formats() {
+                    let of = &of_unit[format.number() as usize];
+                    assert_reached(of, &format_name(&format));
                 }
             }
         }
