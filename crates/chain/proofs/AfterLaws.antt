@@ -23,11 +23,12 @@ use Rattle.gif.proofs.StepLaws.{step-ranged, step-wrote}
 use Rattle.memories.specs.declared.VifUnit.{VifUnit}
 use Rattle.memories.specs.declared.VifUnit.the-variants.{Vif0, Vif1}
 use Rattle.memories.specs.Lengths.{Lent}
-use Rattle.vif.specs.declared.Vif.{Vif}
-use Rattle.vif.specs.declared.VifAnswer.{VifAnswer}
-use Rattle.vif.specs.declared.VifAnswer.the-variants.{Word, Quadword, Refused as VifRefused}
-use Rattle.vif.specs.Range.{unitInRange}
-use Rattle.vif.specs.Step.{Left as VifLeft, countsIn}
+use Rattle.vif_codes.specs.declared.Vif.{Vif}
+use Rattle.vif_codes.specs.declared.VifAnswer.{VifAnswer}
+use Rattle.vif_codes.specs.declared.VifAnswer.the-variants.{Word, Quadword, Refused as VifRefused}
+use Rattle.vif_codes.specs.Range.{unitInRange}
+use Rattle.vif_codes.specs.Counting.{countsIn}
+use Rattle.vif.specs.Step.{Left as VifLeft}
 use Rattle.vif.proofs.KeepLaws.{log-stays}
 use Rattle.vif.proofs.RangeKept.{step-ready}
 use Rattle.chain.specs.declared.Stack.{Stack}
@@ -42,7 +43,7 @@ use Rattle.chain.specs.declared.State.{State}
 use Rattle.fields.specs.Memory.{longAt, quadwordAt}
 use Rattle.chain.specs.Setters.{pickUnit, withPending, withUnit}
 use Rattle.chain.specs.Tags.{qwcOf, idOf, addrOf, sprOf, usesAddr, payloadAt, afterPayload, returnTo, nextTadr, isFull, pushed, popped, nextStack, tagWordsOf, payloadOf, tagRefusal, tagState, tagRead, tagStep}
-use Rattle.vif.specs.Words.{incomingAt}
+use Rattle.vif_codes.specs.Words.{incomingAt}
 use Rattle.chain.specs.Pending.{tagsAfter, payloadAfter}
 use Rattle.chain.specs.Range.{channelInRange, startInRange, entryInRange, stackInRange, tagWordInRange, tagsInRange, wordsInRange, payloadInRange, tagsInside, payloadInside}
 use Rattle.chain.specs.Inner.{Ready, PayloadInside}

@@ -26,12 +26,13 @@ use Rattle.gif.proofs.FeedLaws.{feed-few}
 use Rattle.memories.specs.declared.VifUnit.{VifUnit}
 use Rattle.memories.specs.declared.VifUnit.the-variants.{Vif0, Vif1}
 use Rattle.memories.specs.Lengths.{Lent, lent}
-use Rattle.vif.specs.declared.Vif.{Vif}
-use Rattle.vif.specs.declared.VifAnswer.{VifAnswer}
-use Rattle.vif.specs.declared.VifAnswer.the-variants.{Word, Quadword, Refused as VifRefused}
+use Rattle.vif_codes.specs.declared.Vif.{Vif}
+use Rattle.vif_codes.specs.declared.VifAnswer.{VifAnswer}
+use Rattle.vif_codes.specs.declared.VifAnswer.the-variants.{Word, Quadword, Refused as VifRefused}
+use Rattle.vif_codes.specs.Counting.{countsIn}
+use Rattle.vif_codes.specs.Words.{incomingAt}
 use Rattle.vif.specs.declared.WordsResult.{WordsResult}
-use Rattle.vif.specs.Step.{Left as VifLeft, countsIn, vifStep}
-use Rattle.vif.specs.Words.{incomingAt}
+use Rattle.vif.specs.Step.{Left as VifLeft, vifStep}
 use Rattle.vif.specs.Feeds.{Fed, fed}
 use Rattle.vif.specs.Feed.{FedOn, fedOn, fedOnBy, fedTo, stepMore, afterWord, feedsOf, feedOf}
 use Rattle.chain.specs.declared.Answer.the-variants.{Interrupt, Refused as AnswerRefused}

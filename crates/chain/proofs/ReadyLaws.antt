@@ -15,7 +15,7 @@ use Rattle.memories.specs.declared.VifUnit.{VifUnit}
 use Rattle.memories.specs.declared.VifUnit.the-variants.{Vif0, Vif1}
 use Rattle.memories.specs.Lengths.{Lent, LengthsFit}
 use Rattle.memories.proofs.LengthLaws.{fit-lengths, fit-first}
-use Rattle.vif.specs.Range.{unitInRange}
+use Rattle.vif_codes.specs.Range.{unitInRange}
 use Rattle.vif.specs.Inner.{StepReady}
 use Rattle.chain.specs.declared.TagWords.the-variants.{Nothing as NoTagWords, From}
 use Rattle.chain.specs.declared.Payload.{Payload}

@@ -14,12 +14,13 @@ use Rattle.gif.proofs.RangeLaws.{log-fits}
 use Rattle.gif.proofs.StepLaws.{tested, step-wrote}
 use Rattle.memories.specs.declared.VifUnit.{VifUnit}
 use Rattle.memories.specs.Lengths.{Lent, lent}
-use Rattle.vif.specs.declared.Incoming.{Incoming}
-use Rattle.vif.specs.declared.Vif.{Vif}
-use Rattle.vif.specs.declared.VifAnswer.{VifAnswer}
-use Rattle.vif.specs.declared.VifAnswer.the-variants.{Word, Quadword, Refused as VifRefused}
+use Rattle.vif_codes.specs.declared.Incoming.{Incoming}
+use Rattle.vif_codes.specs.declared.Vif.{Vif}
+use Rattle.vif_codes.specs.declared.VifAnswer.{VifAnswer}
+use Rattle.vif_codes.specs.declared.VifAnswer.the-variants.{Word, Quadword, Refused as VifRefused}
+use Rattle.vif_codes.specs.Counting.{countsIn}
 use Rattle.vif.specs.declared.VifResult.{VifResult}
-use Rattle.vif.specs.Step.{Left as VifLeft, left as vifLeft, countsIn, takeOf as vifTakeOf}
+use Rattle.vif.specs.Step.{Left as VifLeft, left as vifLeft, takeOf as vifTakeOf}
 use Rattle.vif.proofs.StepLaws.{vif-tested}
 use Rattle.vif.proofs.KeepLaws.{step-kept}
 use Rattle.chain.specs.declared.TagWords.{TagWords}
@@ -29,7 +30,7 @@ use Rattle.chain.specs.declared.StepResult.{StepResult}
 use Rattle.chain.specs.declared.State.{State}
 use Rattle.fields.specs.Memory.{longAt}
 use Rattle.chain.specs.Tags.{refusedResult}
-use Rattle.vif.specs.Words.{incomingAt}
+use Rattle.vif_codes.specs.Words.{incomingAt}
 use Rattle.chain.specs.Inner.{Ready, WordInside, PayloadInside, QuadwordReady, byTaken}
 use Rattle.chain.specs.Step.{Stepped, refusedStep, steppedBy, fedUnit, heldBy, afterVif, givenVif, vifTook, vifGiven, afterGif, givenGif, gifGiven, payloadOrTag, pendingOrTag}
 use Rattle.chain.proofs.ReadyLaws.{unit-ready, facts-of}

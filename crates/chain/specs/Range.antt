@@ -10,7 +10,7 @@ use Rattle.gif.specs.Range.{pathInRange}
 use Rattle.memories.specs.declared.VifUnit.{VifUnit}
 use Rattle.memories.specs.declared.VifUnit.the-variants.{Vif0, Vif1}
 use Rattle.memories.specs.Lengths.{Lent, lengthsRefusal}
-use Rattle.vif.specs.Range.{unitInRange}
+use Rattle.vif_codes.specs.Range.{unitInRange}
 use Rattle.chain.specs.declared.Stack.{Stack}
 use Rattle.chain.specs.declared.Stack.the-variants.{Empty, One, Two}
 use Rattle.chain.specs.declared.TagWords.{TagWords}

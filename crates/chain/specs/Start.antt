@@ -8,8 +8,8 @@ use Rattle.fields.specs.Fields.{if}
 use Rattle.fields.specs.Refusals.{outOfRange}
 use Rattle.gif.specs.declared.Place.the-variants.{Idle}
 use Rattle.gif.specs.declared.Path.{Path}
-use Rattle.vif.specs.declared.Waiting.the-variants.{Nothing}
-use Rattle.vif.specs.declared.Vif.{Vif}
+use Rattle.vif_codes.specs.declared.Waiting.the-variants.{Nothing}
+use Rattle.vif_codes.specs.declared.Vif.{Vif}
 use Rattle.chain.specs.declared.Stack.the-variants.{Empty}
 use Rattle.chain.specs.declared.TagWords.the-variants.{Nothing as NoTagWords}
 use Rattle.chain.specs.declared.Payload.the-variants.{Nothing as NoPayload}

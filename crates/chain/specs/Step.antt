@@ -13,11 +13,12 @@ use Rattle.gif.specs.declared.GifAnswer.the-variants.{Taken, Refused as GifRefu
 use Rattle.gif.specs.Step.{Left as GifLeft, gifStep}
 use Rattle.memories.specs.declared.VifUnit.{VifUnit}
 use Rattle.memories.specs.Lengths.{Lent, lent}
-use Rattle.vif.specs.declared.Incoming.{Incoming}
-use Rattle.vif.specs.declared.Vif.{Vif}
-use Rattle.vif.specs.declared.VifAnswer.{VifAnswer}
-use Rattle.vif.specs.declared.VifAnswer.the-variants.{Word, Quadword, Refused as VifRefused}
-use Rattle.vif.specs.Step.{Left as VifLeft, countsIn, vifStep}
+use Rattle.vif_codes.specs.declared.Incoming.{Incoming}
+use Rattle.vif_codes.specs.declared.Vif.{Vif}
+use Rattle.vif_codes.specs.declared.VifAnswer.{VifAnswer}
+use Rattle.vif_codes.specs.declared.VifAnswer.the-variants.{Word, Quadword, Refused as VifRefused}
+use Rattle.vif_codes.specs.Counting.{countsIn}
+use Rattle.vif.specs.Step.{Left as VifLeft, vifStep}
 use Rattle.chain.specs.declared.TagWords.{TagWords}
 use Rattle.chain.specs.declared.TagWords.the-variants.{Nothing as NoTagWords, From}
 use Rattle.chain.specs.declared.Payload.{Payload}
@@ -30,7 +31,7 @@ use Rattle.fields.specs.Memory.{quadwordAt}
 use Rattle.chain.specs.Setters.{pickUnit, withPending, withUnit, withPath3}
 use Rattle.chain.specs.Range.{unitOf}
 use Rattle.chain.specs.Tags.{tagStep}
-use Rattle.vif.specs.Words.{incomingAt}
+use Rattle.vif_codes.specs.Words.{incomingAt}
 use Rattle.chain.specs.Pending.{tagsAfter, payloadAfter}
 
 -- the state and the memories

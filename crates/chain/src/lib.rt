@@ -42,8 +42,8 @@ pub struct State {
     pub tags: TagWords,
     pub payload: Payload,
     pub used: u64,
-    pub vif0: vif::Vif,
-    pub vif1: vif::Vif,
+    pub vif0: vif_codes::Vif,
+    pub vif1: vif_codes::Vif,
     pub path2: gif::Path,
     pub path3: gif::Path,
 }

@@ -13,7 +13,7 @@ ghost use lib.Dec.{eqb, leb};
 ghost use Rattle.gif.specs.Range.{pathInRange};
 ghost use Rattle.memories.specs.declared.VifUnit.the-variants.{Vif0, Vif1};
 ghost use Rattle.memories.specs.Lengths.{lent};
-ghost use Rattle.vif.specs.Range.{unitInRange};
+ghost use Rattle.vif_codes.specs.Range.{unitInRange};
 ghost use Rattle.chain.specs.Range.{unitOf, channelInRange, startInRange, entryInRange, stackInRange, tagWordInRange, tagsInRange, wordsInRange, payloadInRange, stateInRange, mainRefused, tagsInside, payloadInside, entryRefusal};
 
 // The unit by the channel.
@@ -141,8 +141,8 @@ fn units_in_range(s: State) -> bool
 {
     let vif0 = s.vif0;
     let vif1 = s.vif1;
-    if vif::unit_in_range(VifUnit::Vif0, vif0) {
-        return vif::unit_in_range(VifUnit::Vif1, vif1);
+    if vif_codes::unit_in_range(VifUnit::Vif0, vif0) {
+        return vif_codes::unit_in_range(VifUnit::Vif1, vif1);
     }
     false
 }

@@ -5,7 +5,7 @@ use super::State;
 use super::TagWords;
 use gif::Path;
 use memories::VifUnit;
-use vif::Vif;
+use vif_codes::Vif;
 ghost use mathlib.Core.Path.{_≡_};
 ghost use Rattle.chain.specs.Setters.{withTag, withPending, withUnit, withPath3, withStart};
 ghost use Rattle.chain.specs.Step.{heldBy};

@@ -13,10 +13,11 @@ use Rattle.fields.specs.Fields.{if}
 use Rattle.gif.specs.declared.Path.{Path}
 use Rattle.memories.specs.declared.VifUnit.the-variants.{Vif1}
 use Rattle.memories.specs.Lengths.{Lent}
-use Rattle.vif.specs.declared.Vif.{Vif}
-use Rattle.vif.specs.declared.VifAnswer.{VifAnswer}
-use Rattle.vif.specs.declared.Incoming.{Incoming}
-use Rattle.vif.specs.Step.{leaves, countsIn, vifStep}
+use Rattle.vif_codes.specs.declared.Vif.{Vif}
+use Rattle.vif_codes.specs.declared.VifAnswer.{VifAnswer}
+use Rattle.vif_codes.specs.declared.Incoming.{Incoming}
+use Rattle.vif_codes.specs.Counting.{countsIn}
+use Rattle.vif.specs.Step.{leaves, vifStep}
 use Rattle.vif.specs.Feeds.{Fed, Feeds, none, more, aWord, aQuadword}
 use Rattle.chain.specs.declared.TagWords.the-variants.{Nothing as NoTagWords}
 use Rattle.chain.specs.declared.Payload.{Payload}
@@ -24,7 +25,7 @@ use Rattle.chain.specs.declared.Payload.the-variants.{Nothing as NoPayload, Wor
 use Rattle.chain.specs.declared.StepAnswer.the-variants.{Completed}
 use Rattle.chain.specs.declared.State.{State}
 use Rattle.chain.specs.Setters.{withPending, withUnit}
-use Rattle.vif.specs.Words.{incomingAt}
+use Rattle.vif_codes.specs.Words.{incomingAt}
 use Rattle.chain.specs.Pending.{payloadAfter}
 use Rattle.chain.specs.Step.{Machine, Stepped, stepped, afterVif}
 use Rattle.chain.specs.Run.{done}

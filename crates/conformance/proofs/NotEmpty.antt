@@ -14,7 +14,7 @@ use Rattle.gif.specs.Log.{entrySize, logMost, entriesIn, logRefused}
 use Rattle.memories.specs.declared.VifUnit.the-variants.{Vif1}
 use Rattle.memories.specs.Units.{dataWords, codeBytes}
 use Rattle.memories.specs.Lengths.{Lent, LengthsFit}
-use Rattle.vif.specs.Range.{registersInRange, waitingInRange, unitInRange}
+use Rattle.vif_codes.specs.Range.{registersInRange, waitingInRange, unitInRange}
 use Rattle.chain.specs.declared.StartAnswer.the-variants.{Started}
 use Rattle.chain.specs.declared.StartResult.{StartResult}
 use Rattle.chain.specs.Range.{mainRefused, channelInRange, stateInRange, startInRange, stackInRange, tagsInRange, payloadInRange}

@@ -17,14 +17,14 @@ use Rattle.unpack.specs.Vector.{extended, element, fieldsOf, fiveFields, vector
 use Rattle.unpack.specs.Write.{added, rowOf, dataOf, fieldOf, rowsAfter, putField, writtenAt, writeVector, registersAt, writeAt, writesFrom}
 use Rattle.unpack.specs.Step.{countOf, unpackingOf, takenWords, acting, heldVector, doneAfter, wordOf, unfedWrites, unpackWord}
 use Rattle.memories.specs.Lengths.{lengthsRefusal}
-use Rattle.vif.specs.Codes.{quadwordsOf as directQuadwordsOf, missingCode, plainCode, unpackNumbers, codeOf, decodeOf}
-use Rattle.vif.specs.Execute.{nextTops, startProgram, setMode, beginMpg, addressOf, unpackRefusal, beginUnpack}
-use Rattle.vif.specs.Payload.{completes, orNothing, wordPlace, mpgStored}
-use Rattle.vif.specs.Range.{registersInRange, waitingInRange, unitInRange, directInRange, upTo}
+use Rattle.vif_codes.specs.Codes.{quadwordsOf as directQuadwordsOf, missingCode, plainCode, unpackNumbers, codeOf, decodeOf}
+use Rattle.vif_codes.specs.Execute.{nextTops, startProgram, setMode, beginMpg, addressOf, unpackRefusal, beginUnpack}
+use Rattle.vif_codes.specs.Payload.{completes, orNothing, wordPlace, mpgStored}
+use Rattle.vif_codes.specs.Range.{registersInRange, waitingInRange, unitInRange, directInRange, upTo}
 use Rattle.gif.specs.Range.{tagInRange}
 use Rattle.vif.specs.Step.{codeStep, giveQuadword, mpgRefused, mpgStep, unpackStep, vifStep}
 use Rattle.fields.specs.Memory.{wordAt, longAt}
-use Rattle.vif.specs.Words.{incomingAt}
+use Rattle.vif_codes.specs.Words.{incomingAt}
 use Rattle.chain.specs.Pending.{tagsAfter, payloadAfter}
 use Rattle.chain.specs.Range.{unitOf, channelInRange, startInRange, stackInRange, tagsInRange, payloadInRange, stateInRange, mainRefused, tagsInside, payloadInside, entryRefusal, wordsInRange}
 use Rattle.chain.specs.Tags.{nextStack, usesAddr, payloadAt, nextTadr, endsChain, tagWordsOf, payloadOf, tagRefusal, tagState, tagRead}

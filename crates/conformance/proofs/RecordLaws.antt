@@ -19,11 +19,11 @@ use Rattle.unpack.proofs.VectorLaws.{Words, none, more}
 use Rattle.memories.specs.declared.VifUnit.the-variants.{Vif1}
 use Rattle.memories.specs.Units.{quadwords, instructions}
 use Rattle.memories.specs.Lengths.{Lent, lent}
-use Rattle.vif.specs.declared.Incoming.{Incoming}
-use Rattle.vif.specs.declared.Incoming.the-variants.{Word0}
-use Rattle.vif.specs.declared.Waiting.the-variants.{Nothing}
-use Rattle.vif.specs.declared.VifAnswer.{VifAnswer}
-use Rattle.vif.specs.Setters.{withWaiting}
+use Rattle.vif_codes.specs.declared.Incoming.{Incoming}
+use Rattle.vif_codes.specs.declared.Incoming.the-variants.{Word0}
+use Rattle.vif_codes.specs.declared.Waiting.the-variants.{Nothing}
+use Rattle.vif_codes.specs.declared.VifAnswer.{VifAnswer}
+use Rattle.vif_codes.specs.Setters.{withWaiting}
 use Rattle.vif.specs.Feeds.{Fed, fed, Feeds, aWord, aQuadword, wordsIn, QuadwordsIn, no-quadword, one-quadword, Zeros, no-zero, one-zero}
 use Rattle.vif.proofs.BurstLaws.{incoming-word}
 use Rattle.vif.proofs.SheetLaws.{firstOdd, feeds-data, feeds-code, feeds-start, feeds-direct, feeds-entries, directWaits}
@@ -32,7 +32,7 @@ use Rattle.chain.specs.declared.Payload.the-variants.{Nothing as NoPayload}
 use Rattle.chain.specs.declared.State.{State}
 use Rattle.fields.specs.Memory.{wordAt, longAt, quadwordAt}
 use Rattle.chain.specs.Setters.{withTag}
-use Rattle.vif.specs.Words.{incomingAt}
+use Rattle.vif_codes.specs.Words.{incomingAt}
 use Rattle.chain.specs.Step.{Machine, machine}
 use Rattle.chain.specs.Range.{unitOf}
 use Rattle.chain.proofs.BurstLaws.{feeding}

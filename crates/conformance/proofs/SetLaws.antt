@@ -7,8 +7,8 @@ use lib.ListN.{length}
 use Rattle.memories.specs.declared.VifUnit.{VifUnit}
 use Rattle.memories.specs.declared.VifUnit.the-variants.{Vif0, Vif1}
 use Rattle.memories.specs.Lengths.{Lent}
-use Rattle.vif.specs.declared.Vif.{Vif}
-use Rattle.vif.specs.declared.Waiting.the-variants.{Nothing}
+use Rattle.vif_codes.specs.declared.Vif.{Vif}
+use Rattle.vif_codes.specs.declared.Waiting.the-variants.{Nothing}
 use Rattle.chain.specs.declared.StartResult.{StartResult}
 use Rattle.chain.specs.declared.State.{State}
 use Rattle.chain.specs.Range.{unitOf, entryRefusal}

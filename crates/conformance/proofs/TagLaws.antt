@@ -8,7 +8,7 @@ use borrow.Author.Tests.{ne-eqb, le-ltb}
 use lib.ListN.{length}
 use Rattle.fields.specs.Fields.{if, bits}
 use Rattle.gif.specs.declared.Place.the-variants.{Idle}
-use Rattle.vif.specs.declared.Waiting.the-variants.{Nothing}
+use Rattle.vif_codes.specs.declared.Waiting.the-variants.{Nothing}
 use Rattle.memories.specs.Lengths.{Lent}
 use Rattle.fields.specs.Counts.{oneTag}
 use Rattle.chain.specs.declared.TagWords.{TagWords}

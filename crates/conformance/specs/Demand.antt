@@ -8,7 +8,7 @@ use lib.ListN.{length, take, drop}
 use Rattle.gif.specs.declared.Place.the-variants.{Idle}
 use Rattle.gif.specs.Log.{entrySize, entriesIn}
 use Rattle.memories.specs.Lengths.{Lent}
-use Rattle.vif.specs.declared.Waiting.the-variants.{Nothing}
+use Rattle.vif_codes.specs.declared.Waiting.the-variants.{Nothing}
 use Rattle.chain.specs.declared.Answer.the-variants.{Done}
 use Rattle.chain.specs.declared.StartAnswer.the-variants.{Started}
 use Rattle.chain.specs.declared.State.{State}

@@ -13,7 +13,7 @@ use Rattle.gif.specs.declared.Place.the-variants.{Idle}
 use Rattle.gif.specs.Log.{entrySize, entriesIn}
 use Rattle.memories.specs.declared.VifUnit.the-variants.{Vif1}
 use Rattle.memories.specs.Lengths.{Lent, lengthsRefusal}
-use Rattle.vif.specs.declared.Waiting.the-variants.{Nothing}
+use Rattle.vif_codes.specs.declared.Waiting.the-variants.{Nothing}
 use Rattle.chain.specs.declared.Answer.the-variants.{Done}
 use Rattle.chain.specs.declared.State.{State}
 use Rattle.chain.specs.Range.{mainRefused, stateInRange, startInRange}

@@ -10,7 +10,7 @@ use lib.Dec.{eqb}
 use Rattle.fields.specs.Fields.{if}
 use Rattle.fields.specs.Refusals.{outOfRange, numberMissing, codeWaits}
 use Rattle.fields.proofs.ChoiceLaws.{if-ind, if-ind-by}
-use Rattle.vif.specs.declared.Vif.{Vif}
+use Rattle.vif_codes.specs.declared.Vif.{Vif}
 use Rattle.state_block.specs.declared.ReadState.{ReadState}
 use Rattle.state_block.specs.Sizes.{unitSize, pathSize, vif1At, path2At, path3At, vif0At, stateSize, part}
 use Rattle.state_block.specs.PathBlock.{pathInBlock}

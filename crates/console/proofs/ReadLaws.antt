@@ -12,7 +12,7 @@ use Rattle.fields.specs.Fields.{if}
 use Rattle.fields.proofs.ChoiceLaws.{and-left, and-right}
 use Rattle.memories.specs.declared.VifUnit.{VifUnit}
 use Rattle.memories.specs.declared.VifUnit.the-variants.{Vif0, Vif1}
-use Rattle.vif.specs.declared.Vif.{Vif}
+use Rattle.vif_codes.specs.declared.Vif.{Vif}
 use Rattle.chain.specs.declared.State.{State}
 use Rattle.chain.specs.Range.{unitOf}
 use Rattle.chain.specs.Setters.{withUnit}

@@ -6,9 +6,9 @@ use lib.ListN.{length, set, length-set}
 use lib.Dec.{ltb}
 use Rattle.fields.proofs.ChoiceLaws.{if-ind}
 use Rattle.memories.specs.declared.VifUnit.{VifUnit}
-use Rattle.vif.specs.declared.Vif.{Vif}
-use Rattle.vif.specs.Setters.{withRow, withCol}
-use Rattle.vif.specs.Range.{registersInRange, unitInRange}
+use Rattle.vif_codes.specs.declared.Vif.{Vif}
+use Rattle.vif_codes.specs.Setters.{withRow, withCol}
+use Rattle.vif_codes.specs.Range.{registersInRange, unitInRange}
 use Rattle.console.specs.declared.SetResult.{SetResult}
 use Rattle.console.specs.Register.{isWaiting, numberSet, setOf}
 

@@ -6,7 +6,7 @@ use lib.ListN.{set}
 use lib.Dec.{eqb, ltb}
 use Rattle.fields.specs.Fields.{if}
 use Rattle.fields.specs.Refusals.{outOfRange, numberMissing, codeWaits}
-use Rattle.vif.specs.declared.Vif.{Vif}
+use Rattle.vif_codes.specs.declared.Vif.{Vif}
 use Rattle.chain.specs.declared.State.{State}
 use Rattle.chain.specs.Range.{unitOf}
 use Rattle.chain.specs.Setters.{withUnit}

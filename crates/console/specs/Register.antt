@@ -5,10 +5,10 @@ use lib.ListN.{set}
 use lib.Dec.{ltb}
 use Rattle.fields.specs.Fields.{if}
 use Rattle.fields.specs.Refusals.{numberMissing, codeWaits}
-use Rattle.vif.specs.declared.Waiting.{Waiting}
-use Rattle.vif.specs.declared.Waiting.the-variants.{Nothing, MaskDue, RowDue, ColDue, MpgDue, DirectDue, DirecthlDue, UnpackDue}
-use Rattle.vif.specs.declared.Vif.{Vif}
-use Rattle.vif.specs.Setters.{withRow, withCol}
+use Rattle.vif_codes.specs.declared.Waiting.{Waiting}
+use Rattle.vif_codes.specs.declared.Waiting.the-variants.{Nothing, MaskDue, RowDue, ColDue, MpgDue, DirectDue, DirecthlDue, UnpackDue}
+use Rattle.vif_codes.specs.declared.Vif.{Vif}
+use Rattle.vif_codes.specs.Setters.{withRow, withCol}
 use Rattle.console.specs.declared.SetAnswer.{SetAnswer}
 use Rattle.console.specs.declared.SetAnswer.the-variants.{Set, Refused}
 use Rattle.console.specs.declared.SetResult.{SetResult}

@@ -6,7 +6,7 @@ use fields::refusals;
 use state_block::VIF0_AT;
 use state_block::VIF1_AT;
 use state_block::state_in_block;
-use vif::Vif;
+use vif_codes::Vif;
 ghost use mathlib.Core.Path.{_≡_};
 ghost use Prim.Native.Nat.{_≤_};
 ghost use Rattle.console.specs.Block.{unitHeld, numberAt, setBlock, setInBlock};

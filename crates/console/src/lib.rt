@@ -15,5 +15,5 @@ pub enum SetAnswer {
 
 pub struct SetResult {
     pub answer: SetAnswer,
-    pub block: vif::Vif,
+    pub block: vif_codes::Vif,
 }

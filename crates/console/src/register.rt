@@ -2,12 +2,12 @@
 use super::SetAnswer;
 use super::SetResult;
 use fields::refusals;
-use vif::Vif;
-use vif::Waiting;
+use vif_codes::Vif;
+use vif_codes::Waiting;
 ghost use mathlib.Core.Path.{_≡_};
 ghost use lib.ListN.{set};
 ghost use Prim.Native.Nat.{_<_};
-ghost use Rattle.vif.specs.Setters.{withRow, withCol};
+ghost use Rattle.vif_codes.specs.Setters.{withRow, withCol};
 ghost use Rattle.console.specs.Register.{isWaiting, numberSet, setOf};
 
 // Whether a code waits for payload.

@@ -15,10 +15,10 @@ use Rattle.gif.specs.declared.GifAnswer.the-variants.{Taken, Refused as GifRefu
 use Rattle.gif.specs.Step.{Left as GifLeft, gifStep}
 use Rattle.memories.specs.declared.VifUnit.{VifUnit}
 use Rattle.memories.specs.Lengths.{Lent}
-use Rattle.vif.specs.declared.VifAnswer.{VifAnswer}
-use Rattle.vif.specs.declared.VifAnswer.the-variants.{Word, Quadword, Refused as VifRefused}
+use Rattle.vif_codes.specs.declared.VifAnswer.{VifAnswer}
+use Rattle.vif_codes.specs.declared.VifAnswer.the-variants.{Word, Quadword, Refused as VifRefused}
+use Rattle.vif_codes.specs.Words.{incomingAt}
 use Rattle.vif.specs.Step.{Left as VifLeft}
-use Rattle.vif.specs.Words.{incomingAt}
 use Rattle.chain.specs.declared.TagWords.{TagWords}
 use Rattle.chain.specs.declared.TagWords.the-variants.{Nothing as NoTagWords, From}
 use Rattle.chain.specs.declared.Payload.{Payload}

@@ -11,12 +11,12 @@ use Rattle.gif.specs.Step.{commit, tagStep, packedWith, reglistStep, imageStep,
 use Rattle.unpack.specs.Formats.{namedIn}
 use Rattle.unpack.specs.Range.{cycleRefused}
 use Rattle.memories.specs.Lengths.{lengthsRefusal}
-use Rattle.vif.specs.Codes.{quadwordsOf as directQuadwordsOf, missingCode, plainCode, unpackNumbers, codeOf, decodeOf}
-use Rattle.vif.specs.Execute.{startProgram, setMode, unpackRefusal, beginUnpack}
-use Rattle.vif.specs.Payload.{completes, orNothing}
-use Rattle.vif.specs.Range.{registersInRange, waitingInRange, unitInRange, directInRange, upTo}
+use Rattle.vif_codes.specs.Codes.{quadwordsOf as directQuadwordsOf, missingCode, plainCode, unpackNumbers, codeOf, decodeOf}
+use Rattle.vif_codes.specs.Execute.{startProgram, setMode, unpackRefusal, beginUnpack}
+use Rattle.vif_codes.specs.Payload.{completes, orNothing}
+use Rattle.vif_codes.specs.Range.{registersInRange, waitingInRange, unitInRange, directInRange, upTo}
+use Rattle.vif_codes.specs.Words.{incomingAt}
 use Rattle.vif.specs.Step.{codeStep, giveQuadword, mpgRefused, mpgStep, vifStep}
-use Rattle.vif.specs.Words.{incomingAt}
 use Rattle.chain.specs.Pending.{tagsAfter, payloadAfter}
 use Rattle.chain.specs.Range.{unitOf, channelInRange, startInRange, entryInRange, stackInRange, tagWordInRange, tagsInRange, wordsInRange, payloadInRange, stateInRange, mainRefused, tagsInside, payloadInside, entryRefusal}
 use Rattle.chain.specs.Tags.{usesAddr, payloadAt, tagRefusal, tagState, tagRead}

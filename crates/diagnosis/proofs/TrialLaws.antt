@@ -19,10 +19,10 @@ use Rattle.gif.proofs.RangeLaws.{log-fits}
 use Rattle.memories.specs.declared.VifUnit.{VifUnit}
 use Rattle.memories.specs.Units.{dataWords, codeBytes}
 use Rattle.memories.specs.Lengths.{Lent}
-use Rattle.vif.specs.declared.VifAnswer.{VifAnswer}
-use Rattle.vif.specs.declared.VifAnswer.the-variants.{Word, Quadword, Refused as VifRefused}
+use Rattle.vif_codes.specs.declared.VifAnswer.{VifAnswer}
+use Rattle.vif_codes.specs.declared.VifAnswer.the-variants.{Word, Quadword, Refused as VifRefused}
+use Rattle.vif_codes.specs.Words.{incomingAt}
 use Rattle.vif.specs.Step.{Left as VifLeft}
-use Rattle.vif.specs.Words.{incomingAt}
 use Rattle.chain.specs.declared.Answer.the-variants.{Done, Allowance}
 use Rattle.chain.specs.declared.TagWords.{TagWords}
 use Rattle.chain.specs.declared.TagWords.the-variants.{Nothing as NoTagWords, From}

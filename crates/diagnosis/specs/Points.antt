@@ -12,11 +12,11 @@ use Rattle.memories.specs.declared.VifUnit.{VifUnit}
 use Rattle.memories.specs.declared.VifUnit.the-variants.{Vif0, Vif1}
 use Rattle.memories.specs.Units.{dataWords, codeBytes}
 use Rattle.memories.specs.Lengths.{Lent, lent}
-use Rattle.vif.specs.declared.Waiting.{Waiting}
-use Rattle.vif.specs.declared.Waiting.the-variants.{MpgDue, DirectDue}
-use Rattle.vif.specs.declared.Vif.{Vif}
-use Rattle.vif.specs.Setters.{withCycle, withWaiting}
-use Rattle.vif.specs.Payload.{bytesOf}
+use Rattle.vif_codes.specs.declared.Waiting.{Waiting}
+use Rattle.vif_codes.specs.declared.Waiting.the-variants.{MpgDue, DirectDue}
+use Rattle.vif_codes.specs.declared.Vif.{Vif}
+use Rattle.vif_codes.specs.Setters.{withCycle, withWaiting}
+use Rattle.vif_codes.specs.Payload.{bytesOf}
 use Rattle.chain.specs.declared.Stack.{Stack}
 use Rattle.chain.specs.declared.Stack.the-variants.{Empty, Two}
 use Rattle.chain.specs.declared.TagWords.{TagWords}

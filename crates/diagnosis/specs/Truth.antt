@@ -7,7 +7,7 @@ use mathlib.Core.Path.{_≡_}
 use Rattle.fields.specs.Counts.{none}
 use Rattle.fields.specs.Memory.{quadwordAt}
 use Rattle.memories.specs.Lengths.{Lent}
-use Rattle.vif.specs.Words.{incomingAt}
+use Rattle.vif_codes.specs.Words.{incomingAt}
 use Rattle.chain.specs.declared.Answer.the-variants.{Done, Refused as RunRefused}
 use Rattle.chain.specs.declared.TagWords.{TagWords}
 use Rattle.chain.specs.declared.TagWords.the-variants.{Nothing as NoTagWords, From}

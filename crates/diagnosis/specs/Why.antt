@@ -7,7 +7,7 @@ use lib.Dec.{eqb}
 use Rattle.fields.specs.Fields.{if}
 use Rattle.fields.specs.Memory.{quadwordAt}
 use Rattle.memories.specs.Lengths.{Lent}
-use Rattle.vif.specs.Words.{incomingAt}
+use Rattle.vif_codes.specs.Words.{incomingAt}
 use Rattle.chain.specs.declared.TagWords.{TagWords}
 use Rattle.chain.specs.declared.TagWords.the-variants.{Nothing as NoTagWords, From}
 use Rattle.chain.specs.declared.Payload.{Payload}

@@ -9,10 +9,10 @@ use Rattle.gif.specs.Log.{logged, lacksRoom, logRefused}
 use Rattle.gif.specs.Tag.{formatOf, nregOf, quadwordsOf as gifQuadwordsOf, tagOf, placeAtTag, tagCloses, tagWrites}
 use Rattle.gif.specs.Step.{commit, tagStep, gifStep}
 use Rattle.memories.specs.Lengths.{lent, lengthsRefusal}
-use Rattle.vif.specs.Codes.{quadwordsOf, missingCode, plainCode, unpackNumbers, codeOf, decodeOf}
-use Rattle.vif.specs.Range.{registersInRange, waitingInRange, unitInRange}
+use Rattle.vif_codes.specs.Codes.{quadwordsOf, missingCode, plainCode, unpackNumbers, codeOf, decodeOf}
+use Rattle.vif_codes.specs.Range.{registersInRange, waitingInRange, unitInRange}
+use Rattle.vif_codes.specs.Words.{incomingAt}
 use Rattle.vif.specs.Step.{codeStep, vifStep}
-use Rattle.vif.specs.Words.{incomingAt}
 use Rattle.chain.specs.Pending.{payloadPending, payloadAfter}
 use Rattle.chain.specs.Range.{unitOf, channelInRange, startInRange, stackInRange, tagsInRange, wordsInRange, payloadInRange, stateInRange, mainRefused, tagsInside, payloadInside, entryRefusal}
 use Rattle.chain.specs.Tags.{nextStack, usesAddr, payloadAt as placedAt, nextTadr, endsChain, tagWordsOf, payloadOf, tagRefusal, tagState, tagRead}

@@ -12,23 +12,23 @@ use Rattle.gif.specs.declared.Path.{Path}
 use Rattle.memories.specs.declared.VifUnit.{VifUnit}
 use Rattle.memories.specs.Lengths.{Lent}
 use Rattle.unpack.specs.declared.Format.{Format}
-use Rattle.vif.specs.declared.Code.{Code}
-use Rattle.vif.specs.declared.Code.the-variants.{Nop, Stcycl, Offset, Base, Itop, Stmod, Mskpath3, Mark, Flushe, Flush, Flusha, Mscal, Mscalf, Mscnt, Stmask, Strow, Stcol, Mpg, Direct, Directhl, Unpack}
-use Rattle.vif.specs.declared.UnpackCode.{UnpackCode}
-use Rattle.vif.specs.declared.CodeResult.{CodeResult}
-use Rattle.vif.specs.declared.Decoded.{Decoded}
-use Rattle.vif.specs.declared.Decoded.the-variants.{Known, Unknown}
-use Rattle.vif.specs.declared.Incoming.{Incoming}
-use Rattle.vif.specs.declared.Incoming.the-variants.{Word0, Word1, Word2, Word3}
-use Rattle.vif.specs.declared.VifAnswer.{VifAnswer}
-use Rattle.vif.specs.declared.VifAnswer.the-variants.{Word, Quadword, Refused}
-use Rattle.vif.specs.declared.Waiting.{Waiting}
-use Rattle.vif.specs.declared.Waiting.the-variants.{Nothing, MaskDue, RowDue, ColDue, MpgDue, DirectDue, DirecthlDue, UnpackDue}
-use Rattle.vif.specs.declared.Vif.{Vif}
-use Rattle.vif.specs.Codes.{interruptOf, decodeOf}
-use Rattle.vif.specs.Execute.{Executed, startProgram, setMode, beginMpg, unpackRefusal, beginUnpack, executeOf, decodedStep}
-use Rattle.vif.specs.Step.{Left, wordIn, directStep, mpgRefused, mpgStep, unpackStep, codeStep, stepBy, vifStep}
-use Rattle.vif.specs.Words.{incomingAt}
+use Rattle.vif_codes.specs.declared.Code.{Code}
+use Rattle.vif_codes.specs.declared.Code.the-variants.{Nop, Stcycl, Offset, Base, Itop, Stmod, Mskpath3, Mark, Flushe, Flush, Flusha, Mscal, Mscalf, Mscnt, Stmask, Strow, Stcol, Mpg, Direct, Directhl, Unpack}
+use Rattle.vif_codes.specs.declared.UnpackCode.{UnpackCode}
+use Rattle.vif_codes.specs.declared.CodeResult.{CodeResult}
+use Rattle.vif_codes.specs.declared.Decoded.{Decoded}
+use Rattle.vif_codes.specs.declared.Decoded.the-variants.{Known, Unknown}
+use Rattle.vif_codes.specs.declared.Incoming.{Incoming}
+use Rattle.vif_codes.specs.declared.Incoming.the-variants.{Word0, Word1, Word2, Word3}
+use Rattle.vif_codes.specs.declared.VifAnswer.{VifAnswer}
+use Rattle.vif_codes.specs.declared.VifAnswer.the-variants.{Word, Quadword, Refused}
+use Rattle.vif_codes.specs.declared.Waiting.{Waiting}
+use Rattle.vif_codes.specs.declared.Waiting.the-variants.{Nothing, MaskDue, RowDue, ColDue, MpgDue, DirectDue, DirecthlDue, UnpackDue}
+use Rattle.vif_codes.specs.declared.Vif.{Vif}
+use Rattle.vif_codes.specs.Codes.{interruptOf, decodeOf}
+use Rattle.vif_codes.specs.Execute.{Executed, startProgram, setMode, beginMpg, unpackRefusal, beginUnpack, executeOf, decodedStep}
+use Rattle.vif_codes.specs.Words.{wordIn, incomingAt}
+use Rattle.vif.specs.Step.{Left, directStep, mpgRefused, mpgStep, unpackStep, codeStep, stepBy, vifStep}
 
 abbrev pub isQuadword : VifAnswer → Bool
 isQuadword (Word i) = false

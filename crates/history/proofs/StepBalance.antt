@@ -17,10 +17,11 @@ use Rattle.gif.specs.declared.GifAnswer.{GifAnswer}
 use Rattle.gif.specs.declared.GifAnswer.the-variants.{Taken, Refused as GifRefused}
 use Rattle.gif.specs.Step.{Left as GifLeft, gifStep}
 use Rattle.memories.specs.Lengths.{Lent}
-use Rattle.vif.specs.declared.VifAnswer.{VifAnswer}
-use Rattle.vif.specs.declared.VifAnswer.the-variants.{Word, Quadword, Refused as VifRefused}
-use Rattle.vif.specs.Step.{Left as VifLeft, wordsTaken, countsIn}
-use Rattle.vif.specs.Words.{incomingAt}
+use Rattle.vif_codes.specs.declared.VifAnswer.{VifAnswer}
+use Rattle.vif_codes.specs.declared.VifAnswer.the-variants.{Word, Quadword, Refused as VifRefused}
+use Rattle.vif_codes.specs.Counting.{countsIn}
+use Rattle.vif_codes.specs.Words.{incomingAt}
+use Rattle.vif.specs.Step.{Left as VifLeft, wordsTaken}
 use Rattle.chain.specs.declared.TagWords.{TagWords}
 use Rattle.chain.specs.declared.TagWords.the-variants.{Nothing as NoTagWords, From}
 use Rattle.chain.specs.declared.Payload.{Payload}

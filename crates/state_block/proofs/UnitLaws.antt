@@ -13,9 +13,9 @@ use Rattle.unpack.specs.declared.NamedFormat.{NamedFormat}
 use Rattle.unpack.specs.declared.NamedFormat.the-variants.{Named, Missing}
 use Rattle.unpack.specs.Formats.{formatNumber, formatNamed}
 use Rattle.unpack.proofs.FormatLaws.{named-number, number-named}
-use Rattle.vif.specs.declared.Waiting.{Waiting}
-use Rattle.vif.specs.declared.Waiting.the-variants.{Nothing, MaskDue, RowDue, ColDue, MpgDue, DirectDue, DirecthlDue, UnpackDue}
-use Rattle.vif.specs.declared.Vif.{Vif}
+use Rattle.vif_codes.specs.declared.Waiting.{Waiting}
+use Rattle.vif_codes.specs.declared.Waiting.the-variants.{Nothing, MaskDue, RowDue, ColDue, MpgDue, DirectDue, DirecthlDue, UnpackDue}
+use Rattle.vif_codes.specs.declared.Vif.{Vif}
 use Rattle.state_block.specs.declared.ReadWaiting.{ReadWaiting}
 use Rattle.state_block.specs.Sizes.{registerSize, waitingSize, unitSize}
 use Rattle.state_block.specs.Words.{numbered}

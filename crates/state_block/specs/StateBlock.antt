@@ -6,7 +6,7 @@ use lib.ListN.{length, getD}
 use lib.Dec.{eqb, leb}
 use Rattle.fields.specs.Fields.{if}
 use Rattle.gif.specs.declared.Path.{Path}
-use Rattle.vif.specs.declared.Vif.{Vif}
+use Rattle.vif_codes.specs.declared.Vif.{Vif}
 use Rattle.chain.specs.declared.Stack.{Stack}
 use Rattle.chain.specs.declared.Stack.the-variants.{Empty, One, Two}
 use Rattle.chain.specs.declared.TagWords.{TagWords}

@@ -49,13 +49,13 @@ pub(crate) struct ReadFormat {
 // The code that a unit block says waits, and whether its words are one's.
 pub(crate) struct ReadWaiting {
     pub(crate) known: bool,
-    pub(crate) waiting: vif::Waiting,
+    pub(crate) waiting: vif_codes::Waiting,
 }
 
 // What a unit block holds, and whether it is a unit's; where it is none's, `unit` is one out of range.
 pub struct ReadUnit {
     pub known: bool,
-    pub unit: vif::Vif,
+    pub unit: vif_codes::Vif,
 }
 
 // What a state block holds, and whether it is a state's; where it is none's, `state` is one out of range.

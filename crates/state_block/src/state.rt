@@ -20,7 +20,7 @@ use chain::Stack;
 use chain::State;
 use chain::TagWords;
 use gif::Path;
-use vif::Vif;
+use vif_codes::Vif;
 ghost use mathlib.Core.Path.{_≡_};
 ghost use mathlib.Core.Bool.{false, _&&_};
 ghost use lib.ListN.{length};

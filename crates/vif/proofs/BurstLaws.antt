@@ -35,19 +35,20 @@ use Rattle.unpack.specs.Whole.{takeWords, heldAfter, wordsFrom, WordsLeft, word
 use Rattle.unpack.proofs.StepLaws.{acceptable-fits, fits-cycle, fits-unpacking}
 use Rattle.unpack.proofs.LengthLaws.{word-length}
 use Rattle.unpack.proofs.WordsLaws.{unpacking-on}
+use Rattle.vif_codes.specs.declared.Incoming.{Incoming}
+use Rattle.vif_codes.specs.declared.Incoming.the-variants.{Word0}
+use Rattle.vif_codes.specs.declared.Waiting.{Waiting}
+use Rattle.vif_codes.specs.declared.Waiting.the-variants.{MpgDue, UnpackDue}
+use Rattle.vif_codes.specs.declared.Vif.{Vif}
+use Rattle.vif_codes.specs.Setters.{withRow, withWaiting}
+use Rattle.vif_codes.specs.Payload.{completes, orNothing, mpgStored, writeRegisters}
+use Rattle.vif_codes.specs.Words.{incomingAt, wordIn}
+use Rattle.vif_codes.specs.Counting.{nopIn}
 use Rattle.vif.specs.declared.WordsResult.{WordsResult}
-use Rattle.vif.specs.declared.Incoming.{Incoming}
-use Rattle.vif.specs.declared.Incoming.the-variants.{Word0}
-use Rattle.vif.specs.declared.Waiting.{Waiting}
-use Rattle.vif.specs.declared.Waiting.the-variants.{MpgDue, UnpackDue}
-use Rattle.vif.specs.declared.Vif.{Vif}
-use Rattle.vif.specs.Setters.{withRow, withWaiting}
-use Rattle.vif.specs.Payload.{completes, orNothing, mpgStored, writeRegisters}
-use Rattle.vif.specs.Words.{incomingAt}
-use Rattle.vif.specs.Step.{leaves, wordIn, nopIn, giveQuadword, directStep, mpgRefused, mpgStep, unpackStep, stepBy, vifStep}
+use Rattle.vif.specs.Step.{leaves, giveQuadword, directStep, mpgRefused, mpgStep, unpackStep, stepBy, vifStep}
 use Rattle.vif.specs.Feeds.{Fed, fed, aWord, aQuadword}
 use Rattle.vif.specs.Inner.{UnpackReady, MpgReady, Leads, directs, Quadwords, fedIn, Going, Bursts, takenWith}
-use Rattle.vif.proofs.RangeLaws.{memory-accepted}
+use Rattle.vif.proofs.ReadyLaws.{memory-accepted}
 use Rattle.vif.proofs.FeedLaws.{leads-none, leads-one, leads-then, rest-leads}
 
 -- the word at an address is the one that comes

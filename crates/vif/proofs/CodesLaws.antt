@@ -32,29 +32,31 @@ use Rattle.unpack.specs.Whole.{takeWords, heldAfter, wordsFrom, WordsLeft, word
 use Rattle.unpack.proofs.StepLaws.{acceptable-fits, fits-cycle, fits-unpacking}
 use Rattle.unpack.proofs.LengthLaws.{word-length}
 use Rattle.unpack.proofs.WordsLaws.{unpacking-on}
-use Rattle.vif.specs.declared.Code.{Code}
-use Rattle.vif.specs.declared.Code.the-variants.{Nop, Stcycl, Offset, Base, Itop, Stmod, Mskpath3, Mark, Flushe, Flush, Flusha, Mscal, Mscalf, Mscnt, Stmask, Strow, Stcol, Mpg, Direct, Directhl, Unpack}
-use Rattle.vif.specs.declared.CodeResult.{CodeResult}
-use Rattle.vif.specs.declared.Decoded.{Decoded}
-use Rattle.vif.specs.declared.Decoded.the-variants.{Known, Unknown}
-use Rattle.vif.specs.declared.Incoming.{Incoming}
-use Rattle.vif.specs.declared.VifAnswer.{VifAnswer}
-use Rattle.vif.specs.declared.VifAnswer.the-variants.{Word, Quadword, Refused}
-use Rattle.vif.specs.declared.Waiting.{Waiting}
-use Rattle.vif.specs.declared.Waiting.the-variants.{Nothing, MaskDue, RowDue, ColDue, MpgDue, DirectDue, DirecthlDue, UnpackDue}
+use Rattle.vif_codes.specs.declared.Code.{Code}
+use Rattle.vif_codes.specs.declared.Code.the-variants.{Nop, Stcycl, Offset, Base, Itop, Stmod, Mskpath3, Mark, Flushe, Flush, Flusha, Mscal, Mscalf, Mscnt, Stmask, Strow, Stcol, Mpg, Direct, Directhl, Unpack}
+use Rattle.vif_codes.specs.declared.CodeResult.{CodeResult}
+use Rattle.vif_codes.specs.declared.Decoded.{Decoded}
+use Rattle.vif_codes.specs.declared.Decoded.the-variants.{Known, Unknown}
+use Rattle.vif_codes.specs.declared.Incoming.{Incoming}
+use Rattle.vif_codes.specs.declared.VifAnswer.{VifAnswer}
+use Rattle.vif_codes.specs.declared.VifAnswer.the-variants.{Word, Quadword, Refused}
+use Rattle.vif_codes.specs.declared.Waiting.{Waiting}
+use Rattle.vif_codes.specs.declared.Waiting.the-variants.{Nothing, MaskDue, RowDue, ColDue, MpgDue, DirectDue, DirecthlDue, UnpackDue}
+use Rattle.vif_codes.specs.declared.Vif.{Vif}
+use Rattle.vif_codes.specs.Setters.{withRow, withWaiting}
+use Rattle.vif_codes.specs.Codes.{cmdOf, interruptOf, missingCode, plainCode, codeOf, decodeOf}
+use Rattle.vif_codes.specs.Execute.{Executed, resultWith, setMode, startProgram, beginMpg, unpackRefusal, beginUnpack, executeOf, decodedStep}
+use Rattle.vif_codes.specs.Payload.{completes, orNothing, rowWord, colWord, maskWord, mpgStored, writeRegisters}
+use Rattle.vif_codes.specs.Range.{unitInRange}
+use Rattle.vif_codes.specs.Words.{incomingAt, wordIn}
+use Rattle.vif_codes.specs.Counting.{nopIn}
+use Rattle.vif_codes.proofs.CodeLaws.{listed-both}
+use Rattle.vif_codes.proofs.RangeLaws.{row-due, col-due, mpg-due, unpack-some}
 use Rattle.vif.specs.declared.WordsResult.{WordsResult}
-use Rattle.vif.specs.declared.Vif.{Vif}
-use Rattle.vif.specs.Setters.{withRow, withWaiting}
-use Rattle.vif.specs.Codes.{cmdOf, interruptOf, missingCode, plainCode, codeOf, decodeOf}
-use Rattle.vif.specs.Execute.{Executed, resultWith, setMode, startProgram, beginMpg, unpackRefusal, beginUnpack, executeOf, decodedStep}
-use Rattle.vif.specs.Payload.{completes, orNothing, rowWord, colWord, maskWord, mpgStored, writeRegisters}
-use Rattle.vif.specs.Range.{unitInRange}
-use Rattle.vif.specs.Words.{incomingAt}
-use Rattle.vif.specs.Step.{Left, leaves, wordIn, nopIn, codeStep, mpgRefused, mpgStep, unpackStep, stepBy, vifStep}
+use Rattle.vif.specs.Step.{Left, leaves, codeStep, mpgRefused, mpgStep, unpackStep, stepBy, vifStep}
 use Rattle.vif.specs.Feeds.{Fed, fed, aWord}
 use Rattle.vif.specs.Inner.{UnpackReady, MpgReady, FedReady, Leads, fedIn, Going, Takes, wordsWith, Some, Ahead, WaitingFits, storedWords, StoreFits, takenWith}
-use Rattle.vif.proofs.CodeLaws.{listed-both}
-use Rattle.vif.proofs.RangeLaws.{memory-accepted, row-due, col-due, mpg-due, unpack-some}
+use Rattle.vif.proofs.ReadyLaws.{memory-accepted}
 use Rattle.vif.proofs.StepLaws.{by-waiting, code-taken}
 use Rattle.vif.proofs.FeedLaws.{untaken, leads-none, leads-one, leads-then, rest-leads}
 use Rattle.vif.proofs.BurstLaws.{incoming-word, not-last, waits-still}

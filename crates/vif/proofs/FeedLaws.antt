@@ -20,15 +20,16 @@ use Rattle.gif.proofs.RangeLaws.{log-fits}
 use Rattle.memories.specs.declared.VifUnit.{VifUnit}
 use Rattle.memories.specs.Lengths.{Lent, lengthsRefusal}
 use Rattle.memories.proofs.LengthLaws.{lengths-fit}
-use Rattle.vif.specs.declared.Incoming.{Incoming}
-use Rattle.vif.specs.declared.Waiting.{Waiting}
-use Rattle.vif.specs.declared.Vif.{Vif}
-use Rattle.vif.specs.declared.VifAnswer.{VifAnswer}
-use Rattle.vif.specs.declared.VifAnswer.the-variants.{Word, Quadword, Refused}
+use Rattle.vif_codes.specs.declared.Incoming.{Incoming}
+use Rattle.vif_codes.specs.declared.Waiting.{Waiting}
+use Rattle.vif_codes.specs.declared.Vif.{Vif}
+use Rattle.vif_codes.specs.declared.VifAnswer.{VifAnswer}
+use Rattle.vif_codes.specs.declared.VifAnswer.the-variants.{Word, Quadword, Refused}
+use Rattle.vif_codes.specs.Range.{unitInRange}
+use Rattle.vif_codes.specs.Words.{incomingAt, wordIn}
+use Rattle.vif_codes.specs.Counting.{nopIn, countsIn}
 use Rattle.vif.specs.declared.WordsResult.{WordsResult}
-use Rattle.vif.specs.Range.{unitInRange}
-use Rattle.vif.specs.Words.{incomingAt}
-use Rattle.vif.specs.Step.{Left, wordsTaken, wordIn, nopIn, countsIn, vifStep}
+use Rattle.vif.specs.Step.{Left, wordsTaken, vifStep}
 use Rattle.vif.specs.Feeds.{Fed, fed}
 use Rattle.vif.specs.Feed.{FedOn, fedOn, fedOnBy, fedTo, stepMore, afterWord, onWord, feedsOf, wordsInside, takesSteps}
 use Rattle.vif.specs.Inner.{plus, FedReady, Leads, fedIn, restOf, Going, Gives, takenWith}

@@ -1,10 +1,9 @@
 -- Laws of the definitions, by subject; the crates above cite them.
-pub mod CodeLaws
-pub mod RangeLaws
 pub mod StepLaws
 pub mod MpgLaws
 pub mod KeepLaws
 pub mod RangeKept
+pub mod ReadyLaws
 pub mod UnpackLaws
 pub mod SheetLaws
 pub mod FeedLaws

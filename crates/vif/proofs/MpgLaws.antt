@@ -20,14 +20,15 @@ use Rattle.gif.specs.Step.{Left as GifLeft, gifStep}
 use Rattle.memories.specs.declared.VifUnit.{VifUnit}
 use Rattle.memories.specs.Units.{instructions}
 use Rattle.memories.specs.Lengths.{Lent}
-use Rattle.vif.specs.declared.Incoming.{Incoming}
-use Rattle.vif.specs.declared.Incoming.the-variants.{Word0, Word1, Word2, Word3}
-use Rattle.vif.specs.declared.Waiting.{Waiting}
-use Rattle.vif.specs.declared.Waiting.the-variants.{Nothing, MaskDue, RowDue, ColDue, MpgDue, DirectDue, DirecthlDue, UnpackDue}
-use Rattle.vif.specs.declared.Vif.{Vif}
-use Rattle.vif.specs.Payload.{bytesOf, wordPlace, mpgStored}
+use Rattle.vif_codes.specs.declared.Incoming.{Incoming}
+use Rattle.vif_codes.specs.declared.Incoming.the-variants.{Word0, Word1, Word2, Word3}
+use Rattle.vif_codes.specs.declared.Waiting.{Waiting}
+use Rattle.vif_codes.specs.declared.Waiting.the-variants.{Nothing, MaskDue, RowDue, ColDue, MpgDue, DirectDue, DirecthlDue, UnpackDue}
+use Rattle.vif_codes.specs.declared.Vif.{Vif}
+use Rattle.vif_codes.specs.Payload.{bytesOf, wordPlace, mpgStored}
+use Rattle.vif_codes.specs.Words.{wordIn}
 use Rattle.vif.specs.Inner.{storedWords, copyBytes}
-use Rattle.vif.specs.Step.{Left, wordIn, afterGif, giveQuadword, directStep, mpgRefused, mpgStep, unpackStep, codeStep, stepBy, vifStep}
+use Rattle.vif.specs.Step.{Left, afterGif, giveQuadword, directStep, mpgRefused, mpgStep, unpackStep, codeStep, stepBy, vifStep}
 
 -- a word is four stores
 pub four-stores : (code : List ℕ) (at word : ℕ)

@@ -36,23 +36,24 @@ use Rattle.unpack.proofs.FormatLaws.{named-number}
 use Rattle.unpack.proofs.CycleLaws.{plain-vectors}
 use Rattle.unpack.proofs.VectorLaws.{Words}
 use Rattle.unpack.proofs.WholeLaws.{v4-payload}
-use Rattle.vif.specs.declared.Code.the-variants.{Nop, Stcycl, Stmod, Mscal, Mpg, Direct, Unpack}
-use Rattle.vif.specs.declared.UnpackCode.{UnpackCode}
-use Rattle.vif.specs.declared.Decoded.the-variants.{Known}
-use Rattle.vif.specs.declared.Incoming.{Incoming}
-use Rattle.vif.specs.declared.Incoming.the-variants.{Word0}
-use Rattle.vif.specs.declared.VifAnswer.{VifAnswer}
-use Rattle.vif.specs.declared.VifAnswer.the-variants.{Word, Quadword}
-use Rattle.vif.specs.declared.Waiting.{Waiting}
-use Rattle.vif.specs.declared.Waiting.the-variants.{Nothing, MpgDue, DirectDue}
-use Rattle.vif.specs.declared.Vif.{Vif}
-use Rattle.vif.specs.Setters.{withCycle, withMode, withRow, withWaiting}
-use Rattle.vif.specs.Codes.{interruptOf, quadwordsOf, mpgAddresses, missingCode, codeListed, plainCode, unpackNumbers, codeOf, decodeOf}
-use Rattle.vif.specs.Execute.{started, startProgram, setMode, beginMpg, addressOf}
-use Rattle.vif.specs.Payload.{orNothing, bytesOf, wordPlace, mpgStored, writeRegisters}
-use Rattle.vif.specs.Step.{leaves, wordIn, oddWord, giveQuadword, mpgRefused, mpgStep, vifStep}
+use Rattle.vif_codes.specs.declared.Code.the-variants.{Nop, Stcycl, Stmod, Mscal, Mpg, Direct, Unpack}
+use Rattle.vif_codes.specs.declared.UnpackCode.{UnpackCode}
+use Rattle.vif_codes.specs.declared.Decoded.the-variants.{Known}
+use Rattle.vif_codes.specs.declared.Incoming.{Incoming}
+use Rattle.vif_codes.specs.declared.Incoming.the-variants.{Word0}
+use Rattle.vif_codes.specs.declared.VifAnswer.{VifAnswer}
+use Rattle.vif_codes.specs.declared.VifAnswer.the-variants.{Word, Quadword}
+use Rattle.vif_codes.specs.declared.Waiting.{Waiting}
+use Rattle.vif_codes.specs.declared.Waiting.the-variants.{Nothing, MpgDue, DirectDue}
+use Rattle.vif_codes.specs.declared.Vif.{Vif}
+use Rattle.vif_codes.specs.Setters.{withCycle, withMode, withRow, withWaiting}
+use Rattle.vif_codes.specs.Codes.{interruptOf, quadwordsOf, mpgAddresses, missingCode, codeListed, plainCode, unpackNumbers, codeOf, decodeOf}
+use Rattle.vif_codes.specs.Execute.{started, startProgram, setMode, beginMpg, addressOf}
+use Rattle.vif_codes.specs.Payload.{orNothing, bytesOf, wordPlace, mpgStored, writeRegisters}
+use Rattle.vif_codes.specs.Words.{wordIn, oddWord}
+use Rattle.vif_codes.proofs.CodeLaws.{listed-both, tops-clear, refusal-none}
+use Rattle.vif.specs.Step.{leaves, giveQuadword, mpgRefused, mpgStep, vifStep}
 use Rattle.vif.specs.Feeds.{Fed, fed, Feeds, none, more, aWord, aQuadword, wordsIn, QuadwordsIn, no-quadword, one-quadword, Zeros, one-zero, storeInstruction, copyInstructions}
-use Rattle.vif.proofs.CodeLaws.{listed-both, tops-clear, refusal-none}
 use Rattle.vif.proofs.StepLaws.{code-taken}
 use Rattle.vif.proofs.UnpackLaws.{quiet, waits-no-more, words-length, payloadOf, due-left, unpack-fed}
 

@@ -25,19 +25,20 @@ use Rattle.unpack.specs.declared.Unpacking.{Unpacking}
 use Rattle.unpack.specs.declared.Registers.{Registers}
 use Rattle.unpack.specs.declared.Rows.{Rows}
 use Rattle.unpack.specs.Step.{Left as UnpackLeft, left as unpackLeft, takeOf as unpackTakeOf}
-use Rattle.vif.specs.declared.Code.{Code}
-use Rattle.vif.specs.declared.Decoded.the-variants.{Known}
-use Rattle.vif.specs.declared.Incoming.{Incoming}
-use Rattle.vif.specs.declared.VifAnswer.the-variants.{Word}
-use Rattle.vif.specs.declared.Waiting.{Waiting}
-use Rattle.vif.specs.declared.Waiting.the-variants.{Nothing}
-use Rattle.vif.specs.declared.Vif.{Vif}
-use Rattle.vif.specs.Codes.{interruptOf, decodeOf}
-use Rattle.vif.specs.Execute.{executeOf}
-use Rattle.vif.specs.Payload.{completes, writeRegisters, unpackUnit}
-use Rattle.vif.specs.Range.{unitInRange}
+use Rattle.vif_codes.specs.declared.Code.{Code}
+use Rattle.vif_codes.specs.declared.Decoded.the-variants.{Known}
+use Rattle.vif_codes.specs.declared.Incoming.{Incoming}
+use Rattle.vif_codes.specs.declared.VifAnswer.the-variants.{Word}
+use Rattle.vif_codes.specs.declared.Waiting.{Waiting}
+use Rattle.vif_codes.specs.declared.Waiting.the-variants.{Nothing}
+use Rattle.vif_codes.specs.declared.Vif.{Vif}
+use Rattle.vif_codes.specs.Codes.{interruptOf, decodeOf}
+use Rattle.vif_codes.specs.Execute.{executeOf}
+use Rattle.vif_codes.specs.Payload.{completes, writeRegisters, unpackUnit}
+use Rattle.vif_codes.specs.Range.{unitInRange}
+use Rattle.vif_codes.specs.Words.{wordIn}
 use Rattle.vif.specs.Inner.{GifReady, UnpackReady, StepReady}
-use Rattle.vif.specs.Step.{Left, left, refused, answers, wordIn, afterCode, codeStep, afterGif, afterQuadword, giveQuadword, directStep, unpackStep, stepBy, vifStep, takeOf}
+use Rattle.vif.specs.Step.{Left, left, refused, answers, afterCode, codeStep, afterGif, afterQuadword, giveQuadword, directStep, unpackStep, stepBy, vifStep, takeOf}
 
 -- what holds at the case that an arm knows holds at the value itself
 pub by-answer : {a b : GifAnswer} → a ≡ b → (o : GifLeft) (v : Vif) (p : Path) (due : ℕ) (i : Bool) (w : Waiting) (used : ℕ) (m : Lent) {x : Left}

@@ -26,22 +26,23 @@ use Rattle.unpack.proofs.PayloadLaws.{payload-some}
 use Rattle.unpack.proofs.StepLaws.{count-range, cycle-fits, unpacking-fits, due-cycle}
 use Rattle.unpack.proofs.VectorLaws.{Words, none as no-word, more as a-word}
 use Rattle.unpack.proofs.WholeLaws.{payload-theorem, payload-due, take-join, unfed-theorem}
-use Rattle.vif.specs.declared.Code.the-variants.{Unpack}
-use Rattle.vif.specs.declared.UnpackCode.{UnpackCode}
-use Rattle.vif.specs.declared.Decoded.the-variants.{Known}
-use Rattle.vif.specs.declared.Incoming.{Incoming}
-use Rattle.vif.specs.declared.VifAnswer.the-variants.{Word}
-use Rattle.vif.specs.declared.Waiting.{Waiting}
-use Rattle.vif.specs.declared.Waiting.the-variants.{Nothing, UnpackDue}
-use Rattle.vif.specs.declared.Vif.{Vif}
-use Rattle.vif.specs.Setters.{withRow, withWaiting}
-use Rattle.vif.specs.Codes.{interruptOf, decodeOf}
-use Rattle.vif.specs.Execute.{addressOf, begunUnpack, unpackRefusal, beginUnpack}
-use Rattle.vif.specs.Payload.{completes, orNothing, writeRegisters}
-use Rattle.vif.specs.Range.{waitingInRange}
-use Rattle.vif.specs.Step.{leaves, refused, wordIn, unpackStep, vifStep}
+use Rattle.vif_codes.specs.declared.Code.the-variants.{Unpack}
+use Rattle.vif_codes.specs.declared.UnpackCode.{UnpackCode}
+use Rattle.vif_codes.specs.declared.Decoded.the-variants.{Known}
+use Rattle.vif_codes.specs.declared.Incoming.{Incoming}
+use Rattle.vif_codes.specs.declared.VifAnswer.the-variants.{Word}
+use Rattle.vif_codes.specs.declared.Waiting.{Waiting}
+use Rattle.vif_codes.specs.declared.Waiting.the-variants.{Nothing, UnpackDue}
+use Rattle.vif_codes.specs.declared.Vif.{Vif}
+use Rattle.vif_codes.specs.Setters.{withRow, withWaiting}
+use Rattle.vif_codes.specs.Codes.{interruptOf, decodeOf}
+use Rattle.vif_codes.specs.Execute.{addressOf, begunUnpack, unpackRefusal, beginUnpack}
+use Rattle.vif_codes.specs.Payload.{completes, orNothing, writeRegisters}
+use Rattle.vif_codes.specs.Range.{waitingInRange}
+use Rattle.vif_codes.specs.Words.{wordIn}
+use Rattle.vif_codes.proofs.CodeLaws.{refusal-cycle}
+use Rattle.vif.specs.Step.{leaves, refused, unpackStep, vifStep}
 use Rattle.vif.specs.Feeds.{Fed, fed, Feeds, none, more, aWord, wordsIn, unpackWaits, unpackedWith, unpackedFed}
-use Rattle.vif.proofs.CodeLaws.{refusal-cycle}
 use Rattle.vif.proofs.StepLaws.{by-waiting, code-taken}
 
 -- ---- what waits

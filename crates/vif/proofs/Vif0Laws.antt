@@ -16,26 +16,27 @@ use Rattle.memories.specs.declared.VifUnit.the-variants.{Vif0}
 use Rattle.memories.specs.Lengths.{Lent, lengthsRefusal}
 use Rattle.unpack.specs.declared.Format.{Format}
 use Rattle.unpack.specs.Range.{cycleRefused}
-use Rattle.vif.specs.declared.Code.the-variants.{Unpack}
-use Rattle.vif.specs.declared.Decoded.the-variants.{Known, Unknown}
-use Rattle.vif.specs.declared.UnpackCode.{UnpackCode}
-use Rattle.vif.specs.declared.Incoming.{Incoming}
-use Rattle.vif.specs.declared.VifAnswer.{VifAnswer}
-use Rattle.vif.specs.declared.VifAnswer.the-variants.{Word, Quadword, Refused}
-use Rattle.vif.specs.declared.Waiting.{Waiting}
-use Rattle.vif.specs.declared.Waiting.the-variants.{Nothing, MaskDue, RowDue, ColDue, MpgDue, DirectDue, DirecthlDue, UnpackDue}
-use Rattle.vif.specs.declared.Vif.{Vif}
-use Rattle.vif.specs.Codes.{cmdOf, missingCode, codeListed, codeOf, decodeOf}
-use Rattle.vif.specs.Execute.{started, unpackRefusal, beginUnpack}
-use Rattle.vif.specs.Range.{directInRange, waitingInRange, unitInRange}
-use Rattle.vif.specs.Words.{incomingAt}
-use Rattle.vif.specs.Step.{Left, refused, wordIn, countsIn, codeStep, mpgRefused, mpgStep, unpackStep, stepBy, vifStep, takeOf}
+use Rattle.vif_codes.specs.declared.Code.the-variants.{Unpack}
+use Rattle.vif_codes.specs.declared.Decoded.the-variants.{Known, Unknown}
+use Rattle.vif_codes.specs.declared.UnpackCode.{UnpackCode}
+use Rattle.vif_codes.specs.declared.Incoming.{Incoming}
+use Rattle.vif_codes.specs.declared.VifAnswer.{VifAnswer}
+use Rattle.vif_codes.specs.declared.VifAnswer.the-variants.{Word, Quadword, Refused}
+use Rattle.vif_codes.specs.declared.Waiting.{Waiting}
+use Rattle.vif_codes.specs.declared.Waiting.the-variants.{Nothing, MaskDue, RowDue, ColDue, MpgDue, DirectDue, DirecthlDue, UnpackDue}
+use Rattle.vif_codes.specs.declared.Vif.{Vif}
+use Rattle.vif_codes.specs.Codes.{cmdOf, missingCode, codeListed, codeOf, decodeOf}
+use Rattle.vif_codes.specs.Execute.{started, unpackRefusal, beginUnpack}
+use Rattle.vif_codes.specs.Range.{directInRange, waitingInRange, unitInRange}
+use Rattle.vif_codes.specs.Words.{incomingAt, wordIn}
+use Rattle.vif_codes.specs.Counting.{countsIn}
+use Rattle.vif_codes.proofs.RangeLaws.{waiting-ranged, unit-registers}
+use Rattle.vif.specs.Step.{Left, refused, codeStep, mpgRefused, mpgStep, unpackStep, stepBy, vifStep, takeOf}
 use Rattle.vif.specs.Feeds.{Fed}
 use Rattle.vif.specs.Feed.{FedOn, fedTo, afterWord, feedsOf, takesSteps, wordsInside, feedOf}
 use Rattle.vif.specs.Inner.{FedReady}
-use Rattle.vif.proofs.RangeLaws.{waiting-ranged}
 use Rattle.vif.proofs.StepLaws.{by-waiting, code-taken}
-use Rattle.vif.proofs.RangeKept.{unit-registers, step-ready}
+use Rattle.vif.proofs.RangeKept.{step-ready}
 use Rattle.vif.proofs.FeedLaws.{takes-ready}
 
 -- ---- registers

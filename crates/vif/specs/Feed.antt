@@ -10,13 +10,14 @@ use Rattle.fields.specs.Memory.{inside}
 use Rattle.gif.specs.Range.{pathInRange}
 use Rattle.memories.specs.declared.VifUnit.{VifUnit}
 use Rattle.memories.specs.Lengths.{Lent, lengthsRefusal}
-use Rattle.vif.specs.declared.Incoming.{Incoming}
-use Rattle.vif.specs.declared.VifAnswer.{VifAnswer}
-use Rattle.vif.specs.declared.VifAnswer.the-variants.{Word, Quadword, Refused}
+use Rattle.vif_codes.specs.declared.Incoming.{Incoming}
+use Rattle.vif_codes.specs.declared.VifAnswer.{VifAnswer}
+use Rattle.vif_codes.specs.declared.VifAnswer.the-variants.{Word, Quadword, Refused}
+use Rattle.vif_codes.specs.Range.{unitInRange}
+use Rattle.vif_codes.specs.Words.{incomingAt}
+use Rattle.vif_codes.specs.Counting.{countsIn}
 use Rattle.vif.specs.declared.WordsResult.{WordsResult}
-use Rattle.vif.specs.Range.{unitInRange}
-use Rattle.vif.specs.Words.{incomingAt}
-use Rattle.vif.specs.Step.{Left, countsIn, vifStep}
+use Rattle.vif.specs.Step.{Left, vifStep}
 use Rattle.vif.specs.Feeds.{Fed, fed}
 
 -- what they left, how many words were taken, what the steps count for, and whether the last step completed an interrupt

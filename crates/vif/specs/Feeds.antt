@@ -15,18 +15,19 @@ use Rattle.unpack.specs.declared.Format.{Format}
 use Rattle.unpack.specs.declared.Unpacking.{Unpacking}
 use Rattle.unpack.specs.Write.{Written, written}
 use Rattle.unpack.specs.Whole.{unpackedBy}
-use Rattle.vif.specs.declared.Incoming.{Incoming}
-use Rattle.vif.specs.declared.Incoming.the-variants.{Word0}
-use Rattle.vif.specs.declared.VifAnswer.{VifAnswer}
-use Rattle.vif.specs.declared.VifAnswer.the-variants.{Word, Quadword}
-use Rattle.vif.specs.declared.UnpackCode.{UnpackCode}
-use Rattle.vif.specs.declared.Waiting.{Waiting}
-use Rattle.vif.specs.declared.Waiting.the-variants.{Nothing, UnpackDue}
-use Rattle.vif.specs.declared.Vif.{Vif}
-use Rattle.vif.specs.Setters.{withRow, withWaiting}
-use Rattle.vif.specs.Execute.{begunUnpack}
-use Rattle.vif.specs.Payload.{bytesOf, writeRegisters}
-use Rattle.vif.specs.Step.{leaves, wordIn, vifStep}
+use Rattle.vif_codes.specs.declared.Incoming.{Incoming}
+use Rattle.vif_codes.specs.declared.Incoming.the-variants.{Word0}
+use Rattle.vif_codes.specs.declared.VifAnswer.{VifAnswer}
+use Rattle.vif_codes.specs.declared.VifAnswer.the-variants.{Word, Quadword}
+use Rattle.vif_codes.specs.declared.UnpackCode.{UnpackCode}
+use Rattle.vif_codes.specs.declared.Waiting.{Waiting}
+use Rattle.vif_codes.specs.declared.Waiting.the-variants.{Nothing, UnpackDue}
+use Rattle.vif_codes.specs.declared.Vif.{Vif}
+use Rattle.vif_codes.specs.Setters.{withRow, withWaiting}
+use Rattle.vif_codes.specs.Execute.{begunUnpack}
+use Rattle.vif_codes.specs.Payload.{bytesOf, writeRegisters}
+use Rattle.vif_codes.specs.Words.{wordIn}
+use Rattle.vif.specs.Step.{leaves, vifStep}
 
 -- the unit, path 2, the entries used and the memories, between two steps
 pub record Fed : Type 0 where

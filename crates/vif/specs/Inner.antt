@@ -18,15 +18,15 @@ use Rattle.memories.specs.Lengths.{Lent, lent, LengthsFit}
 use Rattle.unpack.specs.declared.Format.{Format}
 use Rattle.unpack.specs.declared.Unpacking.{Unpacking}
 use Rattle.unpack.specs.Step.{acceptable}
-use Rattle.vif.specs.declared.Waiting.{Waiting}
-use Rattle.vif.specs.declared.Waiting.the-variants.{Nothing, MaskDue, RowDue, ColDue, MpgDue, DirectDue, DirecthlDue, UnpackDue}
-use Rattle.vif.specs.declared.Vif.{Vif}
+use Rattle.vif_codes.specs.declared.Waiting.{Waiting}
+use Rattle.vif_codes.specs.declared.Waiting.the-variants.{Nothing, MaskDue, RowDue, ColDue, MpgDue, DirectDue, DirecthlDue, UnpackDue}
+use Rattle.vif_codes.specs.declared.Vif.{Vif}
+use Rattle.vif_codes.specs.Setters.{withWaiting}
+use Rattle.vif_codes.specs.Codes.{mpgAddresses, mpgAddressMost}
+use Rattle.vif_codes.specs.Payload.{bytesOf, wordPlace, writeRegisters}
+use Rattle.vif_codes.specs.Range.{unitInRange}
+use Rattle.vif_codes.specs.Words.{incomingAt}
 use Rattle.vif.specs.declared.WordsResult.{WordsResult}
-use Rattle.vif.specs.Setters.{withWaiting}
-use Rattle.vif.specs.Codes.{mpgAddresses, mpgAddressMost}
-use Rattle.vif.specs.Payload.{bytesOf, wordPlace, writeRegisters}
-use Rattle.vif.specs.Range.{unitInRange}
-use Rattle.vif.specs.Words.{incomingAt}
 use Rattle.vif.specs.Step.{mpgRefused}
 use Rattle.vif.specs.Feeds.{Fed, fed}
 use Rattle.vif.specs.Feed.{FedOn, fedOnBy, stepMore, feedsOf}

@@ -1,9 +1,7 @@
 -- One word taken by a VIF unit, or one quadword inside DIRECT: a step of document 01.
 use Prim.Native.Nat.{ℕ, _+_, _*_, _-_, _^_}
-use mathlib.Core.Bool.{Bool, true, false, not, _&&_}
+use mathlib.Core.Bool.{Bool, not, _&&_}
 use lib.Dec.{eqb}
-use Rattle.fields.specs.declared.UnitCounts.{UnitCounts}
-use Rattle.fields.specs.Counts.{noUnits, oneWord, oneQuadword}
 use Rattle.fields.specs.Fields.{if, quadword}
 use Rattle.fields.specs.Refusals.{outOfRange, directUnaligned, mpgUnaligned}
 use Rattle.gif.specs.declared.GifPath.the-variants.{Two}
@@ -18,19 +16,20 @@ use Rattle.memories.specs.Lengths.{Lent, lent, lengthsRefusal}
 use Rattle.unpack.specs.declared.Format.{Format}
 use Rattle.unpack.specs.declared.Unpacking.{Unpacking}
 use Rattle.unpack.specs.Write.{Written}
-use Rattle.vif.specs.declared.Incoming.{Incoming}
-use Rattle.vif.specs.declared.Incoming.the-variants.{Word0, Word1, Word2, Word3}
-use Rattle.vif.specs.declared.VifAnswer.{VifAnswer}
-use Rattle.vif.specs.declared.VifAnswer.the-variants.{Word, Quadword, Refused}
+use Rattle.vif_codes.specs.declared.Incoming.{Incoming}
+use Rattle.vif_codes.specs.declared.Incoming.the-variants.{Word0, Word1, Word2, Word3}
+use Rattle.vif_codes.specs.declared.VifAnswer.{VifAnswer}
+use Rattle.vif_codes.specs.declared.VifAnswer.the-variants.{Word, Quadword, Refused}
+use Rattle.vif_codes.specs.declared.Waiting.{Waiting}
+use Rattle.vif_codes.specs.declared.Waiting.the-variants.{Nothing, MaskDue, RowDue, ColDue, MpgDue, DirectDue, DirecthlDue, UnpackDue}
+use Rattle.vif_codes.specs.declared.Vif.{Vif}
+use Rattle.vif_codes.specs.Setters.{withWaiting}
+use Rattle.vif_codes.specs.Codes.{interruptOf, decodeOf}
+use Rattle.vif_codes.specs.Execute.{Executed, decodedStep}
+use Rattle.vif_codes.specs.Payload.{completes, orNothing, rowWord, colWord, maskWord, mpgStored, mpgWord, unpackWritten, unpackUnit}
+use Rattle.vif_codes.specs.Range.{unitInRange}
+use Rattle.vif_codes.specs.Words.{wordIn, oddWord}
 use Rattle.vif.specs.declared.VifResult.{VifResult}
-use Rattle.vif.specs.declared.Waiting.{Waiting}
-use Rattle.vif.specs.declared.Waiting.the-variants.{Nothing, MaskDue, RowDue, ColDue, MpgDue, DirectDue, DirecthlDue, UnpackDue}
-use Rattle.vif.specs.declared.Vif.{Vif}
-use Rattle.vif.specs.Setters.{withWaiting}
-use Rattle.vif.specs.Codes.{cmdOf, interruptOf, decodeOf}
-use Rattle.vif.specs.Execute.{Executed, decodedStep}
-use Rattle.vif.specs.Payload.{completes, orNothing, rowWord, colWord, maskWord, mpgStored, mpgWord, unpackWritten, unpackUnit}
-use Rattle.vif.specs.Range.{unitInRange}
 
 -- the number of an answer: 0 taken, else document 01's refusal number
 abbrev pub numberOf : VifAnswer → ℕ
@@ -61,37 +60,6 @@ abbrev pub wordsTaken : VifAnswer → ℕ
 wordsTaken (Word i) = 1
 wordsTaken (Quadword i closed) = 4
 wordsTaken (Refused n) = 0
-
--- the next word
-abbrev pub wordIn : Incoming → ℕ
-wordIn (Word0 a b c d) = a
-wordIn (Word1 a) = a
-wordIn (Word2 a) = a
-wordIn (Word3 a) = a
-
--- whether it is word 1 or 3 of its quadword
-abbrev pub oddWord : Incoming → Bool
-oddWord (Word0 a b c d) = false
-oddWord (Word1 a) = true
-oddWord (Word2 a) = false
-oddWord (Word3 a) = true
-
--- "NOPs": whether a word is decoded as that code, whatever its other bits; where a code waits, the word is payload
-abbrev pub nopIn : Waiting → ℕ → Bool
-nopIn Nothing word = eqb (cmdOf word) 0x00
-nopIn (MaskDue i) word = false
-nopIn (RowDue due i) word = false
-nopIn (ColDue due i) word = false
-nopIn (MpgDue a k due i) word = false
-nopIn (DirectDue due i) word = false
-nopIn (DirecthlDue due i) word = false
-nopIn (UnpackDue f u) word = false
-
--- what the step counts for, by what waited, the next word and the answer: "VIF words taken (one-word steps)"; only a quadword closes a packet, and it is no word
-abbrev pub countsIn : Waiting → Incoming → VifAnswer → UnitCounts
-countsIn w n (Word i) = oneWord (nopIn w (wordIn n))
-countsIn w n (Quadword i closed) = oneQuadword closed
-countsIn w n (Refused k) = noUnits
 
 -- a refused step changes nothing
 abbrev pub refused : ℕ → Vif → Path → ℕ → Lent → Left

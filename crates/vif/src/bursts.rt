@@ -1,8 +1,5 @@
 // Payload of DIRECT and DIRECTHL, taken at once: never the last quadword due, so that no burst completes a code.
-use super::Vif;
-use super::Waiting;
 use super::WordsResult;
-use super::registers::with_waiting;
 use super::step::direct_rest;
 use super::step::directhl_rest;
 use fields::UnitCounts;
@@ -12,6 +9,9 @@ use gif::GifPath;
 use gif::Path;
 use gif::QuadwordsResult;
 use memories::VifUnit;
+use vif_codes::Vif;
+use vif_codes::Waiting;
+use vif_codes::with_waiting;
 ghost use mathlib.Core.Path.{_≡_};
 ghost use mathlib.Core.Bool.{true, false};
 ghost use mathlib.Core.List.{List};
@@ -21,11 +21,11 @@ ghost use Rattle.fields.specs.Counts.{wordsAlone, quadwordsAlone, plusUnits, Co
 ghost use Rattle.gif.specs.declared.Path.{Path as PathT};
 ghost use Rattle.memories.specs.Units.{quadwords, instructions, dataWords, codeBytes};
 ghost use Rattle.memories.specs.Lengths.{lent};
-ghost use Rattle.vif.specs.declared.Waiting.the-variants.{MpgDue, UnpackDue};
-ghost use Rattle.vif.specs.Setters.{withWaiting};
-ghost use Rattle.vif.specs.Words.{incomingAt};
+ghost use Rattle.vif_codes.specs.declared.Waiting.the-variants.{MpgDue, UnpackDue};
+ghost use Rattle.vif_codes.specs.Setters.{withWaiting};
+ghost use Rattle.vif_codes.specs.Words.{incomingAt};
+ghost use Rattle.vif_codes.specs.Range.{unitInRange};
 ghost use Rattle.vif.specs.Step.{mpgRefused};
-ghost use Rattle.vif.specs.Range.{unitInRange};
 ghost use Rattle.vif.specs.Feeds.{fed};
 ghost use Rattle.vif.specs.Inner.{UnpackReady, MpgReady, Leads, Quadwords, Going, Bursts, takenWith};
 

@@ -1,17 +1,17 @@
 // DIRECT and DIRECTHL: quadwords to the GIF's path 2.
-use super::Incoming;
-use super::Vif;
-use super::VifAnswer;
 use super::VifResult;
-use super::Waiting;
 use super::payload::answered;
-use super::payload::completed;
-use super::payload::or_nothing;
-use super::registers::with_waiting;
 use fields::refusals;
 use gif::GifAnswer;
 use gif::GifPath;
 use gif::Path;
+use vif_codes::Incoming;
+use vif_codes::Vif;
+use vif_codes::VifAnswer;
+use vif_codes::Waiting;
+use vif_codes::completed;
+use vif_codes::or_nothing;
+use vif_codes::with_waiting;
 ghost use mathlib.Core.Path.{_≡_};
 ghost use mathlib.Core.List.{List};
 ghost use Prim.Native.Nat.{ℕ, _+_, _*_, _^_};

@@ -1,140 +1,42 @@
-// What a code does in its own step.
-use super::Code;
-use super::CodeResult;
-use super::Decoded;
-use super::UnpackCode;
-use super::Vif;
-use super::VifAnswer;
-use super::Waiting;
-use super::decode::decode;
-use super::registers::with_base;
-use super::registers::with_cycle;
-use super::registers::with_itops;
-use super::registers::with_mark;
-use super::registers::with_mode;
-use super::registers::with_mskpath3;
-use super::registers::with_offset;
-use super::registers::with_row;
-use super::registers::with_start;
-use super::registers::with_waiting;
-use super::registers::write_registers;
+// A code's own step.
 use fields::refusals;
 use memories::VifUnit;
-use unpack::ADDRESSES;
 use unpack::Format;
 use unpack::Unpacking;
+use vif_codes::Code;
+use vif_codes::CodeResult;
+use vif_codes::Decoded;
+use vif_codes::UnpackCode;
+use vif_codes::Vif;
+use vif_codes::VifAnswer;
+use vif_codes::Waiting;
+use vif_codes::answered;
+use vif_codes::begin_mpg;
+use vif_codes::begun_unpack;
+use vif_codes::decode;
+use vif_codes::done;
+use vif_codes::set_mode;
+use vif_codes::start_program;
+use vif_codes::unpack_refusal;
+use vif_codes::waits;
+use vif_codes::with_base;
+use vif_codes::with_cycle;
+use vif_codes::with_itops;
+use vif_codes::with_mark;
+use vif_codes::with_mskpath3;
+use vif_codes::with_offset;
+use vif_codes::with_row;
+use vif_codes::write_registers;
 ghost use mathlib.Core.Path.{_≡_};
-ghost use mathlib.Core.Bool.{true, false};
+ghost use mathlib.Core.Bool.{true};
 ghost use mathlib.Core.List.{List};
-ghost use Prim.Native.Nat.{ℕ, _%_};
+ghost use Prim.Native.Nat.{ℕ};
 ghost use Rattle.memories.specs.Units.{quadwords};
-ghost use Rattle.unpack.specs.Position.{addresses};
 ghost use Rattle.unpack.specs.Step.{unfedAcceptable};
-ghost use Rattle.vif.specs.Codes.{interruptOf, decodeOf};
-ghost use Rattle.vif.specs.Setters.{withWaiting};
-ghost use Rattle.vif.specs.Payload.{writeRegisters};
+ghost use Rattle.vif_codes.specs.Codes.{interruptOf, decodeOf};
+ghost use Rattle.vif_codes.specs.Payload.{writeRegisters};
+ghost use Rattle.vif_codes.specs.Execute.{resultWith, unfedWritten, unfedStep, beginUnpack, executeOf, decodedStep};
 ghost use Rattle.vif.specs.Inner.{CodeReady};
-ghost use Rattle.vif.specs.Execute.{codeResult, resultWith, nextTops, started, startProgram, setMode, addressOf, beginMpg, begunUnpack, topsRefused, unpackRefusal, unfedWritten, unfedStep, beginUnpack, executeOf, decodedStep};
-
-fn answered(answer: VifAnswer, unit: Vif, used: u64) -> CodeResult
-    ensures { λ r. ⌜ r ≡ codeResult answer unit used ⌝ }
-{
-    CodeResult { answer, unit, used }
-}
-
-fn done(unit: Vif, interrupt: bool, used: u64) -> CodeResult
-    ensures { λ r. ⌜ r ≡ codeResult (VifAnswer.Word interrupt) unit used ⌝ }
-{
-    answered(VifAnswer::Word(interrupt), unit, used)
-}
-
-fn waits(unit: Vif, waiting: Waiting, used: u64) -> CodeResult
-    ensures { λ r. ⌜ r ≡ codeResult (VifAnswer.Word false) (withWaiting unit waiting) used ⌝ }
-{
-    answered(VifAnswer::Word(false), with_waiting(unit, waiting), used)
-}
-
-fn next_tops(dbf: bool, unit: Vif) -> u32
-    ensures { λ r. ⌜ r ≡ nextTops dbf unit ⌝ }
-{
-    if dbf {
-        (unit.base % ADDRESSES + unit.ofst % ADDRESSES) % ADDRESSES
-    } else {
-        unit.base
-    }
-}
-
-// The registers that a program start moves.
-fn start(which: VifUnit, unit: Vif) -> Vif
-    ensures { λ r. ⌜ r ≡ started which unit ⌝ }
-{
-    match which {
-        VifUnit::Vif0 => with_start(unit, unit.itops, unit.top, unit.dbf, unit.tops),
-        VifUnit::Vif1 => {
-            let dbf = !unit.dbf;
-            let tops = next_tops(dbf, unit);
-            with_start(unit, unit.itops, unit.tops, dbf, tops)
-        }
-    }
-}
-
-// Data memory is any.
-fn start_program(
-    which: VifUnit,
-    register: u64,
-    value: u32,
-    unit: Vif,
-    interrupt: bool,
-    log: &mut [u64],
-    used: u64,
-) -> CodeResult
-    ensures { λ r. ⌜ ((mem : List ℕ) → resultWith r mem (now (log .exit))
-        ≡ startProgram which register value unit interrupt used mem (now (log .entry))) ⌝ }
-{
-    if gif::write_entry(log, used, gif::START_PATH, register, value as u64) {
-        done(start(which, unit), interrupt, used + 1)
-    } else {
-        answered(VifAnswer::Refused(refusals::LOG_FULL), unit, used)
-    }
-}
-
-fn set_mode(mode: u32, unit: Vif, interrupt: bool, used: u64) -> CodeResult
-    ensures { λ r. ⌜ r ≡ setMode mode unit interrupt used ⌝ }
-{
-    if mode == 3 {
-        answered(VifAnswer::Refused(refusals::MODE_WRONG), unit, used)
-    } else {
-        done(with_mode(unit, mode), interrupt, used)
-    }
-}
-
-// The address of an UNPACK, whose low ten bits count.
-fn address_of(u: UnpackCode, tops: u32) -> u32
-    ensures { λ r. ⌜ r % addresses ≡ addressOf u tops % addresses ⌝ }
-{
-    if u.tops {
-        u.address % ADDRESSES + tops % ADDRESSES
-    } else {
-        u.address
-    }
-}
-
-// The UNPACK that a code begins.
-fn begun_unpack(f: Format, u: UnpackCode, unit: Vif, interrupt: bool) -> Unpacking
-    ensures { λ r. ⌜ r ≡ begunUnpack f u unit interrupt ⌝ }
-{
-    let address = address_of(u, unit.tops);
-    unpack::waiting_for(
-        f,
-        unit.cl,
-        unit.wl,
-        address,
-        u.num,
-        u.usn,
-        u.masked,
-        interrupt,
-    )
-}
 
 // An UNPACK with CL 0, which has no payload: its writes. The log is any.
 fn unfed_unpack(
@@ -156,31 +58,6 @@ fn unfed_unpack(
     let r = unpack::write_without_payload(size, f, u, registers, row, data);
     let rows = r.row;
     done(with_row(unit, rows), interrupt, used)
-}
-
-// Whether an UNPACK wants a TOPS that the unit lacks.
-fn tops_refused(which: VifUnit, tops: bool) -> bool
-    ensures { λ r. ⌜ r ≡ topsRefused which tops ⌝ }
-{
-    match which {
-        VifUnit::Vif0 => tops,
-        VifUnit::Vif1 => false,
-    }
-}
-
-// The refusal of an UNPACK, 0 for none.
-fn unpack_refusal(which: VifUnit, u: UnpackCode, unit: Vif) -> u32
-    ensures { λ r. ⌜ r ≡ unpackRefusal which u unit ⌝ }
-{
-    let cycle = unpack::cycle_refused(unit.cl, unit.wl);
-    let tops = tops_refused(which, u.tops);
-    if cycle {
-        return refusals::CYCLE_WRONG;
-    }
-    if tops {
-        return refusals::TOPS_MISSING;
-    }
-    0
 }
 
 // UNPACK's own step. The log is any.
@@ -206,19 +83,6 @@ fn begin_unpack(
         return unfed_unpack(which, f, begun, unit, interrupt, data, used);
     }
     waits(unit, Waiting::UnpackDue(f, begun), used)
-}
-
-fn begin_mpg(address: u32, num: u32, unit: Vif, interrupt: bool, used: u64) -> CodeResult
-    ensures { λ r. ⌜ r ≡ beginMpg address num unit interrupt used ⌝ }
-{
-    let count = unpack::count_of(num);
-    let waiting = Waiting::MpgDue {
-        address,
-        count,
-        due: count + count,
-        interrupt,
-    };
-    waits(unit, waiting, used)
 }
 
 // A code's own step.

@@ -1,14 +1,10 @@
 // Words of main memory given to a unit one after another.
-use super::Vif;
-use super::VifAnswer;
 use super::WordsResult;
 use super::bursts::burst;
 use super::bursts::taken;
 use super::codes::take_codes;
-use super::counting::counts_in;
 use super::step::in_range;
 use super::step::step;
-use super::words::incoming_at;
 use fields::UnitCounts;
 use fields::lies_inside;
 use fields::no_units;
@@ -16,6 +12,10 @@ use fields::plus_units;
 use gif::Path;
 use memories::VifUnit;
 use memories::lengths_refusal;
+use vif_codes::Vif;
+use vif_codes::VifAnswer;
+use vif_codes::counts_in;
+use vif_codes::incoming_at;
 ghost use mathlib.Core.Path.{_≡_};
 ghost use mathlib.Core.Bool.{false};
 ghost use Prim.Native.Nat.{_+_, _*_, _^_, _<_, _≤_};

@@ -1,24 +1,14 @@
 // MPG: words stored to code memory.
-use super::Incoming;
+use vif_codes::Incoming;
+use vif_codes::odd_word;
 ghost use mathlib.Core.Path.{_≡_};
 ghost use Prim.Native.Nat.{_+_, _*_, _%_, _≤_, min};
 ghost use lib.ListN.{length};
 ghost use lib.Seq.{sets};
-ghost use Rattle.vif.specs.Payload.{bytesOf, wordPlace, mpgStored};
-ghost use Rattle.vif.specs.Codes.{mpgAddresses, mpgAddressMost};
-ghost use Rattle.vif.specs.Step.{oddWord, mpgRefused};
+ghost use Rattle.vif_codes.specs.Payload.{bytesOf, wordPlace, mpgStored};
+ghost use Rattle.vif_codes.specs.Codes.{mpgAddresses, mpgAddressMost};
+ghost use Rattle.vif.specs.Step.{mpgRefused};
 ghost use Rattle.vif.specs.Inner.{MpgReady, storedWords, copyBytes, StoreFits};
-
-fn odd_word(next: Incoming) -> bool
-    ensures { λ r. ⌜ r ≡ oddWord next ⌝ }
-{
-    match next {
-        Incoming::Word0(_, _, _, _) => false,
-        Incoming::Word1(_) => true,
-        Incoming::Word2(_) => false,
-        Incoming::Word3(_) => true,
-    }
-}
 
 // Whether the first word is due and the next word is word 1 or 3 of its quadword.
 pub(crate) fn mpg_refused(count: u32, due: u32, next: Incoming) -> bool

@@ -1,29 +1,17 @@
-// Payload words of STMASK, STROW and STCOL, and what the last unit of any payload completes.
-use super::Vif;
-use super::VifAnswer;
+// Payload words of STROW and STCOL, and the result of a step.
 use super::VifResult;
-use super::Waiting;
-use super::registers::with_col_at;
-use super::registers::with_mask;
-use super::registers::with_row_at;
-use super::registers::with_waiting;
 use gif::Path;
+use vif_codes::Vif;
+use vif_codes::VifAnswer;
+use vif_codes::Waiting;
+use vif_codes::or_nothing;
+use vif_codes::with_waiting;
 ghost use mathlib.Core.Path.{_≡_};
-ghost use Prim.Native.Nat.{_≤_, _-_};
-ghost use Rattle.vif.specs.Payload.{completes, orNothing, rowWord, colWord, maskWord};
+ghost use Prim.Native.Nat.{_<_, _≤_};
+ghost use lib.ListN.{set};
+ghost use Rattle.vif_codes.specs.Setters.{withRow, withCol};
+ghost use Rattle.vif_codes.specs.Payload.{rowWord, colWord};
 ghost use Rattle.vif.specs.Step.{answers};
-
-pub(crate) fn completed(due: u32, interrupt: bool) -> bool
-    ensures { λ r. ⌜ r ≡ completes due interrupt ⌝ }
-{
-    if due == 1 { interrupt } else { false }
-}
-
-pub(crate) fn or_nothing(due: u32, waiting: Waiting) -> Waiting
-    ensures { λ r. ⌜ r ≡ orNothing due waiting ⌝ }
-{
-    if due == 1 { Waiting::Nothing } else { waiting }
-}
 
 pub(crate) fn answered(answer: VifAnswer, unit: Vif, path2: Path, used: u64) -> VifResult
     ensures { λ r. ⌜ r ≡ answers answer unit path2 used ⌝ }
@@ -36,10 +24,22 @@ pub(crate) fn answered(answer: VifAnswer, unit: Vif, path2: Path, used: u64) -> 
     }
 }
 
-pub(crate) fn mask_word(unit: Vif, word: u32) -> Vif
-    ensures { λ r. ⌜ r ≡ maskWord unit word ⌝ }
+fn with_row_at(v: Vif, j: usize, x: u32) -> Vif
+    requires { ⌜ j < 4 ⌝ }
+    ensures { λ r. ⌜ r ≡ withRow v (set (v .row) j x) ⌝ }
 {
-    with_waiting(with_mask(unit, word), Waiting::Nothing)
+    let mut n = v;
+    n.row[j] = x;
+    n
+}
+
+fn with_col_at(v: Vif, j: usize, x: u32) -> Vif
+    requires { ⌜ j < 4 ⌝ }
+    ensures { λ r. ⌜ r ≡ withCol v (set (v .col) j x) ⌝ }
+{
+    let mut n = v;
+    n.col[j] = x;
+    n
 }
 
 pub(crate) fn row_word(unit: Vif, due: u32, interrupt: bool, word: u32) -> Vif

@@ -1,23 +1,12 @@
 // One word taken by the unit, or one quadword inside DIRECT.
-use super::Incoming;
-use super::Vif;
-use super::VifAnswer;
 use super::VifResult;
-use super::Waiting;
 use super::direct::direct;
 use super::execute::take_code;
 use super::mpg::mpg_refused;
 use super::mpg::store_mpg;
 use super::payload::answered;
 use super::payload::col_word;
-use super::payload::completed;
-use super::payload::mask_word;
-use super::payload::or_nothing;
 use super::payload::row_word;
-use super::range::unit_in_range;
-use super::registers::with_row;
-use super::registers::with_waiting;
-use super::registers::write_registers;
 use fields::refusals;
 use gif::Path;
 use memories::VifUnit;
@@ -26,6 +15,18 @@ use memories::lengths_refusal;
 use memories::quadwords;
 use unpack::Format;
 use unpack::Unpacking;
+use vif_codes::Incoming;
+use vif_codes::Vif;
+use vif_codes::VifAnswer;
+use vif_codes::Waiting;
+use vif_codes::completed;
+use vif_codes::mask_word;
+use vif_codes::or_nothing;
+use vif_codes::unit_in_range;
+use vif_codes::with_row;
+use vif_codes::with_waiting;
+use vif_codes::word_in;
+use vif_codes::write_registers;
 ghost use mathlib.Core.Path.{_≡_};
 ghost use mathlib.Core.List.{List};
 ghost use mathlib.Core.Bool.{_&&_};
@@ -33,24 +34,13 @@ ghost use Prim.Native.Nat.{ℕ, _-_, _≤_};
 ghost use Rattle.gif.specs.Range.{pathInRange};
 ghost use Rattle.memories.specs.Units.{quadwords, instructions};
 ghost use Rattle.memories.specs.Lengths.{lent};
-ghost use Rattle.vif.specs.Range.{unitInRange};
+ghost use Rattle.vif_codes.specs.Range.{unitInRange};
 ghost use Rattle.unpack.specs.Step.{holds};
-ghost use Rattle.vif.specs.declared.VifAnswer.the-variants.{Word};
-ghost use Rattle.vif.specs.declared.Waiting.the-variants.{DirectDue, DirecthlDue};
-ghost use Rattle.vif.specs.Payload.{completes, rowWord, colWord, mpgWord, unpackUnit};
-ghost use Rattle.vif.specs.Step.{answers, left, wordIn, codeStep, mpgStep, unpackStep, vifStep, takeOf};
+ghost use Rattle.vif_codes.specs.declared.VifAnswer.the-variants.{Word};
+ghost use Rattle.vif_codes.specs.declared.Waiting.the-variants.{DirectDue, DirecthlDue};
+ghost use Rattle.vif_codes.specs.Payload.{completes, rowWord, colWord, mpgWord, unpackUnit};
+ghost use Rattle.vif.specs.Step.{answers, left, codeStep, mpgStep, unpackStep, vifStep, takeOf};
 ghost use Rattle.vif.specs.Inner.{CodeReady, UnpackReady, MpgReady, StepReady};
-
-pub(crate) fn word_in(next: Incoming) -> u32
-    ensures { λ r. ⌜ r ≡ wordIn next ⌝ }
-{
-    match next {
-        Incoming::Word0(a, _, _, _) => a,
-        Incoming::Word1(a) => a,
-        Incoming::Word2(a) => a,
-        Incoming::Word3(a) => a,
-    }
-}
 
 // A word that comes while nothing waits.
 fn code_word(

@@ -14,12 +14,12 @@ use Rattle.unpack.specs.declared.Format.{Format}
 use Rattle.unpack.specs.declared.NamedFormat.{NamedFormat}
 use Rattle.unpack.specs.declared.NamedFormat.the-variants.{Named, Missing}
 use Rattle.unpack.specs.Formats.{namedIn, formatNamed}
-use Rattle.vif.specs.declared.Code.{Code}
-use Rattle.vif.specs.declared.Code.the-variants.{Nop, Stcycl, Offset, Base, Itop, Stmod, Mskpath3, Mark, Flushe, Flush, Flusha, Mscal, Mscalf, Mscnt, Stmask, Strow, Stcol, Mpg, Direct, Directhl, Unpack}
-use Rattle.vif.specs.declared.UnpackCode.{UnpackCode}
-use Rattle.vif.specs.declared.Decoded.{Decoded}
-use Rattle.vif.specs.declared.Decoded.the-variants.{Known, Unknown}
-use Rattle.vif.specs.Codes.{cmdOf, numOf, immOf, codeListed, plainCode, unpackCode, unpackNumbers, codeOf, decodeOf}
+use Rattle.vif_codes.specs.declared.Code.{Code}
+use Rattle.vif_codes.specs.declared.Code.the-variants.{Nop, Stcycl, Offset, Base, Itop, Stmod, Mskpath3, Mark, Flushe, Flush, Flusha, Mscal, Mscalf, Mscnt, Stmask, Strow, Stcol, Mpg, Direct, Directhl, Unpack}
+use Rattle.vif_codes.specs.declared.UnpackCode.{UnpackCode}
+use Rattle.vif_codes.specs.declared.Decoded.{Decoded}
+use Rattle.vif_codes.specs.declared.Decoded.the-variants.{Known, Unknown}
+use Rattle.vif_codes.specs.Codes.{cmdOf, numOf, immOf, codeListed, plainCode, unpackCode, unpackNumbers, codeOf, decodeOf}
 use Rattle.vif_reason.specs.Reason.{vlOf, vnOf}
 use Rattle.vif_reason.specs.Fault.{listed, listedOn, IsUnpack, StartsProgram, mscal, mscalf, mscnt}
 

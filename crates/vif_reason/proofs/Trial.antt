@@ -23,22 +23,23 @@ use Rattle.unpack.specs.declared.NamedFormat.{NamedFormat}
 use Rattle.unpack.specs.declared.NamedFormat.the-variants.{Named, Missing}
 use Rattle.unpack.specs.Formats.{formatNamed}
 use Rattle.unpack.specs.Range.{cycleRefused}
-use Rattle.vif.specs.declared.Code.{Code}
-use Rattle.vif.specs.declared.Code.the-variants.{Nop, Stcycl, Offset, Base, Itop, Stmod, Mskpath3, Mark, Flushe, Flush, Flusha, Mscal, Mscalf, Mscnt, Stmask, Strow, Stcol, Mpg, Direct, Directhl, Unpack}
-use Rattle.vif.specs.declared.UnpackCode.{UnpackCode}
-use Rattle.vif.specs.declared.Decoded.{Decoded}
-use Rattle.vif.specs.declared.Decoded.the-variants.{Known, Unknown}
-use Rattle.vif.specs.declared.Incoming.{Incoming}
-use Rattle.vif.specs.declared.Incoming.the-variants.{Word0, Word1, Word2, Word3}
-use Rattle.vif.specs.declared.VifAnswer.{VifAnswer}
-use Rattle.vif.specs.declared.VifAnswer.the-variants.{Word, Quadword, Refused}
-use Rattle.vif.specs.declared.Waiting.{Waiting}
-use Rattle.vif.specs.declared.Waiting.the-variants.{Nothing, MaskDue, RowDue, ColDue, MpgDue, DirectDue, DirecthlDue, UnpackDue}
-use Rattle.vif.specs.declared.Vif.{Vif}
-use Rattle.vif.specs.Codes.{cmdOf, numOf, immOf, interruptOf, codeListed, plainCode, unpackCode, unpackNumbers, codeOf, decodeOf}
-use Rattle.vif.specs.Setters.{withMode}
-use Rattle.vif.specs.Execute.{Executed, executed, codeResult, resultWith, started, startProgram, setMode, beginMpg, topsRefused, unpackRefusal, beginUnpack, executeOf, decodedStep}
-use Rattle.vif.specs.Step.{Left, leaves, refused, wordIn, afterGif, giveQuadword, directStep, mpgRefused, mpgStep, unpackStep, codeStep, stepBy, vifStep}
+use Rattle.vif_codes.specs.declared.Code.{Code}
+use Rattle.vif_codes.specs.declared.Code.the-variants.{Nop, Stcycl, Offset, Base, Itop, Stmod, Mskpath3, Mark, Flushe, Flush, Flusha, Mscal, Mscalf, Mscnt, Stmask, Strow, Stcol, Mpg, Direct, Directhl, Unpack}
+use Rattle.vif_codes.specs.declared.UnpackCode.{UnpackCode}
+use Rattle.vif_codes.specs.declared.Decoded.{Decoded}
+use Rattle.vif_codes.specs.declared.Decoded.the-variants.{Known, Unknown}
+use Rattle.vif_codes.specs.declared.Incoming.{Incoming}
+use Rattle.vif_codes.specs.declared.Incoming.the-variants.{Word0, Word1, Word2, Word3}
+use Rattle.vif_codes.specs.declared.VifAnswer.{VifAnswer}
+use Rattle.vif_codes.specs.declared.VifAnswer.the-variants.{Word, Quadword, Refused}
+use Rattle.vif_codes.specs.declared.Waiting.{Waiting}
+use Rattle.vif_codes.specs.declared.Waiting.the-variants.{Nothing, MaskDue, RowDue, ColDue, MpgDue, DirectDue, DirecthlDue, UnpackDue}
+use Rattle.vif_codes.specs.declared.Vif.{Vif}
+use Rattle.vif_codes.specs.Codes.{cmdOf, numOf, immOf, interruptOf, codeListed, plainCode, unpackCode, unpackNumbers, codeOf, decodeOf}
+use Rattle.vif_codes.specs.Setters.{withMode}
+use Rattle.vif_codes.specs.Execute.{Executed, executed, codeResult, resultWith, started, startProgram, setMode, beginMpg, topsRefused, unpackRefusal, beginUnpack, executeOf, decodedStep}
+use Rattle.vif_codes.specs.Words.{wordIn}
+use Rattle.vif.specs.Step.{Left, leaves, refused, afterGif, giveQuadword, directStep, mpgRefused, mpgStep, unpackStep, codeStep, stepBy, vifStep}
 use Rattle.gif_reason.specs.Reason.{quadwordNeeds}
 use Rattle.gif_reason.proofs.Trial.{Outcome, goes, refuses, Tried, refuses-tried, goes-tried, needs-tried, carried, no-goes, outcomeOf as gifOutcome, quadword-tried}
 use Rattle.vif_reason.specs.Reason.{directNeeds, waitingNeeds, wordNeeds}

@@ -22,21 +22,22 @@ use Rattle.memories.specs.declared.VifUnit.the-variants.{Vif0, Vif1}
 use Rattle.memories.specs.Lengths.{Lent}
 use Rattle.unpack.specs.declared.Format.{Format}
 use Rattle.unpack.specs.Range.{cycleRefused}
-use Rattle.vif.specs.declared.Code.{Code}
-use Rattle.vif.specs.declared.Code.the-variants.{Nop, Stcycl, Offset, Base, Itop, Stmod, Mskpath3, Mark, Flushe, Flush, Flusha, Mscal, Mscalf, Mscnt, Stmask, Strow, Stcol, Mpg, Direct, Directhl, Unpack}
-use Rattle.vif.specs.declared.UnpackCode.{UnpackCode}
-use Rattle.vif.specs.declared.CodeResult.{CodeResult}
-use Rattle.vif.specs.declared.Decoded.{Decoded}
-use Rattle.vif.specs.declared.Decoded.the-variants.{Known, Unknown}
-use Rattle.vif.specs.declared.Incoming.{Incoming}
-use Rattle.vif.specs.declared.Incoming.the-variants.{Word0, Word1, Word2, Word3}
-use Rattle.vif.specs.declared.VifAnswer.the-variants.{Word, Refused}
-use Rattle.vif.specs.declared.Waiting.{Waiting}
-use Rattle.vif.specs.declared.Waiting.the-variants.{Nothing, MaskDue, RowDue, ColDue, MpgDue, DirectDue, DirecthlDue, UnpackDue}
-use Rattle.vif.specs.declared.Vif.{Vif}
-use Rattle.vif.specs.Codes.{immOf, interruptOf, decodeOf}
-use Rattle.vif.specs.Execute.{Executed, executed, resultWith, startProgram, setMode, beginMpg, topsRefused, unpackRefusal, beginUnpack, executeOf, decodedStep}
-use Rattle.vif.specs.Step.{Left, leaves, refused, wordIn, oddWord, afterGif, giveQuadword, directStep, mpgRefused, mpgStep, unpackStep, codeStep, stepBy, vifStep}
+use Rattle.vif_codes.specs.declared.Code.{Code}
+use Rattle.vif_codes.specs.declared.Code.the-variants.{Nop, Stcycl, Offset, Base, Itop, Stmod, Mskpath3, Mark, Flushe, Flush, Flusha, Mscal, Mscalf, Mscnt, Stmask, Strow, Stcol, Mpg, Direct, Directhl, Unpack}
+use Rattle.vif_codes.specs.declared.UnpackCode.{UnpackCode}
+use Rattle.vif_codes.specs.declared.CodeResult.{CodeResult}
+use Rattle.vif_codes.specs.declared.Decoded.{Decoded}
+use Rattle.vif_codes.specs.declared.Decoded.the-variants.{Known, Unknown}
+use Rattle.vif_codes.specs.declared.Incoming.{Incoming}
+use Rattle.vif_codes.specs.declared.Incoming.the-variants.{Word0, Word1, Word2, Word3}
+use Rattle.vif_codes.specs.declared.VifAnswer.the-variants.{Word, Refused}
+use Rattle.vif_codes.specs.declared.Waiting.{Waiting}
+use Rattle.vif_codes.specs.declared.Waiting.the-variants.{Nothing, MaskDue, RowDue, ColDue, MpgDue, DirectDue, DirecthlDue, UnpackDue}
+use Rattle.vif_codes.specs.declared.Vif.{Vif}
+use Rattle.vif_codes.specs.Codes.{immOf, interruptOf, decodeOf}
+use Rattle.vif_codes.specs.Execute.{Executed, executed, resultWith, startProgram, setMode, beginMpg, topsRefused, unpackRefusal, beginUnpack, executeOf, decodedStep}
+use Rattle.vif_codes.specs.Words.{wordIn, oddWord}
+use Rattle.vif.specs.Step.{Left, leaves, refused, afterGif, giveQuadword, directStep, mpgRefused, mpgStep, unpackStep, codeStep, stepBy, vifStep}
 use Rattle.gif_reason.specs.Reason.{numbers}
 use Rattle.gif_reason.proofs.Truth.{free-below, quadword-told}
 use Rattle.vif_reason.specs.Reason.{wordNumber, codeNumbers, directNumbers, waitingNumbers, wordNumbers, directNeeds, waitingNeeds, wordNeeds}

@@ -9,13 +9,13 @@ use Rattle.fields.specs.Refusals.{cmdUnlisted, formatMissing, cycleWrong, modeW
 use Rattle.gif.specs.declared.Path.{Path}
 use Rattle.memories.specs.declared.VifUnit.{VifUnit}
 use Rattle.memories.specs.declared.VifUnit.the-variants.{Vif0}
-use Rattle.vif.specs.declared.Incoming.{Incoming}
-use Rattle.vif.specs.declared.Incoming.the-variants.{Word0}
-use Rattle.vif.specs.declared.Waiting.{Waiting}
-use Rattle.vif.specs.declared.Waiting.the-variants.{Nothing, MaskDue, RowDue, ColDue, MpgDue, DirectDue, DirecthlDue, UnpackDue}
-use Rattle.vif.specs.declared.Vif.{Vif}
-use Rattle.vif.specs.Codes.{cmdOf, codeListed}
-use Rattle.vif.specs.Step.{wordIn}
+use Rattle.vif_codes.specs.declared.Incoming.{Incoming}
+use Rattle.vif_codes.specs.declared.Incoming.the-variants.{Word0}
+use Rattle.vif_codes.specs.declared.Waiting.{Waiting}
+use Rattle.vif_codes.specs.declared.Waiting.the-variants.{Nothing, MaskDue, RowDue, ColDue, MpgDue, DirectDue, DirecthlDue, UnpackDue}
+use Rattle.vif_codes.specs.declared.Vif.{Vif}
+use Rattle.vif_codes.specs.Codes.{cmdOf, codeListed}
+use Rattle.vif_codes.specs.Words.{wordIn}
 use Rattle.gif_reason.specs.declared.Numbers.{Numbers}
 use Rattle.gif_reason.specs.Reason.{numbers, freeEntries}
 use Rattle.gif_reason.specs.Fault.{QuadwordFault}

@@ -6,13 +6,13 @@ use lib.Dec.{eqb}
 use Rattle.fields.specs.Fields.{if, bits, quadword}
 use Rattle.fields.specs.Refusals.{cmdUnlisted, formatMissing, cycleWrong, modeWrong, topsMissing, logFull}
 use Rattle.gif.specs.declared.Path.{Path}
-use Rattle.vif.specs.declared.Incoming.{Incoming}
-use Rattle.vif.specs.declared.Incoming.the-variants.{Word0, Word1, Word2, Word3}
-use Rattle.vif.specs.declared.Waiting.{Waiting}
-use Rattle.vif.specs.declared.Waiting.the-variants.{Nothing, MaskDue, RowDue, ColDue, MpgDue, DirectDue, DirecthlDue, UnpackDue}
-use Rattle.vif.specs.declared.Vif.{Vif}
-use Rattle.vif.specs.Codes.{cmdOf}
-use Rattle.vif.specs.Step.{wordIn}
+use Rattle.vif_codes.specs.declared.Incoming.{Incoming}
+use Rattle.vif_codes.specs.declared.Incoming.the-variants.{Word0, Word1, Word2, Word3}
+use Rattle.vif_codes.specs.declared.Waiting.{Waiting}
+use Rattle.vif_codes.specs.declared.Waiting.the-variants.{Nothing, MaskDue, RowDue, ColDue, MpgDue, DirectDue, DirecthlDue, UnpackDue}
+use Rattle.vif_codes.specs.declared.Vif.{Vif}
+use Rattle.vif_codes.specs.Codes.{cmdOf}
+use Rattle.vif_codes.specs.Words.{wordIn}
 use Rattle.gif_reason.specs.declared.Numbers.{Numbers}
 use Rattle.gif_reason.specs.Reason.{numbers, freeEntries, quadwordNumbers, quadwordNeeds}
 

@@ -4,11 +4,11 @@ use gif::Path;
 use gif_reason::Numbers;
 use gif_reason::free_entries;
 use gif_reason::quadword_numbers;
-use vif::Incoming;
-use vif::Vif;
-use vif::Waiting;
+use vif_codes::Incoming;
+use vif_codes::Vif;
+use vif_codes::Waiting;
 ghost use mathlib.Core.Path.{_≡_};
-ghost use Rattle.vif.specs.Step.{wordIn};
+ghost use Rattle.vif_codes.specs.Words.{wordIn};
 ghost use Rattle.gif_reason.specs.Reason.{numbers};
 ghost use Rattle.vif_reason.specs.Reason.{wordNumber, codeNumbers, directNumbers, wordNumbers};
 

@@ -15,7 +15,7 @@ use start::case_of;
 use start::running_of;
 use state_block::PATH_WORDS;
 use state_block::UNIT_WORDS;
-use vif::Vif;
+use vif_codes::Vif;
 use wire::joined;
 use wire::word_at;
 

@@ -41,11 +41,11 @@ use denote.Triple.Table.{entered, cited}
 use denote.Triple.Walked.{says, Stays, stay-ref, stay-none, walkOf, AllGo, goes-none, goes-ref, Walks, ends-at, walked, walk-meets}
 use denote.Exit.{yes}
 use Rattle.console.specs.Register.{setOf}
-use Rattle.vif.specs.declared.Vif.{Vif}
+use Rattle.vif_codes.specs.declared.Vif.{Vif}
 use Rattle.console.specs.declared.SetAnswer.{SetAnswer}
 use Rattle.console.specs.declared.SetResult.{SetResult}
-use Rattle.vif.proofs.Vif as B
-use Rattle.vif.proofs.Vif.Laws as B′
+use Rattle.vif_codes.proofs.Vif as B
+use Rattle.vif_codes.proofs.Vif.Laws as B′
 use Rattle.console.proofs.SetAnswer as N
 use Rattle.console.proofs.SetAnswer.Laws as N′
 use Rattle.console.proofs.SetResult as S

@@ -1,5 +1,5 @@
 use mathlib.Core.Bool.{true, false}
-use Rattle.vif.proofs.RangeLaws.{direct-due, directhl-due}
+use Rattle.vif_codes.proofs.RangeLaws.{direct-due, directhl-due}
 use Rattle.vif.proofs.BurstLaws.{burst-none, burst-quadwords}
 use borrow.Author.Needs.{needs}
 use Rattle.vif.proofs.bursts.burst.Statement.{statement}

@@ -3,7 +3,7 @@ use Prim.Native.Nat.{ℕ, _+_, _*_, _-_, _≤_}
 use native.Mathlib.Omega.{arith}
 use borrow.Author.Needs.{needs}
 use Rattle.memories.specs.declared.VifUnit.{VifUnit}
-use Rattle.vif.specs.declared.Waiting.the-variants.{Nothing}
+use Rattle.vif_codes.specs.declared.Waiting.the-variants.{Nothing}
 use Rattle.vif.specs.Feeds.{Fed}
 use Rattle.vif.specs.Inner.{Leads, wordsWith}
 use Rattle.vif.proofs.FeedLaws.{leads-none}

@@ -1,7 +1,8 @@
 use mathlib.Core.Path.{_≡_, sym, _∙_}
 use native.Mathlib.Omega.{arith}
 use borrow.Author.Needs.{needs}
-use Rattle.vif.proofs.RangeLaws.{row-due, col-due, mpg-ready, unpack-due}
+use Rattle.vif_codes.proofs.RangeLaws.{row-due, col-due}
+use Rattle.vif.proofs.ReadyLaws.{mpg-ready, unpack-due}
 use Rattle.vif.proofs.CodesLaws.{ahead-is, one-word, mask-leads, row-leads, col-leads}
 use Rattle.vif.proofs.codes.payload_words.Statement.{statement}
 use Rattle.vif.proofs.codes.payload_words.Tie as tie

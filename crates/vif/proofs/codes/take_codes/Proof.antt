@@ -6,7 +6,7 @@ use lib.ListN.{length}
 use Rattle.memories.specs.Lengths.{lent}
 use Rattle.vif.specs.Feeds.{fed}
 use Rattle.vif.specs.Inner.{Leads, fedIn, wordsWith}
-use Rattle.vif.proofs.RangeKept.{code-ready}
+use Rattle.vif.proofs.ReadyLaws.{code-ready}
 use Rattle.vif.proofs.FeedLaws.{leads-none}
 use Rattle.vif.proofs.CodesLaws.{codes-more, words-more, code-leads, code-refused, code-quadword, ahead-is, waiting-fits, still-few, codes-fit, codes-taken}
 use Rattle.vif.proofs.codes.take_codes.Statement.{statement}

@@ -2,8 +2,9 @@ use mathlib.Core.Path.{sym, _∙_}
 use borrow.Author.Needs.{needs}
 use borrow.Author.Tests.{ne-eqb}
 use Rattle.fields.specs.Fields.{if}
-use Rattle.vif.specs.Execute.{beginUnpack}
-use Rattle.vif.proofs.CodeLaws.{unfed-accepted, unpack-unfed, unpack-begun}
+use Rattle.vif_codes.specs.Execute.{beginUnpack}
+use Rattle.vif_codes.proofs.CodeLaws.{unpack-unfed, unpack-begun}
+use Rattle.vif.proofs.ReadyLaws.{unfed-accepted}
 use Rattle.vif.proofs.execute.begin_unpack.Statement.{statement}
 use Rattle.vif.proofs.execute.begin_unpack.Tie as tie
 

@@ -1,4 +1,4 @@
-use Rattle.vif.proofs.CodeLaws.{by-code}
+use Rattle.vif_codes.proofs.CodeLaws.{by-code}
 use borrow.Author.Needs.{needs}
 use Rattle.vif.proofs.execute.execute.Statement.{statement}
 use Rattle.vif.proofs.execute.execute.Tie as tie

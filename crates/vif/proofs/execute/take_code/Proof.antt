@@ -4,7 +4,7 @@ use native.Mathlib.Nat.{mod-eq-of-lt}
 use native.Mathlib.Omega.{arith}
 use borrow.Author.Needs.{needs}
 use Rattle.fields.specs.Fields.{bits}
-use Rattle.vif.proofs.CodeLaws.{by-decoded}
+use Rattle.vif_codes.proofs.CodeLaws.{by-decoded}
 use Rattle.vif.proofs.execute.take_code.Statement.{statement}
 use Rattle.vif.proofs.execute.take_code.Tie as tie
 

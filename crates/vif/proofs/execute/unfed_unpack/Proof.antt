@@ -1,5 +1,5 @@
 use borrow.Author.Needs.{needs}
-use Rattle.vif.proofs.CodeLaws.{unfed-done}
+use Rattle.vif_codes.proofs.CodeLaws.{unfed-done}
 use Rattle.vif.proofs.execute.unfed_unpack.Statement.{statement}
 use Rattle.vif.proofs.execute.unfed_unpack.Tie as tie
 

@@ -1,4 +1,4 @@
-use Rattle.vif.specs.Payload.{mpgStored}
+use Rattle.vif_codes.specs.Payload.{mpgStored}
 use borrow.Author.Needs.{needs}
 use Rattle.vif.proofs.mpg.store_mpg.Statement.{statement}
 use Rattle.vif.proofs.mpg.store_mpg.Tie as tie

@@ -2,7 +2,7 @@ use Prim.Native.Nat.{_+_, _/_}
 use native.Mathlib.Nat.{mod-lt}
 use native.Mathlib.Omega.{arith}
 use borrow.Author.Needs.{needs}
-use Rattle.vif.specs.Payload.{wordPlace}
+use Rattle.vif_codes.specs.Payload.{wordPlace}
 use Rattle.vif.proofs.MpgLaws.{place-inside}
 use Rattle.vif.proofs.mpg.word_place.Statement.{statement}
 use Rattle.vif.proofs.mpg.word_place.Tie as tie

@@ -1,7 +1,7 @@
 use borrow.Author.Needs.{needs}
+use Rattle.vif_codes.proofs.RangeLaws.{row-due, col-due, direct-due, directhl-due}
 use Rattle.vif.specs.Step.{vifStep}
-use Rattle.vif.proofs.RangeKept.{code-ready}
-use Rattle.vif.proofs.RangeLaws.{row-due, col-due, mpg-ready, direct-due, directhl-due, unpack-due}
+use Rattle.vif.proofs.ReadyLaws.{code-ready, mpg-ready, unpack-due}
 use Rattle.vif.proofs.StepLaws.{by-waiting}
 use Rattle.vif.proofs.step.step.Statement.{statement}
 use Rattle.vif.proofs.step.step.Tie as tie
