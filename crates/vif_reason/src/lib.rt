@@ -7,8 +7,8 @@ use gif_reason::quadword_numbers;
 use vif_codes::Incoming;
 use vif_codes::Vif;
 use vif_codes::Waiting;
+use vif_codes::word_in;
 ghost use mathlib.Core.Path.{_≡_};
-ghost use Rattle.vif_codes.specs.Words.{wordIn};
 ghost use Rattle.gif_reason.specs.Reason.{numbers};
 ghost use Rattle.vif_reason.specs.Reason.{wordNumber, codeNumbers, directNumbers, wordNumbers};
 
@@ -18,17 +18,6 @@ fn one(n: u64) -> Numbers
     Numbers {
         first: n,
         second: 0,
-    }
-}
-
-fn word_in(next: Incoming) -> u32
-    ensures { λ r. ⌜ r ≡ wordIn next ⌝ }
-{
-    match next {
-        Incoming::Word0(a, _, _, _) => a,
-        Incoming::Word1(a) => a,
-        Incoming::Word2(a) => a,
-        Incoming::Word3(a) => a,
     }
 }
 
