@@ -55,7 +55,7 @@ fn build_at(sheet: &[u8], main: &mut [u8], address: u32) -> BuildAnswer
     ensures { λ r. ⌜ left r (now (main .exit)) ≡ builtAt (now (sheet .entry)) (now (main .entry)) address ⌝ }
 {
     let at = place(address, main.len());
-    sheet::build(sheet, &mut main[at..])
+    sheet_builder::build(sheet, &mut main[at..])
 }
 
 // Builds the chain of a sheet at an address in main memory, starts it on channel 1 and runs it. A refusal leaves everything as it is.

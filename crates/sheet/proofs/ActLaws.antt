@@ -7,8 +7,8 @@ use lib.ListN.{length}
 use Rattle.sheet.specs.declared.Kind.{Kind}
 use Rattle.sheet.specs.Records.{Record, recordOf, bodyLength, bytesAt}
 use Rattle.sheet.specs.Reader.{Contents, valid, refused as noContents}
-use Rattle.sheet.specs.declared.heads.Header.{Header}
-use Rattle.sheet.specs.declared.heads.Header.the-variants.{End, Single, Group, Refused}
+use Rattle.sheet.specs.declared.Header.{Header}
+use Rattle.sheet.specs.declared.Header.the-variants.{End, Single, Group, Refused}
 use Rattle.sheet.specs.Items.{Item, group, none, repeated, expandedItem, expanded}
 use Rattle.sheet.specs.Groups.{headerAt}
 use Rattle.sheet.specs.Groups.{ItemRead, ended, item, refused, MembersRead, members, broken, onMember, membersFrom, grouped, groupFrom, itemAt}

@@ -11,8 +11,8 @@ use Rattle.sheet.specs.Reader.{Contents, valid, refused, readingAt}
 use Rattle.sheet.specs.Whole.{AllMeet, none as no-record, more}
 use Rattle.sheet.proofs.ReaderLaws.{found-next}
 use Rattle.sheet.proofs.WholeLaws.{found-meets}
-use Rattle.sheet.specs.declared.heads.Header.{Header}
-use Rattle.sheet.specs.declared.heads.Header.the-variants.{End, Single, Group, Refused}
+use Rattle.sheet.specs.declared.Header.{Header}
+use Rattle.sheet.specs.declared.Header.the-variants.{End, Single, Group, Refused}
 use Rattle.sheet.specs.Items.{Item, single, Items, none, repeated, expandedItem, expanded}
 use Rattle.sheet.specs.Groups.{headerAt}
 use Rattle.sheet.specs.Groups.{ItemRead, ended, item, refused as itemRefused, members, membersFrom, groupFrom, itemAt}

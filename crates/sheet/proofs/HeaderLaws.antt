@@ -1,5 +1,5 @@
 -- What a header says of the bytes.
-use mathlib.Core.Path.{_≡_, refl, sym}
+use mathlib.Core.Path.{_≡_, refl, sym, _∙_}
 use mathlib.Core.Bool.{Bool, true, false}
 use mathlib.Core.List.{List}
 use Prim.Native.Nat.{ℕ, _+_, _<_, _≤_}
@@ -10,11 +10,13 @@ use borrow.Author.Tests.{leb-true, eqb-true, eqb-false, le-leb, lt-leb, eq-eqb, 
 use Rattle.fields.specs.Fields.{if}
 use Rattle.fields.proofs.ChoiceLaws.{and-left, and-later, if-zero}
 use Rattle.sheet.specs.declared.Kind.{Kind}
-use Rattle.sheet.proofs.ReaderLaws.{past, reading-end}
+use Rattle.sheet.proofs.ReaderLaws.{FoundThere, past, reading-end, found-next}
 use Rattle.sheet.specs.declared.Reading.{Reading}
 use Rattle.sheet.specs.declared.Reading.the-variants.{End as NoRecord, Found, Refused as RecordRefused}
+use Rattle.sheet.specs.Records.{bodyLength}
 use Rattle.sheet.specs.Reader.{marked, countAt, addressAt, readingAt}
-use Rattle.sheet.specs.declared.heads.Header.the-variants.{End, Single, Group, Refused}
+use Rattle.sheet.specs.declared.Header.{Header}
+use Rattle.sheet.specs.declared.Header.the-variants.{End, Single, Group, Refused}
 use Rattle.sheet.specs.Groups.{opensKind, startsSecond, opensGroup, groupRefusal, plainHeader, headerAt}
 
 -- a group's header stands whole
@@ -109,6 +111,14 @@ module _ (sheet : List ℕ) (depth at : ℕ) where
   pub header-end : headerAt sheet depth at ≡ End → length sheet ≤ at
   unfolding headerAt
   header-end e = reading-end sheet at (chosen-end _ _ e)
+
+-- a record that a header says is found there, and its body lies in the sheet
+module _ (sheet : List ℕ) (depth at : ℕ) {h : Header} (e : h ≡ headerAt sheet depth at) {k : Kind} {n a next : ℕ} (q : h ≡ Single k n a next) where
+  pub single-there : FoundThere sheet at k n a next
+  single-there = found-next sheet at k n a next (single-found sheet depth at (sym e ∙ q))
+
+  pub single-inside : at + 6 + bodyLength k n ≤ length sheet
+  single-inside = let t = single-there in omega arith
 
 -- ---- what `opens_kind`, `opens_group` and `read_header` answer
 

@@ -8,8 +8,8 @@ use Rattle.sheet.specs.declared.Kind.{Kind}
 use Rattle.sheet.specs.Records.{recordOf, bodyLength, bytesAt}
 use Rattle.sheet.specs.Sizes.{quadwordsOf, stepsOf, entriesOf}
 use Rattle.sheet.specs.declared.sums.Totals.{Totals}
-use Rattle.sheet.specs.declared.heads.Header.{Header}
-use Rattle.sheet.specs.declared.heads.Header.the-variants.{End, Single, Group, Refused}
+use Rattle.sheet.specs.declared.Header.{Header}
+use Rattle.sheet.specs.declared.Header.the-variants.{End, Single, Group, Refused}
 use Rattle.sheet.specs.declared.items.ItemAnswer.{ItemAnswer}
 use Rattle.sheet.specs.declared.items.ItemAnswer.the-variants.{End as NoItem, Found, Refused as ItemRefused}
 use Rattle.sheet.specs.Items.{Item, single, group, expandedItem, expanded}

@@ -1,6 +1,5 @@
 -- Laws of the definitions, by subject; the crates above cite them.
 pub mod ListLaws
-pub mod ByteLaws
 pub mod PadLaws
 pub mod ReaderLaws
 pub mod RestLaws
@@ -19,11 +18,6 @@ pub mod TakenLaws
 pub mod MeasureLaws
 pub mod TotalsLaws
 pub mod ActLaws
-pub mod WriterLaws
-pub mod BuildLaws
 pub mod MeaningLaws
 pub mod FedLaws
-pub mod MatchLaws
-pub mod FeederLaws
-pub mod AnswerLaws
 pub mod Points

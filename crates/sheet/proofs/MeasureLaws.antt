@@ -19,8 +19,8 @@ use Rattle.sheet.proofs.LayoutLaws.{chain-length}
 use Rattle.sheet.specs.declared.sums.Totals.{Totals}
 use Rattle.sheet.specs.declared.items.ItemAnswer.{ItemAnswer}
 use Rattle.sheet.specs.declared.items.ItemAnswer.the-variants.{End, Found, Refused}
-use Rattle.sheet.specs.declared.totals.Measured.{Measured}
-use Rattle.sheet.specs.declared.totals.Measured.the-variants.{Refused as MeasureRefused}
+use Rattle.sheet.specs.declared.Measured.{Measured}
+use Rattle.sheet.specs.declared.Measured.the-variants.{Refused as MeasureRefused}
 use Rattle.sheet.specs.Items.{expandedItem}
 use Rattle.sheet.specs.Groups.{ItemRead, ended, item, refused as itemRefused, itemAt}
 use Rattle.sheet.specs.Sums.{sumOf, quadwords, steps, entries, most, capped, totals, totalsOf, endTotals, joined, answered, measuredOf, within, summed}

@@ -6,8 +6,8 @@ use native.Mathlib.Omega.{arith}
 use lib.ListN.{length}
 use Rattle.sheet.proofs.ReaderLaws.{found-next}
 use Rattle.sheet.specs.declared.sums.Totals.{Totals}
-use Rattle.sheet.specs.declared.heads.Header.{Header}
-use Rattle.sheet.specs.declared.heads.Header.the-variants.{End, Single, Group, Refused}
+use Rattle.sheet.specs.declared.Header.{Header}
+use Rattle.sheet.specs.declared.Header.the-variants.{End, Single, Group, Refused}
 use Rattle.sheet.specs.declared.items.ItemAnswer.{ItemAnswer}
 use Rattle.sheet.specs.declared.items.ItemAnswer.the-variants.{Found}
 use Rattle.sheet.specs.Items.{Item, group, Items, then}

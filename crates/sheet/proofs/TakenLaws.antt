@@ -14,7 +14,7 @@ use Rattle.fields.specs.Refusals.{chainLong}
 use Rattle.fields.proofs.ChoiceLaws.{and-false}
 use Rattle.sheet.specs.declared.Kind.{Kind}
 use Rattle.sheet.specs.declared.Kind.the-variants.{Data, Code, Gs, Start}
-use Rattle.sheet.specs.declared.heads.Header.the-variants.{Single, Group}
+use Rattle.sheet.specs.declared.Header.the-variants.{Single, Group}
 use Rattle.sheet.specs.Records.{Record, longest, kindNumber}
 use Rattle.sheet.specs.Reader.{valid, refused, marked, addressAt}
 use Rattle.sheet.specs.Sizes.{sheetSteps}

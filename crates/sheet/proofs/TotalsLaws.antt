@@ -9,8 +9,8 @@ use borrow.Author.Tests.{lt-ltb, le-ltb, eq-eqb, ne-eqb}
 use Rattle.fields.specs.Fields.{if}
 use Rattle.sheet.specs.declared.StepsAnswer.the-variants.{Steps, Refused as StepsRefused}
 use Rattle.sheet.specs.declared.sums.Totals.{Totals}
-use Rattle.sheet.specs.declared.totals.Measured.{Measured}
-use Rattle.sheet.specs.declared.totals.Measured.the-variants.{Whole, Refused as MeasureRefused}
+use Rattle.sheet.specs.declared.Measured.{Measured}
+use Rattle.sheet.specs.declared.Measured.the-variants.{Whole, Refused as MeasureRefused}
 use Rattle.sheet.specs.Records.{Record}
 use Rattle.sheet.specs.Reader.{Contents, valid, refused}
 use Rattle.sheet.specs.Groups.{startsSecond}

@@ -12,8 +12,8 @@ use lib.Seq.{getD-drop, drop-drop}
 use lib.Dec.{eqb, leb}
 use Rattle.fields.specs.Fields.{if}
 use Rattle.fields.proofs.ChoiceLaws.{if-zero, and-left, and-right}
-use Rattle.sheet.specs.declared.heads.Header.{Header}
-use Rattle.sheet.specs.declared.heads.Header.the-variants.{End, Single, Group, Refused}
+use Rattle.sheet.specs.declared.Header.{Header}
+use Rattle.sheet.specs.declared.Header.the-variants.{End, Single, Group, Refused}
 use Rattle.sheet.specs.Records.{Record, recordOf, bodyLength, bytesAt}
 use Rattle.sheet.specs.Reader.{Contents, valid, refused, marked, countAt, addressAt}
 use Rattle.sheet.specs.Items.{Item, single, group, Items, none, then, expandedItem, expanded}

@@ -1,4 +1,5 @@
--- What is done with the records of an expansion, one after another: any action on a state, once for the chain and the meaning. No promise of a public function cites it.
+-- What is done with the records of an expansion, one after another: any action on a state, once for the chain and the meaning.
+-- Of the promises of public functions only that of `first_item` cites it.
 use Prim.Native.Nat.{ℕ}
 use mathlib.Core.Path.{_≡_}
 use mathlib.Core.List.{List}

@@ -9,8 +9,8 @@ use Rattle.fields.specs.Fields.{if}
 use Rattle.fields.specs.Refusals.{countWrong, addressWrong, recordCut, groupDeep}
 use Rattle.sheet.specs.declared.Reading.{Reading}
 use Rattle.sheet.specs.declared.Reading.the-variants.{End as NoRecord, Found, Refused as RecordRefused}
-use Rattle.sheet.specs.declared.heads.Header.{Header}
-use Rattle.sheet.specs.declared.heads.Header.the-variants.{End, Single, Group, Refused}
+use Rattle.sheet.specs.declared.Header.{Header}
+use Rattle.sheet.specs.declared.Header.the-variants.{End, Single, Group, Refused}
 use Rattle.sheet.specs.Records.{recordOf, headerLength, bodyLength, bytesAt}
 use Rattle.sheet.specs.Reader.{marked, countAt, addressAt, readingAt}
 use Rattle.sheet.specs.Items.{Item, single, group, Items, none, then}

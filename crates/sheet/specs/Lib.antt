@@ -13,6 +13,4 @@ pub mod Results
 pub mod Match
 pub mod Acts
 pub mod Sums
-pub mod Inner
 pub mod Fed
-pub mod Met

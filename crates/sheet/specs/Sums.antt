@@ -1,4 +1,5 @@
--- Sums over the expansion, "worked out without wrapping": each is counted up to a number that no accepted sheet's sums exceed. No promise of a public function cites them.
+-- Sums over the expansion, "worked out without wrapping": each is counted up to a number that no accepted sheet's sums exceed.
+-- Of the promises of public functions only that of `measure` cites them.
 use Prim.Native.Nat.{ℕ, _+_, _*_, min}
 use mathlib.Core.List.{List, [], _∷_}
 use lib.Dec.{ltb}
@@ -7,8 +8,8 @@ use Rattle.fields.specs.Refusals.{chainLong}
 use Rattle.sheet.specs.declared.sums.Totals.{Totals}
 use Rattle.sheet.specs.declared.items.ItemAnswer.{ItemAnswer}
 use Rattle.sheet.specs.declared.items.ItemAnswer.the-variants.{End, Found, Refused}
-use Rattle.sheet.specs.declared.totals.Measured.{Measured}
-use Rattle.sheet.specs.declared.totals.Measured.the-variants.{Whole, Refused as MeasureRefused}
+use Rattle.sheet.specs.declared.Measured.{Measured}
+use Rattle.sheet.specs.declared.Measured.the-variants.{Whole, Refused as MeasureRefused}
 use Rattle.sheet.specs.Records.{Record}
 use Rattle.sheet.specs.Reader.{Contents, valid, refused}
 use Rattle.sheet.specs.Sizes.{quadwordsOf, stepsOf, entriesOf, sheetQuadwords, sheetSteps, sheetEntries}

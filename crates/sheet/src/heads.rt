@@ -1,5 +1,5 @@
 // Headers: of the first record, which says the edition, and of the item at a place.
-use super::Kind;
+use super::Header;
 use super::Reading;
 use super::reader::address_at;
 use super::reader::byte_at;
@@ -8,31 +8,11 @@ use super::reader::has_mark;
 use super::reader::read_record;
 use fields::refusals;
 ghost use mathlib.Core.Path.{_≡_};
-ghost use mathlib.Core.Bool.{true};
 ghost use Prim.Native.Nat.{_+_, _≤_};
 ghost use lib.ListN.{length};
 ghost use Rattle.sheet.specs.Groups.{opensKind, startsSecond, opensGroup, groupRefusal, headerAt};
 ghost use Rattle.sheet.specs.Editions.{editionRefusal};
 ghost use Rattle.sheet.specs.Acts.{firstItem};
-
-// What the header at a place says.
-pub(crate) enum Header {
-    End,
-    Single {
-        kind: Kind,
-        count: u32,
-        address: u32,
-        next: usize,
-    },
-    Group {
-        repetitions: u32,
-        members: u32,
-    },
-    Refused {
-        number: u32,
-        offset: usize,
-    },
-}
 
 // Whether a header of kind k stands whole at a place.
 fn opens_kind(k: u32, sheet: &[u8], at: usize) -> bool
@@ -58,7 +38,7 @@ pub(crate) fn starts_second(sheet: &[u8]) -> bool
 }
 
 // Where a sheet's items begin.
-pub(crate) fn first_item(sheet: &[u8]) -> usize
+pub fn first_item(sheet: &[u8]) -> usize
     ensures { λ r. ⌜ r ≡ firstItem (now (sheet .entry)) ⌝ }
 {
     if starts_second(sheet) {
@@ -109,7 +89,7 @@ fn group_refusal(sheet: &[u8], depth: u32, at: usize) -> u32
 }
 
 // What the header at a place says, where groups may stand so deep.
-pub(crate) fn read_header(sheet: &[u8], depth: u32, at: usize) -> Header
+pub fn read_header(sheet: &[u8], depth: u32, at: usize) -> Header
     ensures { λ r. ⌜ r ≡ headerAt (now (sheet .entry)) depth at ⌝ }
 {
     if opens_group(sheet, at) {

@@ -1,5 +1,5 @@
 // The record reader and the group reader, which call each other.
-use super::heads::Header;
+use super::Header;
 use super::heads::read_header;
 use super::sums::Totals;
 use super::sums::joined;

@@ -1,20 +1,18 @@
-// Test sheets of both editions: their records and groups, the chain built from them, their steps and their plain meaning.
+// Test sheets of both editions: their records and groups, and their steps. The definitions are of the chain built from them and of their plain meaning, too.
 // What each function means is said by the definitions of specs/.
 mod heads;
 mod items;
-mod matching;
-mod plain;
 mod reader;
 mod sums;
 mod totals;
-mod writer;
 
-pub use matching::match_meaning;
-pub use plain::meaning;
+pub use heads::first_item;
+pub use heads::read_header;
+pub use reader::body_length;
 pub use reader::read_record;
+pub use sums::Totals;
+pub use totals::measure;
 pub use totals::steps;
-pub use writer::build;
-pub use writer::build_number;
 
 pub enum Kind {
     Data,
@@ -36,6 +34,31 @@ pub enum Reading {
         number: u32,
         offset: usize,
     },
+}
+
+// What the header at a place says.
+pub enum Header {
+    End,
+    Single {
+        kind: Kind,
+        count: u32,
+        address: u32,
+        next: usize,
+    },
+    Group {
+        repetitions: u32,
+        members: u32,
+    },
+    Refused {
+        number: u32,
+        offset: usize,
+    },
+}
+
+// The sums of a sheet, or its refusal.
+pub enum Measured {
+    Whole(Totals),
+    Refused { number: u32, offset: usize },
 }
 
 // The chain's length in bytes, or a refusal with the record's offset.

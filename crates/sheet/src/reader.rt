@@ -74,7 +74,7 @@ fn address_fits(kind: Kind, a: u32) -> bool
     }
 }
 
-pub(crate) fn body_length(kind: Kind, n: u32) -> usize
+pub fn body_length(kind: Kind, n: u32) -> usize
     ensures { λ r. ⌜ r ≡ bodyLength kind n ⌝ }
 {
     let count = n as usize;

@@ -5,7 +5,7 @@ ghost use Prim.Native.Nat.{_+_, _*_};
 ghost use Rattle.sheet.specs.Sizes.{quadwordsOf, stepsOf, entriesOf};
 ghost use Rattle.sheet.specs.Sums.{capped, totals, cappedTotals, endTotals, joined, scaled};
 
-pub(crate) struct Totals {
+pub struct Totals {
     pub quadwords: u64,
     pub steps: u64,
     pub entries: u64,

@@ -1,4 +1,5 @@
 // The sums of a sheet of either edition, and its steps.
+use super::Measured;
 use super::StepsAnswer;
 use super::heads::edition_refusal;
 use super::heads::starts_second;
@@ -15,11 +16,6 @@ ghost use Rattle.sheet.specs.Groups.{startsSecond};
 ghost use Rattle.sheet.specs.Editions.{expansionFrom, limited, secondOf, contentsOf};
 ghost use Rattle.sheet.specs.Results.{stepsOfSheet};
 ghost use Rattle.sheet.specs.Sums.{measuredOf, within};
-
-pub(crate) enum Measured {
-    Whole(Totals),
-    Refused { number: u32, offset: usize },
-}
 
 // 49 where the chain would be longer than 1,048,576 bytes.
 fn within(t: Totals) -> Measured
@@ -69,7 +65,7 @@ fn measure_second(sheet: &[u8]) -> Measured
 }
 
 // The sums of a sheet, or its refusal.
-pub(crate) fn measure(sheet: &[u8]) -> Measured
+pub fn measure(sheet: &[u8]) -> Measured
     ensures { λ r. ⌜ r ≡ measuredOf (contentsOf (now (sheet .entry))) ⌝ }
 {
     if 131072 < sheet.len() {

@@ -10,7 +10,7 @@ fn rounds(sheet: &[u8], output: &mut [u8; 1048576], count: u32) -> usize {
     let mut last = 0;
     let mut left = count;
     while 0 < left {
-        last = sheet::build_number(sheet, output);
+        last = sheet_builder::build_number(sheet, output);
         left -= 1;
     }
     last

@@ -49,9 +49,9 @@ pub(crate) fn tell_build(
     sheet: &[u8],
     output: &mut [u8],
 ) -> usize {
-    let number = sheet::build_number(sheet, output);
+    let number = sheet_builder::build_number(sheet, output);
     fill_bytes(output, fill_of(header, 3));
-    let answer = sheet::build(sheet, output);
+    let answer = sheet_builder::build(sheet, output);
     let a = tell_head(out, at, build_head(answer));
     let b = emit(out, a, low_word(number as u64));
     emit_bytes(out, b, output)
@@ -114,7 +114,7 @@ pub(crate) fn tell_meaning(
 ) -> usize {
     let used = joined(word_at(header, 92), word_at(header, 96));
     fill_memories(data, code, log, fill_of(header, 0));
-    let answer = sheet::meaning(sheet, data, code, log, used);
+    let answer = sheet_meaning::meaning(sheet, data, code, log, used);
     let a = tell_head(out, at, meaning_head(answer));
     let b = emit_long(out, a, used_after(answer, used));
     emit_memories(out, b, data, code, log)

@@ -96,7 +96,7 @@ fn judge_done(
         ≡ judgedDone (lent (now («data» .entry)) (now (code .entry)) (now (log .entry))) used
         (meantFrom (recordsOf (now (sheet .entry))) (now (words .entry)) (now (bytes .entry))) ⌝ }
 {
-    match sheet::match_meaning(sheet, words, bytes, log, used) {
+    match sheet_meaning::match_meaning(sheet, words, bytes, log, used) {
         MatchAnswer::Refused { number, offset } => CheckAnswer::Refused { number, offset },
         MatchAnswer::Matched { leading, entries } => {
             compare_memories(data, code, log, words, bytes, leading, used, entries)

@@ -14,7 +14,7 @@ ghost use Rattle.tejborun.specs.Sheets.{stepsCall, meant, meaningCall, r
 pub extern "C" fn tejborun_build(sheet: &[u8], output: &mut [u8]) -> usize
     ensures { λ r. ⌜ (r ≡ exportedNumber (buildOf (now (sheet .entry)) (now (output .entry)) .answer)) × (now (output .exit) ≡ buildOf (now (sheet .entry)) (now (output .entry)) .output) ⌝ }
 {
-    sheet::build_number(sheet, output)
+    sheet_builder::build_number(sheet, output)
 }
 
 #[no_mangle]
@@ -50,7 +50,7 @@ pub extern "C" fn tejborun_meaning(
     if result.len() < 2 {
         return 60;
     }
-    match sheet::meaning(sheet, data, code, log, used) {
+    match sheet_meaning::meaning(sheet, data, code, log, used) {
         MeaningAnswer::Meant(entries) => {
             put_two(result, entries, 0);
             0

@@ -4,7 +4,7 @@ use Rattle.sheet_bench.proofs.rounds.Statement.{statement}
 use Rattle.sheet_bench.proofs.rounds.Tie as tie
 use Rattle.sheet_bench.proofs.rounds.Reads as reads
 use Rattle.sheet_bench.proofs.rounds.Lts as lts
-use Rattle.sheet.proofs.build_number.Reads as build-number-reads
+use Rattle.sheet_builder.proofs.build_number.Reads as build-number-reads
 
 abbrev Inv-loop : tie.InvT-loop
 Inv-loop sheet output₀ count last₀ left₀ output last left = left ≤ count
