@@ -4,7 +4,7 @@ use mathlib.Core.Bool.{Bool, true, false}
 use mathlib.Core.List.{List}
 use Prim.Native.Nat.{ℕ}
 use Rattle.fields.specs.Fields.{if}
-use Rattle.chain.specs.declared.State.{State}
+use Rattle.chain_state.specs.declared.State.{State}
 use Rattle.state_block.specs.declared.ReadState.{ReadState}
 use Rattle.state_block.specs.StateBlock.{stateBlock, stateInBlock}
 use Rattle.blocks.specs.Shown.{shownBlock}

@@ -2,7 +2,7 @@
 use Prim.Native.Nat.{ℕ}
 use mathlib.Core.List.{List}
 use Rattle.fields.specs.Fields.{if}
-use Rattle.chain.specs.declared.State.{State}
+use Rattle.chain_state.specs.declared.State.{State}
 use Rattle.state_block.specs.StateBlock.{stateBlock, stateInBlock}
 
 -- what a result shows where a case gave the block b and the state s is left

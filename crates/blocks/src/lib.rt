@@ -1,6 +1,6 @@
 // State blocks of cases, and states and answers as results show them.
 use chain::Answer;
-use chain::State;
+use chain_state::State;
 use fields::Counts;
 use state_block::STATE_WORDS;
 ghost use mathlib.Core.Path.{_≡_};

@@ -31,23 +31,23 @@ use Rattle.vif_codes.specs.Counting.{countsIn}
 use Rattle.vif.specs.Step.{Left as VifLeft}
 use Rattle.vif.proofs.KeepLaws.{log-stays}
 use Rattle.vif.proofs.RangeKept.{step-ready}
-use Rattle.chain.specs.declared.Stack.{Stack}
-use Rattle.chain.specs.declared.Stack.the-variants.{Empty, One, Two}
-use Rattle.chain.specs.declared.TagWords.{TagWords}
-use Rattle.chain.specs.declared.TagWords.the-variants.{Nothing as NoTagWords, From}
-use Rattle.chain.specs.declared.Payload.{Payload}
-use Rattle.chain.specs.declared.Payload.the-variants.{Nothing as NoPayload, Words}
+use Rattle.chain_state.specs.declared.Stack.{Stack}
+use Rattle.chain_state.specs.declared.Stack.the-variants.{Empty, One, Two}
+use Rattle.chain_state.specs.declared.TagWords.{TagWords}
+use Rattle.chain_state.specs.declared.TagWords.the-variants.{Nothing as NoTagWords, From}
+use Rattle.chain_state.specs.declared.Payload.{Payload}
+use Rattle.chain_state.specs.declared.Payload.the-variants.{Nothing as NoPayload, Words}
 use Rattle.chain.specs.declared.StepAnswer.the-variants.{Completed, Refused}
 use Rattle.chain.specs.declared.StepResult.{StepResult}
-use Rattle.chain.specs.declared.State.{State}
+use Rattle.chain_state.specs.declared.State.{State}
 use Rattle.fields.specs.Memory.{longAt, quadwordAt}
-use Rattle.chain.specs.Setters.{pickUnit, withPending, withUnit}
+use Rattle.chain_state.specs.Setters.{pickUnit, withPending, withUnit, heldBy}
 use Rattle.chain.specs.Tags.{qwcOf, idOf, addrOf, sprOf, usesAddr, payloadAt, afterPayload, returnTo, nextTadr, isFull, pushed, popped, nextStack, tagWordsOf, payloadOf, tagRefusal, tagState, tagRead, tagStep}
 use Rattle.vif_codes.specs.Words.{incomingAt}
-use Rattle.chain.specs.Pending.{tagsAfter, payloadAfter}
-use Rattle.chain.specs.Range.{channelInRange, startInRange, entryInRange, stackInRange, tagWordInRange, tagsInRange, wordsInRange, payloadInRange, tagsInside, payloadInside}
+use Rattle.chain_state.specs.Pending.{tagsAfter, payloadAfter}
+use Rattle.chain_state.specs.Range.{channelInRange, startInRange, entryInRange, stackInRange, tagWordInRange, tagsInRange, wordsInRange, payloadInRange, tagsInside, payloadInside}
 use Rattle.chain.specs.Inner.{Ready, PayloadInside}
-use Rattle.chain.specs.Step.{Stepped, stepped, refusedStep, steppedBy, fedUnit, heldBy, afterVif, vifTook, vifGiven, afterGif, gifGiven, payloadStep, payloadOrTag, pendingOrTag, stepOf}
+use Rattle.chain.specs.Step.{Stepped, stepped, refusedStep, steppedBy, fedUnit, afterVif, vifTook, vifGiven, afterGif, gifGiven, payloadStep, payloadOrTag, pendingOrTag, stepOf}
 use Rattle.chain.proofs.ReadyLaws.{Facts, facts-of, ready-of, main-most, unit-ready, tadr-whole, payload-ready}
 
 -- ---- a tag

@@ -36,17 +36,17 @@ use Rattle.vif.specs.Step.{Left as VifLeft, vifStep}
 use Rattle.vif.specs.Feeds.{Fed, fed}
 use Rattle.vif.specs.Feed.{FedOn, fedOn, fedOnBy, fedTo, stepMore, afterWord, feedsOf, feedOf}
 use Rattle.chain.specs.declared.Answer.the-variants.{Interrupt, Refused as AnswerRefused}
-use Rattle.chain.specs.declared.TagWords.the-variants.{Nothing as NoTagWords}
-use Rattle.chain.specs.declared.Payload.{Payload}
-use Rattle.chain.specs.declared.Payload.the-variants.{Nothing as NoPayload, Words}
+use Rattle.chain_state.specs.declared.TagWords.the-variants.{Nothing as NoTagWords}
+use Rattle.chain_state.specs.declared.Payload.{Payload}
+use Rattle.chain_state.specs.declared.Payload.the-variants.{Nothing as NoPayload, Words}
 use Rattle.chain.specs.declared.StepAnswer.{StepAnswer}
 use Rattle.chain.specs.declared.StepAnswer.the-variants.{Completed, Refused}
 use Rattle.chain.specs.declared.StepResult.{StepResult}
-use Rattle.chain.specs.declared.State.{State}
-use Rattle.chain.specs.Setters.{pickUnit, withPending, withUnit, withPath3}
-use Rattle.chain.specs.Pending.{noTags, payloadAfter}
+use Rattle.chain_state.specs.declared.State.{State}
+use Rattle.chain_state.specs.Setters.{pickUnit, withPending, withUnit, withPath3, heldBy}
+use Rattle.chain_state.specs.Pending.{noTags, payloadAfter}
 use Rattle.chain.specs.Inner.{Ready, PayloadInside, PayloadNext, Burst, Advance}
-use Rattle.chain.specs.Step.{Machine, machine, Stepped, stepped, steppedBy, fedUnit, heldBy, afterVif, vifGiven, afterGif, givenGif, gifGiven, payloadStep, stepOf}
+use Rattle.chain.specs.Step.{Machine, machine, Stepped, stepped, steppedBy, fedUnit, afterVif, vifGiven, afterGif, givenGif, gifGiven, payloadStep, stepOf}
 use Rattle.chain.specs.Run.{Ran, ran, done, counted, stepsOf}
 use Rattle.chain.specs.Stops.{stepFrom, Reaches, here, step}
 use Rattle.chain.proofs.AfterLaws.{no-completed, step-same, step-one}

@@ -25,17 +25,18 @@ use Rattle.vif_codes.specs.declared.VifAnswer.the-variants.{Word, Quadword, Ref
 use Rattle.vif_codes.specs.Counting.{countsIn}
 use Rattle.vif_codes.specs.Words.{incomingAt}
 use Rattle.vif.proofs.FeedLaws.{taken-counted}
-use Rattle.chain.specs.declared.TagWords.{TagWords}
-use Rattle.chain.specs.declared.TagWords.the-variants.{Nothing as NoTagWords, From}
-use Rattle.chain.specs.declared.Payload.{Payload}
-use Rattle.chain.specs.declared.Payload.the-variants.{Nothing as NoPayload, Words}
+use Rattle.chain_state.specs.declared.TagWords.{TagWords}
+use Rattle.chain_state.specs.declared.TagWords.the-variants.{Nothing as NoTagWords, From}
+use Rattle.chain_state.specs.declared.Payload.{Payload}
+use Rattle.chain_state.specs.declared.Payload.the-variants.{Nothing as NoPayload, Words}
 use Rattle.chain.specs.declared.StepAnswer.the-variants.{Completed}
 use Rattle.chain.specs.declared.StepResult.{StepResult}
-use Rattle.chain.specs.declared.State.{State}
-use Rattle.chain.specs.Pending.{payloadPending, tagsAfter, payloadAfter}
+use Rattle.chain_state.specs.declared.State.{State}
+use Rattle.chain_state.specs.Pending.{payloadPending, tagsAfter, payloadAfter}
 use Rattle.chain.specs.Tags.{qwcOf, idOf, addrOf, payloadAt, payloadOf, tagState, tagRead, tagStep}
 use Rattle.chain.specs.Inner.{Ready}
-use Rattle.chain.specs.Step.{Machine, machine, Stepped, refusedStep, steppedBy, fedUnit, heldBy, afterVif, vifTook, vifGiven, afterGif, gifGiven, payloadStep, payloadOrTag, pendingOrTag, stepOf}
+use Rattle.chain.specs.Step.{Machine, machine, Stepped, refusedStep, steppedBy, fedUnit, afterVif, vifTook, vifGiven, afterGif, gifGiven, payloadStep, payloadOrTag, pendingOrTag, stepOf}
+use Rattle.chain_state.specs.Setters.{heldBy}
 use Rattle.chain.specs.Run.{Ran, stepsOf}
 use Rattle.chain.specs.Stops.{stepFrom, Reaches, here, step, Stops, at-end, at-allowance, at-interrupt, at-refusal}
 use Rattle.chain.proofs.AfterLaws.{no-completed}

@@ -17,12 +17,13 @@ use Rattle.memories.specs.Lengths.{Lent, LengthsFit}
 use Rattle.memories.proofs.LengthLaws.{fit-lengths, fit-first}
 use Rattle.vif_codes.specs.Range.{unitInRange}
 use Rattle.vif.specs.Inner.{StepReady}
-use Rattle.chain.specs.declared.TagWords.the-variants.{Nothing as NoTagWords, From}
-use Rattle.chain.specs.declared.Payload.{Payload}
-use Rattle.chain.specs.declared.Payload.the-variants.{Words}
-use Rattle.chain.specs.declared.State.{State}
-use Rattle.chain.specs.Range.{channelInRange, startInRange, stackInRange, tagsInRange, wordsInRange, payloadInRange, stateInRange, mainRefused, tagsInside, payloadInside, entryRefusal}
-use Rattle.chain.specs.Step.{fedUnit, heldBy}
+use Rattle.chain_state.specs.declared.TagWords.the-variants.{Nothing as NoTagWords, From}
+use Rattle.chain_state.specs.declared.Payload.{Payload}
+use Rattle.chain_state.specs.declared.Payload.the-variants.{Words}
+use Rattle.chain_state.specs.declared.State.{State}
+use Rattle.chain_state.specs.Range.{channelInRange, startInRange, stackInRange, tagsInRange, wordsInRange, payloadInRange, stateInRange, mainRefused, tagsInside, payloadInside, entryRefusal}
+use Rattle.chain.specs.Step.{fedUnit}
+use Rattle.chain_state.specs.Setters.{heldBy}
 use Rattle.chain.specs.Inner.{Ready, WordInside, PayloadInside, PayloadNext}
 
 -- the fields of a state in range

@@ -16,8 +16,8 @@ use Rattle.chain.specs.declared.Answer.{Answer}
 use Rattle.chain.specs.declared.Answer.the-variants.{Done, Allowance, Interrupt, Refused}
 use Rattle.chain.specs.declared.StepAnswer.the-variants.{Completed, Refused as StepRefused}
 use Rattle.chain.specs.declared.RunResult.{RunResult}
-use Rattle.chain.specs.declared.State.{State}
-use Rattle.chain.specs.Range.{entryRefusal}
+use Rattle.chain_state.specs.declared.State.{State}
+use Rattle.chain_state.specs.Range.{entryRefusal}
 use Rattle.chain.specs.Step.{Machine, machine}
 use Rattle.chain.specs.Run.{Ran, ran, leftBy, done, counted, stepsOf, runOf}
 use Rattle.chain.specs.Stops.{stepFrom, Reaches, Stops, at-end, at-allowance, at-interrupt, at-refusal}

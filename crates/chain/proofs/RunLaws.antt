@@ -14,8 +14,8 @@ use Rattle.memories.specs.Lengths.{Lent}
 use Rattle.chain.specs.declared.Answer.the-variants.{Done, Allowance, Interrupt, Refused}
 use Rattle.chain.specs.declared.StepAnswer.{StepAnswer}
 use Rattle.chain.specs.declared.StepAnswer.the-variants.{Completed, Refused as StepRefused}
-use Rattle.chain.specs.declared.State.{State}
-use Rattle.chain.specs.Range.{entryRefusal}
+use Rattle.chain_state.specs.declared.State.{State}
+use Rattle.chain_state.specs.Range.{entryRefusal}
 use Rattle.chain.specs.Step.{Stepped, stepOf}
 use Rattle.chain.specs.Run.{Ran, ran, done, counted, afterStep, onStep, stepsOf, runOf}
 

@@ -23,16 +23,17 @@ use Rattle.vif.specs.declared.VifResult.{VifResult}
 use Rattle.vif.specs.Step.{Left as VifLeft, left as vifLeft, takeOf as vifTakeOf}
 use Rattle.vif.proofs.StepLaws.{vif-tested}
 use Rattle.vif.proofs.KeepLaws.{step-kept}
-use Rattle.chain.specs.declared.TagWords.{TagWords}
-use Rattle.chain.specs.declared.Payload.{Payload}
+use Rattle.chain_state.specs.declared.TagWords.{TagWords}
+use Rattle.chain_state.specs.declared.Payload.{Payload}
 use Rattle.chain.specs.declared.StepAnswer.the-variants.{Refused}
 use Rattle.chain.specs.declared.StepResult.{StepResult}
-use Rattle.chain.specs.declared.State.{State}
+use Rattle.chain_state.specs.declared.State.{State}
 use Rattle.fields.specs.Memory.{longAt}
 use Rattle.chain.specs.Tags.{refusedResult}
 use Rattle.vif_codes.specs.Words.{incomingAt}
 use Rattle.chain.specs.Inner.{Ready, WordInside, PayloadInside, QuadwordReady, byTaken}
-use Rattle.chain.specs.Step.{Stepped, refusedStep, steppedBy, fedUnit, heldBy, afterVif, givenVif, vifTook, vifGiven, afterGif, givenGif, gifGiven, payloadOrTag, pendingOrTag}
+use Rattle.chain.specs.Step.{Stepped, refusedStep, steppedBy, fedUnit, afterVif, givenVif, vifTook, vifGiven, afterGif, givenGif, gifGiven, payloadOrTag, pendingOrTag}
+use Rattle.chain_state.specs.Setters.{heldBy}
 use Rattle.chain.proofs.ReadyLaws.{unit-ready, facts-of}
 
 -- what holds at the case that an arm knows holds at the value itself

@@ -11,13 +11,13 @@ use Rattle.fields.specs.Counts.{oneTag}
 use Rattle.fields.specs.Fields.{if, bits}
 use Rattle.fields.proofs.ChoiceLaws.{if-ind}
 use Rattle.fields.proofs.FieldLaws.{field-low, field-up}
-use Rattle.chain.specs.declared.Payload.{Payload}
-use Rattle.chain.specs.declared.Stack.{Stack}
-use Rattle.chain.specs.declared.TagWords.{TagWords}
+use Rattle.chain_state.specs.declared.Payload.{Payload}
+use Rattle.chain_state.specs.declared.Stack.{Stack}
+use Rattle.chain_state.specs.declared.TagWords.{TagWords}
 use Rattle.chain.specs.declared.StepAnswer.the-variants.{Completed, Refused}
 use Rattle.chain.specs.declared.StepResult.{StepResult}
-use Rattle.chain.specs.declared.State.{State}
-use Rattle.chain.specs.Setters.{withTag}
+use Rattle.chain_state.specs.declared.State.{State}
+use Rattle.chain_state.specs.Setters.{withTag}
 use Rattle.chain.specs.Tags.{payloadAt, pushed, popped, tagRefusal, tagState, completedResult, refusedResult, tagRead}
 
 pub by-push : {k j : Stack} → k ≡ j → (a : ℕ) {r : Stack} → r ≡ pushed j a → r ≡ pushed k a

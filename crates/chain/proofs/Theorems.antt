@@ -13,8 +13,8 @@ use Rattle.memories.specs.Lengths.{Lent}
 use Rattle.chain.specs.declared.Answer.the-variants.{Done}
 use Rattle.chain.specs.declared.StepAnswer.{StepAnswer}
 use Rattle.chain.specs.declared.StepAnswer.the-variants.{Completed, Refused as StepRefused}
-use Rattle.chain.specs.declared.State.{State}
-use Rattle.chain.specs.Range.{entryRefusal}
+use Rattle.chain_state.specs.declared.State.{State}
+use Rattle.chain_state.specs.Range.{entryRefusal}
 use Rattle.chain.specs.Inner.{Ready}
 use Rattle.chain.specs.Step.{Machine, machine}
 use Rattle.chain.specs.Run.{Ran, ran, done, counted, afterStep, stepsOf}

@@ -19,15 +19,15 @@ use Rattle.vif_codes.specs.declared.VifAnswer.{VifAnswer}
 use Rattle.vif_codes.specs.declared.VifAnswer.the-variants.{Word, Quadword, Refused as VifRefused}
 use Rattle.vif_codes.specs.Words.{incomingAt}
 use Rattle.vif.proofs.Vif0Laws.{step-path}
-use Rattle.chain.specs.declared.TagWords.{TagWords}
-use Rattle.chain.specs.declared.TagWords.the-variants.{Nothing as NoTagWords, From}
-use Rattle.chain.specs.declared.Payload.{Payload}
-use Rattle.chain.specs.declared.Payload.the-variants.{Nothing as NoPayload, Words}
+use Rattle.chain_state.specs.declared.TagWords.{TagWords}
+use Rattle.chain_state.specs.declared.TagWords.the-variants.{Nothing as NoTagWords, From}
+use Rattle.chain_state.specs.declared.Payload.{Payload}
+use Rattle.chain_state.specs.declared.Payload.the-variants.{Nothing as NoPayload, Words}
 use Rattle.chain.specs.declared.StepResult.{StepResult}
-use Rattle.chain.specs.declared.State.{State}
+use Rattle.chain_state.specs.declared.State.{State}
 use Rattle.chain.specs.Tags.{tagState, tagRead, tagStep}
-use Rattle.chain.specs.Range.{unitOf}
-use Rattle.chain.specs.Pending.{tagsAfter, payloadAfter}
+use Rattle.chain_state.specs.Range.{unitOf}
+use Rattle.chain_state.specs.Pending.{tagsAfter, payloadAfter}
 use Rattle.chain.specs.Inner.{Ready}
 use Rattle.chain.specs.Step.{Stepped, steppedBy, fedUnit, afterVif, vifTook, vifGiven, afterGif, gifGiven, payloadStep, payloadOrTag, pendingOrTag, stepOf}
 use Rattle.chain.proofs.ReadyLaws.{facts-of}

@@ -5,7 +5,7 @@ use mathlib.Core.Path.{_≡_}
 use Rattle.fields.specs.Counts.{none}
 use Rattle.memories.specs.Lengths.{Lent}
 use Rattle.chain.specs.declared.Answer.the-variants.{Allowance}
-use Rattle.chain.specs.declared.State.{State}
+use Rattle.chain_state.specs.declared.State.{State}
 use Rattle.chain.specs.Step.{machine}
 use Rattle.chain.specs.Run.{Ran, counted, runOf}
 

@@ -16,9 +16,9 @@ use Rattle.chain.specs.declared.Answer.the-variants.{Done, Allowance, In
 use Rattle.chain.specs.declared.StepAnswer.{StepAnswer}
 use Rattle.chain.specs.declared.StepAnswer.the-variants.{Completed, Refused as StepRefused}
 use Rattle.chain.specs.declared.RunResult.{RunResult}
-use Rattle.chain.specs.declared.State.{State}
-use Rattle.chain.specs.Pending.{nothingPending}
-use Rattle.chain.specs.Range.{entryRefusal}
+use Rattle.chain_state.specs.declared.State.{State}
+use Rattle.chain_state.specs.Pending.{nothingPending}
+use Rattle.chain_state.specs.Range.{entryRefusal}
 use Rattle.chain.specs.Step.{Machine, machine, Stepped, stepOf}
 
 -- the number of an answer

@@ -19,20 +19,20 @@ use Rattle.vif_codes.specs.declared.VifAnswer.{VifAnswer}
 use Rattle.vif_codes.specs.declared.VifAnswer.the-variants.{Word, Quadword, Refused as VifRefused}
 use Rattle.vif_codes.specs.Counting.{countsIn}
 use Rattle.vif.specs.Step.{Left as VifLeft, vifStep}
-use Rattle.chain.specs.declared.TagWords.{TagWords}
-use Rattle.chain.specs.declared.TagWords.the-variants.{Nothing as NoTagWords, From}
-use Rattle.chain.specs.declared.Payload.{Payload}
-use Rattle.chain.specs.declared.Payload.the-variants.{Nothing as NoPayload, Words}
+use Rattle.chain_state.specs.declared.TagWords.{TagWords}
+use Rattle.chain_state.specs.declared.TagWords.the-variants.{Nothing as NoTagWords, From}
+use Rattle.chain_state.specs.declared.Payload.{Payload}
+use Rattle.chain_state.specs.declared.Payload.the-variants.{Nothing as NoPayload, Words}
 use Rattle.chain.specs.declared.StepAnswer.{StepAnswer}
 use Rattle.chain.specs.declared.StepAnswer.the-variants.{Completed, Refused}
 use Rattle.chain.specs.declared.StepResult.{StepResult}
-use Rattle.chain.specs.declared.State.{State}
+use Rattle.chain_state.specs.declared.State.{State}
 use Rattle.fields.specs.Memory.{quadwordAt}
-use Rattle.chain.specs.Setters.{pickUnit, withPending, withUnit, withPath3}
-use Rattle.chain.specs.Range.{unitOf}
+use Rattle.chain_state.specs.Setters.{heldBy, withPending, withUnit, withPath3}
+use Rattle.chain_state.specs.Range.{unitOf}
 use Rattle.chain.specs.Tags.{tagStep}
 use Rattle.vif_codes.specs.Words.{incomingAt}
-use Rattle.chain.specs.Pending.{tagsAfter, payloadAfter}
+use Rattle.chain_state.specs.Pending.{tagsAfter, payloadAfter}
 
 -- the state and the memories
 pub record Machine : Type 0 where
@@ -61,10 +61,6 @@ refusedStep n s m = stepped (Refused n) none s m
 -- the unit that the chain's words go to, by the channel
 abbrev pub fedUnit : State → VifUnit
 fedUnit s = unitOf (s .channel)
-
--- a unit's registers and waiting code, of which the state has two
-abbrev pub heldBy : VifUnit → State → Vif
-heldBy which s = pickUnit which (s .vif0) (s .vif1)
 
 -- a word or quadword that a unit was given, by what it made of it and what that counts for; t and p are what is then pending, p by the number of words taken
 abbrev pub afterVif : VifUnit → VifAnswer → UnitCounts → VifLeft → TagWords → (ℕ → Payload) → State → Lent → Stepped

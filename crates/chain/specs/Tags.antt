@@ -8,18 +8,18 @@ use Rattle.fields.specs.declared.Counts.{Counts}
 use Rattle.fields.specs.Counts.{none, oneTag}
 use Rattle.fields.specs.Fields.{if, bits}
 use Rattle.fields.specs.Refusals.{tadrOutside, addrUnaligned, scratchpadSet, stackFull, payloadOutside}
-use Rattle.chain.specs.declared.Stack.{Stack}
-use Rattle.chain.specs.declared.Stack.the-variants.{Empty, One, Two}
-use Rattle.chain.specs.declared.TagWords.{TagWords}
-use Rattle.chain.specs.declared.TagWords.the-variants.{Nothing as NoTagWords, From}
-use Rattle.chain.specs.declared.Payload.{Payload}
-use Rattle.chain.specs.declared.Payload.the-variants.{Nothing as NoPayload, Words}
+use Rattle.chain_state.specs.declared.Stack.{Stack}
+use Rattle.chain_state.specs.declared.Stack.the-variants.{Empty, One, Two}
+use Rattle.chain_state.specs.declared.TagWords.{TagWords}
+use Rattle.chain_state.specs.declared.TagWords.the-variants.{Nothing as NoTagWords, From}
+use Rattle.chain_state.specs.declared.Payload.{Payload}
+use Rattle.chain_state.specs.declared.Payload.the-variants.{Nothing as NoPayload, Words}
 use Rattle.chain.specs.declared.StepAnswer.{StepAnswer}
 use Rattle.chain.specs.declared.StepAnswer.the-variants.{Completed, Refused}
 use Rattle.chain.specs.declared.StepResult.{StepResult}
-use Rattle.chain.specs.declared.State.{State}
+use Rattle.chain_state.specs.declared.State.{State}
 use Rattle.fields.specs.Memory.{longAt}
-use Rattle.chain.specs.Setters.{withTag}
+use Rattle.chain_state.specs.Setters.{withTag}
 
 abbrev pub qwcOf : ℕ → ℕ
 qwcOf tag = bits tag 0 15

@@ -1,14 +1,14 @@
 // Many steps in one call: payload given to a unit or to path 3.
 use super::BurstResult;
-use super::Payload;
-use super::State;
-use super::TagWords;
 use super::pending::payload_after;
-use super::range::unit_of;
-use super::setters::held_by;
-use super::setters::with_path3;
-use super::setters::with_pending;
-use super::setters::with_unit;
+use chain_state::Payload;
+use chain_state::State;
+use chain_state::TagWords;
+use chain_state::held_by;
+use chain_state::unit_of;
+use chain_state::with_path3;
+use chain_state::with_pending;
+use chain_state::with_unit;
 use fields::no_units;
 use fields::quadwords_alone;
 use gif::GifPath;
@@ -18,7 +18,7 @@ ghost use mathlib.Core.List.{List};
 ghost use Prim.Native.Nat.{ℕ, _≤_};
 ghost use Rattle.fields.specs.Counts.{noUnits, ofUnit};
 ghost use Rattle.memories.specs.Lengths.{lent};
-ghost use Rattle.chain.specs.declared.TagWords.the-variants.{Nothing};
+ghost use Rattle.chain_state.specs.declared.TagWords.the-variants.{Nothing};
 ghost use Rattle.chain.specs.Inner.{Ready, PayloadNext, PayloadInside, Burst, burstResult};
 ghost use Rattle.chain.specs.Step.{machine};
 

@@ -2,12 +2,12 @@
 use super::AdvanceResult;
 use super::Answer;
 use super::RunResult;
-use super::State;
 use super::StepAnswer;
 use super::burst::burst;
 use super::pending::finished;
-use super::range::entry_refusal;
 use super::step::step;
+use chain_state::State;
+use chain_state::entry_refusal;
 use fields::no_counts;
 use fields::of_unit;
 use fields::plus;

@@ -1,18 +1,18 @@
 // One step of a run.
-use super::Payload;
-use super::State;
 use super::StepResult;
-use super::TagWords;
 use super::pending::payload_after;
 use super::pending::tags_after;
-use super::range::unit_of;
-use super::setters::held_by;
-use super::setters::with_path3;
-use super::setters::with_pending;
-use super::setters::with_unit;
 use super::tags::completed;
 use super::tags::refused;
 use super::tags::take_tag;
+use chain_state::Payload;
+use chain_state::State;
+use chain_state::TagWords;
+use chain_state::held_by;
+use chain_state::unit_of;
+use chain_state::with_path3;
+use chain_state::with_pending;
+use chain_state::with_unit;
 use fields::long_at;
 use fields::of_unit;
 use fields::one_quadword;

@@ -1,11 +1,11 @@
 // Chain tags.
-use super::Payload;
-use super::Stack;
-use super::State;
 use super::StepAnswer;
 use super::StepResult;
-use super::TagWords;
-use super::setters::with_tag;
+use chain_state::Payload;
+use chain_state::Stack;
+use chain_state::State;
+use chain_state::TagWords;
+use chain_state::with_tag;
 use fields::Counts;
 use fields::no_counts;
 use fields::one_tag;

@@ -3,7 +3,7 @@ use cases::sum_of_bytes;
 use cases::sum_of_longs;
 use cases::sum_of_words;
 use chain::Answer;
-use chain::State;
+use chain_state::State;
 use wire::emit;
 use wire::emit_long;
 use wire::word_at;
@@ -61,7 +61,7 @@ fn round(
     s: Total,
 ) -> Total {
     let state = s.state;
-    let begun = chain::start(unused(state), channel, 0, false);
+    let begun = chain_state::start(unused(state), channel, 0, false);
     let from = begun.state;
     let r = chain::run(main, data, code, log, from, 18446744073709551615);
     let answer = r.answer;
@@ -82,7 +82,7 @@ fn rounds(
     count: u32,
 ) -> Total {
     let mut s = Total {
-        state: chain::reset(),
+        state: chain_state::reset(),
         steps: 0,
         stopped: 0,
     };

@@ -11,11 +11,11 @@ use Rattle.fields.specs.declared.Counts.{Counts}
 use Rattle.fields.specs.Fields.{if}
 use Rattle.fields.specs.Refusals.{tadrOutside, addrUnaligned, scratchpadSet, stackFull, payloadOutside}
 use Rattle.fields.proofs.ChoiceLaws.{if-ind-by, and-left, and-right, not-true}
-use Rattle.chain.specs.declared.Stack.{Stack}
-use Rattle.chain.specs.declared.Stack.the-variants.{Empty, One, Two}
+use Rattle.chain_state.specs.declared.Stack.{Stack}
+use Rattle.chain_state.specs.declared.Stack.the-variants.{Empty, One, Two}
 use Rattle.chain.specs.declared.StepAnswer.the-variants.{Completed, Refused}
 use Rattle.chain.specs.declared.StepResult.{StepResult}
-use Rattle.chain.specs.declared.State.{State}
+use Rattle.chain_state.specs.declared.State.{State}
 use Rattle.chain.specs.Tags.{qwcOf, idOf, addrOf, sprOf, usesAddr, payloadAt, isFull, tagRefusal, completedResult, refusedResult, tagRead, tagStep}
 use Rattle.chain_reason.specs.Reason.{stackDepth, mostFits, readNumbers, tagNumbers}
 use Rattle.chain_reason.specs.Fault.{tagAt, TagFault, tadr-outside, addr-unaligned, scratchpad-set, stack-full, payload-outside}

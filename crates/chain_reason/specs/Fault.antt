@@ -7,7 +7,7 @@ use lib.ListN.{length}
 use Rattle.fields.specs.Fields.{bits}
 use Rattle.fields.specs.Memory.{longAt}
 use Rattle.fields.specs.Refusals.{tadrOutside, addrUnaligned, scratchpadSet, stackFull, payloadOutside}
-use Rattle.chain.specs.declared.State.{State}
+use Rattle.chain_state.specs.declared.State.{State}
 use Rattle.chain.specs.Tags.{qwcOf, idOf, addrOf, usesAddr, payloadAt}
 use Rattle.gif_reason.specs.declared.Numbers.{Numbers}
 use Rattle.gif_reason.specs.Reason.{numbers}

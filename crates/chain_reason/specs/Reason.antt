@@ -7,13 +7,13 @@ use lib.Dec.{eqb}
 use Rattle.fields.specs.Fields.{if, bits}
 use Rattle.fields.specs.Memory.{longAt}
 use Rattle.fields.specs.Refusals.{tadrOutside, addrUnaligned, scratchpadSet, stackFull, payloadOutside}
-use Rattle.chain.specs.declared.Stack.{Stack}
-use Rattle.chain.specs.declared.Stack.the-variants.{Empty, One, Two}
-use Rattle.chain.specs.declared.TagWords.{TagWords}
-use Rattle.chain.specs.declared.TagWords.the-variants.{Nothing as NoTagWords, From}
-use Rattle.chain.specs.declared.Payload.{Payload}
-use Rattle.chain.specs.declared.Payload.the-variants.{Nothing as NoPayload, Words}
-use Rattle.chain.specs.declared.State.{State}
+use Rattle.chain_state.specs.declared.Stack.{Stack}
+use Rattle.chain_state.specs.declared.Stack.the-variants.{Empty, One, Two}
+use Rattle.chain_state.specs.declared.TagWords.{TagWords}
+use Rattle.chain_state.specs.declared.TagWords.the-variants.{Nothing as NoTagWords, From}
+use Rattle.chain_state.specs.declared.Payload.{Payload}
+use Rattle.chain_state.specs.declared.Payload.the-variants.{Nothing as NoPayload, Words}
+use Rattle.chain_state.specs.declared.State.{State}
 use Rattle.chain.specs.Tags.{qwcOf, idOf, addrOf, payloadAt}
 use Rattle.gif_reason.specs.declared.Numbers.{Numbers}
 use Rattle.gif_reason.specs.Reason.{numbers}

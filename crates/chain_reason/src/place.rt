@@ -1,7 +1,7 @@
 // The place that the next step reads.
-use chain::Payload;
-use chain::State;
-use chain::TagWords;
+use chain_state::Payload;
+use chain_state::State;
+use chain_state::TagWords;
 ghost use mathlib.Core.Path.{_≡_};
 ghost use Rattle.chain_reason.specs.Reason.{payloadPlace, nextPlace};
 

@@ -1,6 +1,6 @@
 // What a tag's refusal shows.
-use chain::Stack;
-use chain::State;
+use chain_state::Stack;
+use chain_state::State;
 use fields::long_at;
 use gif_reason::Numbers;
 ghost use mathlib.Core.Path.{_≡_};

@@ -15,11 +15,11 @@ use Rattle.fields.proofs.ChoiceLaws.{if-ind-by}
 use Rattle.memories.specs.declared.VifUnit.the-variants.{Vif1}
 use Rattle.memories.specs.Lengths.{Lent, lengthsRefusal}
 use Rattle.chain.specs.declared.RunResult.{RunResult}
-use Rattle.chain.specs.declared.StartAnswer.the-variants.{Started, Refused as StartRefused}
-use Rattle.chain.specs.declared.StartResult.{StartResult}
-use Rattle.chain.specs.declared.State.{State}
-use Rattle.chain.specs.Range.{mainRefused, stateInRange, startInRange}
-use Rattle.chain.specs.Start.{startOf}
+use Rattle.chain_state.specs.declared.StartAnswer.the-variants.{Started, Refused as StartRefused}
+use Rattle.chain_state.specs.declared.StartResult.{StartResult}
+use Rattle.chain_state.specs.declared.State.{State}
+use Rattle.chain_state.specs.Range.{mainRefused, stateInRange, startInRange}
+use Rattle.chain_state.specs.Start.{startOf}
 use Rattle.chain.specs.Run.{Ran, leftBy, runOf}
 use Rattle.sheet.specs.declared.BuildAnswer.{BuildAnswer}
 use Rattle.sheet.specs.declared.BuildAnswer.the-variants.{Built, Refused as BuildRefused}

@@ -19,14 +19,14 @@ use Rattle.vif_codes.specs.declared.Incoming.{Incoming}
 use Rattle.vif_codes.specs.Counting.{countsIn}
 use Rattle.vif.specs.Step.{leaves, vifStep}
 use Rattle.vif.specs.Feeds.{Fed, Feeds, none, more, aWord, aQuadword}
-use Rattle.chain.specs.declared.TagWords.the-variants.{Nothing as NoTagWords}
-use Rattle.chain.specs.declared.Payload.{Payload}
-use Rattle.chain.specs.declared.Payload.the-variants.{Nothing as NoPayload, Words as PayloadWords}
+use Rattle.chain_state.specs.declared.TagWords.the-variants.{Nothing as NoTagWords}
+use Rattle.chain_state.specs.declared.Payload.{Payload}
+use Rattle.chain_state.specs.declared.Payload.the-variants.{Nothing as NoPayload, Words as PayloadWords}
 use Rattle.chain.specs.declared.StepAnswer.the-variants.{Completed}
-use Rattle.chain.specs.declared.State.{State}
-use Rattle.chain.specs.Setters.{withPending, withUnit}
+use Rattle.chain_state.specs.declared.State.{State}
+use Rattle.chain_state.specs.Setters.{withPending, withUnit}
 use Rattle.vif_codes.specs.Words.{incomingAt}
-use Rattle.chain.specs.Pending.{payloadAfter}
+use Rattle.chain_state.specs.Pending.{payloadAfter}
 use Rattle.chain.specs.Step.{Machine, Stepped, stepped, afterVif}
 use Rattle.chain.specs.Run.{done}
 use Rattle.chain.specs.Stops.{stepFrom, Reaches, here}

@@ -10,7 +10,7 @@ use Rattle.fields.proofs.FieldLaws.{whole-low, bits-middle}
 use Rattle.gif.specs.declared.GifPath.the-variants.{Two}
 use Rattle.gif.specs.Log.{numbers, entriesBy}
 use Rattle.gif.specs.Run.{addressDatas}
-use Rattle.unpack.specs.Whole.{storeQuadword, copyVectors, fourWords}
+use Rattle.unpack_rules.specs.Whole.{storeQuadword, copyVectors, fourWords}
 use Rattle.memories.specs.declared.VifUnit.the-variants.{Vif1}
 use Rattle.memories.specs.Units.{quadwords, instructions}
 use Rattle.vif.specs.Feeds.{storeInstruction, copyInstructions}

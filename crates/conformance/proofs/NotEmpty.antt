@@ -15,10 +15,10 @@ use Rattle.memories.specs.declared.VifUnit.the-variants.{Vif1}
 use Rattle.memories.specs.Units.{dataWords, codeBytes}
 use Rattle.memories.specs.Lengths.{Lent, LengthsFit}
 use Rattle.vif_codes.specs.Range.{registersInRange, waitingInRange, unitInRange}
-use Rattle.chain.specs.declared.StartAnswer.the-variants.{Started}
-use Rattle.chain.specs.declared.StartResult.{StartResult}
-use Rattle.chain.specs.Range.{mainRefused, channelInRange, stateInRange, startInRange, stackInRange, tagsInRange, payloadInRange}
-use Rattle.chain.specs.Start.{resetState, startResult, startedFrom, startOf}
+use Rattle.chain_state.specs.declared.StartAnswer.the-variants.{Started}
+use Rattle.chain_state.specs.declared.StartResult.{StartResult}
+use Rattle.chain_state.specs.Range.{mainRefused, channelInRange, stateInRange, startInRange, stackInRange, tagsInRange, payloadInRange}
+use Rattle.chain_state.specs.Start.{resetState, startResult, startedFrom, startOf}
 use Rattle.sheet.specs.declared.BuildAnswer.the-variants.{Built}
 use Rattle.sheet.specs.Records.{Record, longest}
 use Rattle.sheet.specs.Reader.{valid}

@@ -14,11 +14,11 @@ use Rattle.fields.proofs.ChoiceLaws.{if-ind-by, if-zero, and-left, and-right}
 use Rattle.memories.specs.declared.VifUnit.the-variants.{Vif1}
 use Rattle.memories.specs.Lengths.{Lent, LengthsFit}
 use Rattle.memories.proofs.LengthLaws.{fit-lengths, fit-first}
-use Rattle.chain.specs.declared.StartAnswer.the-variants.{Started}
-use Rattle.chain.specs.declared.StartResult.{StartResult}
-use Rattle.chain.specs.declared.State.{State}
-use Rattle.chain.specs.Range.{mainRefused, stateInRange, startInRange}
-use Rattle.chain.specs.Start.{startResult, startedFrom, startOf}
+use Rattle.chain_state.specs.declared.StartAnswer.the-variants.{Started}
+use Rattle.chain_state.specs.declared.StartResult.{StartResult}
+use Rattle.chain_state.specs.declared.State.{State}
+use Rattle.chain_state.specs.Range.{mainRefused, stateInRange, startInRange}
+use Rattle.chain_state.specs.Start.{startResult, startedFrom, startOf}
 use Rattle.chain.specs.Inner.{Ready}
 use Rattle.chain.proofs.ReadyLaws.{tadr-whole}
 use Rattle.sheet.specs.declared.BuildAnswer.the-variants.{Built}

@@ -8,14 +8,14 @@ use Rattle.gif.specs.Tag.{formatOf, nregOf, quadwordsOf as gifQuadwordsOf, tagO
 use Rattle.gif.specs.Reglist.{reglistWrite, reglistRefused, reglistWrites}
 use Rattle.fields.specs.Counts.{oneIf, qwcUnder}
 use Rattle.gif.specs.Step.{commit, tagStep, packedWith, reglistStep, imageStep, gifStep}
-use Rattle.unpack.specs.Formats.{namedIn}
-use Rattle.unpack.specs.Mask.{rowOfCycle, codeAt, maskOf}
-use Rattle.unpack.specs.Payload.{vectorBits, payloadWords, wholeVectors}
-use Rattle.unpack.specs.Position.{fills, vectorsBefore, writesDone, positionOf}
-use Rattle.unpack.specs.Range.{cycleRefused}
-use Rattle.unpack.specs.Vector.{extended, element, fieldsOf, fiveFields, vectorAt}
-use Rattle.unpack.specs.Write.{added, rowOf, dataOf, fieldOf, rowsAfter, putField, writtenAt, writeVector, registersAt, writeAt, writesFrom}
-use Rattle.unpack.specs.Step.{countOf, unpackingOf, takenWords, acting, heldVector, doneAfter, wordOf, unfedWrites, unpackWord}
+use Rattle.unpack_rules.specs.Formats.{namedIn}
+use Rattle.unpack_rules.specs.Mask.{rowOfCycle, codeAt, maskOf}
+use Rattle.unpack_rules.specs.Payload.{vectorBits, payloadWords, wholeVectors}
+use Rattle.unpack_rules.specs.Position.{fills, vectorsBefore, writesDone, positionOf}
+use Rattle.unpack_rules.specs.Range.{cycleRefused}
+use Rattle.unpack_rules.specs.Vector.{extended, element, fieldsOf, fiveFields, vectorAt}
+use Rattle.unpack_rules.specs.Write.{added, rowOf, dataOf, fieldOf, rowsAfter, putField, writtenAt, writeVector, registersAt, writeAt, writesFrom}
+use Rattle.unpack_rules.specs.Step.{countOf, unpackingOf, takenWords, acting, heldVector, doneAfter, wordOf, unfedWrites, unpackWord}
 use Rattle.memories.specs.Lengths.{lengthsRefusal}
 use Rattle.vif_codes.specs.Codes.{quadwordsOf as directQuadwordsOf, missingCode, plainCode, unpackNumbers, codeOf, decodeOf}
 use Rattle.vif_codes.specs.Execute.{nextTops, startProgram, setMode, beginMpg, addressOf, unpackRefusal, beginUnpack}
@@ -25,10 +25,10 @@ use Rattle.gif.specs.Range.{tagInRange}
 use Rattle.vif.specs.Step.{codeStep, giveQuadword, mpgRefused, mpgStep, unpackStep, vifStep}
 use Rattle.fields.specs.Memory.{wordAt, longAt}
 use Rattle.vif_codes.specs.Words.{incomingAt}
-use Rattle.chain.specs.Pending.{tagsAfter, payloadAfter}
-use Rattle.chain.specs.Range.{unitOf, channelInRange, startInRange, stackInRange, tagsInRange, payloadInRange, stateInRange, mainRefused, tagsInside, payloadInside, entryRefusal, wordsInRange}
+use Rattle.chain_state.specs.Pending.{tagsAfter, payloadAfter}
+use Rattle.chain_state.specs.Range.{unitOf, channelInRange, startInRange, stackInRange, tagsInRange, payloadInRange, stateInRange, mainRefused, tagsInside, payloadInside, entryRefusal, wordsInRange}
 use Rattle.chain.specs.Tags.{nextStack, usesAddr, payloadAt, nextTadr, endsChain, tagWordsOf, payloadOf, tagRefusal, tagState, tagRead}
-use Rattle.chain.specs.Start.{resetState, startOf}
+use Rattle.chain_state.specs.Start.{resetState, startOf}
 use Rattle.chain.specs.Step.{vifGiven, gifGiven, payloadStep, stepOf}
 use Rattle.chain.specs.Run.{done, stepsOf, runOf}
 use Rattle.console.specs.Register.{isWaiting, numberSet, setOf}

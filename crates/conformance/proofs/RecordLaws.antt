@@ -15,7 +15,7 @@ use Rattle.gif.specs.declared.Entry.{Entry}
 use Rattle.gif.specs.Log.{entrySize, startEntry, numbers, logged}
 use Rattle.gif.specs.Tag.{pathOf}
 use Rattle.gif.specs.Run.{sheetTag}
-use Rattle.unpack.proofs.VectorLaws.{Words, none, more}
+use Rattle.unpack_rules.proofs.VectorLaws.{Words, none, more}
 use Rattle.memories.specs.declared.VifUnit.the-variants.{Vif1}
 use Rattle.memories.specs.Units.{quadwords, instructions}
 use Rattle.memories.specs.Lengths.{Lent, lent}
@@ -27,14 +27,14 @@ use Rattle.vif_codes.specs.Setters.{withWaiting}
 use Rattle.vif.specs.Feeds.{Fed, fed, Feeds, aWord, aQuadword, wordsIn, QuadwordsIn, no-quadword, one-quadword, Zeros, no-zero, one-zero}
 use Rattle.vif.proofs.BurstLaws.{incoming-word}
 use Rattle.vif.proofs.SheetLaws.{firstOdd, feeds-data, feeds-code, feeds-start, feeds-direct, feeds-entries, directWaits}
-use Rattle.chain.specs.declared.TagWords.the-variants.{Nothing as NoTagWords}
-use Rattle.chain.specs.declared.Payload.the-variants.{Nothing as NoPayload}
-use Rattle.chain.specs.declared.State.{State}
+use Rattle.chain_state.specs.declared.TagWords.the-variants.{Nothing as NoTagWords}
+use Rattle.chain_state.specs.declared.Payload.the-variants.{Nothing as NoPayload}
+use Rattle.chain_state.specs.declared.State.{State}
 use Rattle.fields.specs.Memory.{wordAt, longAt, quadwordAt}
-use Rattle.chain.specs.Setters.{withTag}
+use Rattle.chain_state.specs.Setters.{withTag}
 use Rattle.vif_codes.specs.Words.{incomingAt}
 use Rattle.chain.specs.Step.{Machine, machine}
-use Rattle.chain.specs.Range.{unitOf}
+use Rattle.chain_state.specs.Range.{unitOf}
 use Rattle.chain.proofs.BurstLaws.{feeding}
 use Rattle.chain.proofs.UnitLaws.{channel-vif1}
 use Rattle.sheet.specs.Records.{recordOf, bytesAt, number}

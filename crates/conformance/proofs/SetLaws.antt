@@ -9,11 +9,11 @@ use Rattle.memories.specs.declared.VifUnit.the-variants.{Vif0, Vif1}
 use Rattle.memories.specs.Lengths.{Lent}
 use Rattle.vif_codes.specs.declared.Vif.{Vif}
 use Rattle.vif_codes.specs.declared.Waiting.the-variants.{Nothing}
-use Rattle.chain.specs.declared.StartResult.{StartResult}
-use Rattle.chain.specs.declared.State.{State}
-use Rattle.chain.specs.Range.{unitOf, entryRefusal}
-use Rattle.chain.specs.Setters.{pickUnit}
-use Rattle.chain.specs.Start.{startOf}
+use Rattle.chain_state.specs.declared.StartResult.{StartResult}
+use Rattle.chain_state.specs.declared.State.{State}
+use Rattle.chain_state.specs.Range.{unitOf, entryRefusal}
+use Rattle.chain_state.specs.Setters.{pickUnit}
+use Rattle.chain_state.specs.Start.{startOf}
 use Rattle.console.specs.Register.{numberSet}
 use Rattle.console.specs.Block.{stateSet}
 use Rattle.console.proofs.RegisterLaws.{waiting-kept, row-length}

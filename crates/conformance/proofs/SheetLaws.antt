@@ -14,10 +14,10 @@ use Rattle.gif.specs.Log.{entrySize, numbers}
 use Rattle.memories.specs.declared.VifUnit.the-variants.{Vif1}
 use Rattle.memories.specs.Units.{quadwords, instructions}
 use Rattle.memories.specs.Lengths.{Lent, lent}
-use Rattle.chain.specs.declared.TagWords.the-variants.{Nothing as NoTagWords}
-use Rattle.chain.specs.declared.Payload.the-variants.{Nothing as NoPayload}
-use Rattle.chain.specs.declared.State.{State}
-use Rattle.chain.specs.Setters.{withTag}
+use Rattle.chain_state.specs.declared.TagWords.the-variants.{Nothing as NoTagWords}
+use Rattle.chain_state.specs.declared.Payload.the-variants.{Nothing as NoPayload}
+use Rattle.chain_state.specs.declared.State.{State}
+use Rattle.chain_state.specs.Setters.{withTag}
 use Rattle.chain.specs.Step.{machine}
 use Rattle.chain.specs.Run.{done}
 use Rattle.sheet.specs.declared.Kind.{Kind}

@@ -7,10 +7,10 @@ use lib.ListN.{length}
 use Rattle.fields.specs.Fields.{if}
 use Rattle.memories.specs.declared.VifUnit.the-variants.{Vif1}
 use Rattle.memories.specs.Lengths.{Lent, LengthsFit}
-use Rattle.chain.specs.declared.StartAnswer.the-variants.{Started}
-use Rattle.chain.specs.declared.State.{State}
-use Rattle.chain.specs.Range.{unitOf, mainRefused, stateInRange, startInRange, stackInRange, tagsInRange, payloadInRange, tagsInside, payloadInside}
-use Rattle.chain.specs.Start.{startResult, startedFrom, startOf}
+use Rattle.chain_state.specs.declared.StartAnswer.the-variants.{Started}
+use Rattle.chain_state.specs.declared.State.{State}
+use Rattle.chain_state.specs.Range.{unitOf, mainRefused, stateInRange, startInRange, stackInRange, tagsInRange, payloadInRange, tagsInside, payloadInside}
+use Rattle.chain_state.specs.Start.{startResult, startedFrom, startOf}
 use Rattle.chain.specs.Inner.{Ready}
 use Rattle.chain.proofs.ReadyLaws.{fields-of, ready-of}
 

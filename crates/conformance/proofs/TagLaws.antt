@@ -11,15 +11,15 @@ use Rattle.gif.specs.declared.Place.the-variants.{Idle}
 use Rattle.vif_codes.specs.declared.Waiting.the-variants.{Nothing}
 use Rattle.memories.specs.Lengths.{Lent}
 use Rattle.fields.specs.Counts.{oneTag}
-use Rattle.chain.specs.declared.TagWords.{TagWords}
-use Rattle.chain.specs.declared.TagWords.the-variants.{Nothing as NoTagWords}
-use Rattle.chain.specs.declared.Payload.{Payload}
-use Rattle.chain.specs.declared.Payload.the-variants.{Nothing as NoPayload}
+use Rattle.chain_state.specs.declared.TagWords.{TagWords}
+use Rattle.chain_state.specs.declared.TagWords.the-variants.{Nothing as NoTagWords}
+use Rattle.chain_state.specs.declared.Payload.{Payload}
+use Rattle.chain_state.specs.declared.Payload.the-variants.{Nothing as NoPayload}
 use Rattle.chain.specs.declared.StepAnswer.the-variants.{Completed}
 use Rattle.chain.specs.declared.StepResult.{StepResult}
-use Rattle.chain.specs.declared.State.{State}
+use Rattle.chain_state.specs.declared.State.{State}
 use Rattle.fields.specs.Memory.{longAt}
-use Rattle.chain.specs.Setters.{withTag}
+use Rattle.chain_state.specs.Setters.{withTag}
 use Rattle.chain.specs.Tags.{qwcOf, idOf, addrOf, sprOf, usesAddr, payloadAt, nextTadr, endsChain, nextStack, tagWordsOf, payloadOf, tagRefusal, tagState, completedResult, tagRead, tagStep}
 use Rattle.chain.specs.Step.{stepped, steppedBy, pendingOrTag, stepOf}
 use Rattle.chain.specs.Run.{done}

@@ -18,11 +18,11 @@ use Rattle.gif.specs.Log.{entrySize, numbers, entriesIn}
 use Rattle.gif.proofs.LogLaws.{numbers-length, in-count}
 use Rattle.memories.specs.Lengths.{Lent, lent}
 use Rattle.chain.specs.declared.Answer.the-variants.{Done}
-use Rattle.chain.specs.declared.StartAnswer.the-variants.{Started}
-use Rattle.chain.specs.declared.StartResult.{StartResult}
-use Rattle.chain.specs.declared.State.{State}
-use Rattle.chain.specs.Range.{entryRefusal, stateInRange, startInRange}
-use Rattle.chain.specs.Start.{startedFrom, startOf}
+use Rattle.chain_state.specs.declared.StartAnswer.the-variants.{Started}
+use Rattle.chain_state.specs.declared.StartResult.{StartResult}
+use Rattle.chain_state.specs.declared.State.{State}
+use Rattle.chain_state.specs.Range.{entryRefusal, stateInRange, startInRange}
+use Rattle.chain_state.specs.Start.{startedFrom, startOf}
 use Rattle.chain.specs.Step.{machine}
 use Rattle.chain.specs.Run.{Ran, ran, counted, done, stepsOf, runOf}
 use Rattle.chain.proofs.ReadyLaws.{facts-of}

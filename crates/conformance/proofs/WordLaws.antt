@@ -6,7 +6,7 @@ use native.Mathlib.Nat.{add-zero, zero-add, suc-add, div-div-eq-div-mul}
 use native.Mathlib.Omega.{arith}
 use lib.ListN.{length, getD, take, drop, length-append, length-drop}
 use lib.Seq.{getD-drop, drop-drop, drop-at, take-append-le, drop-append-le}
-use Rattle.unpack.proofs.VectorLaws.{Words, none, more}
+use Rattle.unpack_rules.proofs.VectorLaws.{Words, none, more}
 use Rattle.fields.specs.Memory.{wordAt}
 use Rattle.sheet.specs.Records.{bytesAt, number}
 use Rattle.sheet.specs.Layout.{wordBytes, wordsBytes}

@@ -10,10 +10,10 @@ use Rattle.gif.specs.Log.{entrySize, entriesIn}
 use Rattle.memories.specs.Lengths.{Lent}
 use Rattle.vif_codes.specs.declared.Waiting.the-variants.{Nothing}
 use Rattle.chain.specs.declared.Answer.the-variants.{Done}
-use Rattle.chain.specs.declared.StartAnswer.the-variants.{Started}
-use Rattle.chain.specs.declared.State.{State}
-use Rattle.chain.specs.Range.{entryRefusal}
-use Rattle.chain.specs.Start.{startOf}
+use Rattle.chain_state.specs.declared.StartAnswer.the-variants.{Started}
+use Rattle.chain_state.specs.declared.State.{State}
+use Rattle.chain_state.specs.Range.{entryRefusal}
+use Rattle.chain_state.specs.Start.{startOf}
 use Rattle.chain.specs.Run.{Ran, runOf}
 use Rattle.sheet.specs.declared.BuildAnswer.the-variants.{Built}
 use Rattle.sheet.specs.Records.{Record}

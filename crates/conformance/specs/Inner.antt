@@ -8,8 +8,8 @@ use Rattle.fields.specs.Fields.{if}
 use Rattle.fields.specs.Refusals.{mainLength}
 use Rattle.memories.specs.declared.VifUnit.the-variants.{Vif1}
 use Rattle.memories.specs.Lengths.{Lent, lengthsRefusal}
-use Rattle.chain.specs.declared.State.{State}
-use Rattle.chain.specs.Range.{mainRefused}
+use Rattle.chain_state.specs.declared.State.{State}
+use Rattle.chain_state.specs.Range.{mainRefused}
 use Rattle.sheet.specs.Build.{Left, left, buildOf}
 use Rattle.conformance.specs.declared.PlayAnswer.the-variants.{Refused}
 use Rattle.conformance.specs.declared.PlayResult.{PlayResult}

@@ -15,9 +15,9 @@ use Rattle.memories.specs.declared.VifUnit.the-variants.{Vif1}
 use Rattle.memories.specs.Lengths.{Lent, lengthsRefusal}
 use Rattle.vif_codes.specs.declared.Waiting.the-variants.{Nothing}
 use Rattle.chain.specs.declared.Answer.the-variants.{Done}
-use Rattle.chain.specs.declared.State.{State}
-use Rattle.chain.specs.Range.{mainRefused, stateInRange, startInRange}
-use Rattle.chain.specs.Start.{startOf}
+use Rattle.chain_state.specs.declared.State.{State}
+use Rattle.chain_state.specs.Range.{mainRefused, stateInRange, startInRange}
+use Rattle.chain_state.specs.Start.{startOf}
 use Rattle.chain.specs.Run.{Ran, numberOf, runOf}
 use Rattle.sheet.specs.declared.BuildAnswer.{BuildAnswer}
 use Rattle.sheet.specs.declared.BuildAnswer.the-variants.{Built, Refused as BuildRefused}

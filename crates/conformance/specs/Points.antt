@@ -18,12 +18,12 @@ use Rattle.vif_codes.specs.declared.Waiting.the-variants.{Nothing, MaskDue, Row
 use Rattle.fields.specs.Memory.{wordAt}
 use Rattle.vif_codes.specs.declared.Vif.{Vif}
 use Rattle.vif_codes.specs.Setters.{withItops, withStart, withWaiting}
-use Rattle.chain.specs.declared.Stack.the-variants.{Empty}
-use Rattle.chain.specs.declared.TagWords.the-variants.{Nothing as NoTagWords}
-use Rattle.chain.specs.declared.Payload.the-variants.{Nothing as NoPayload, Words as PayloadWords}
-use Rattle.chain.specs.declared.State.{State}
-use Rattle.chain.specs.Setters.{withPending}
-use Rattle.chain.specs.Start.{resetPath, resetUnit, resetState, startOf}
+use Rattle.chain_state.specs.declared.Stack.the-variants.{Empty}
+use Rattle.chain_state.specs.declared.TagWords.the-variants.{Nothing as NoTagWords}
+use Rattle.chain_state.specs.declared.Payload.the-variants.{Nothing as NoPayload, Words as PayloadWords}
+use Rattle.chain_state.specs.declared.State.{State}
+use Rattle.chain_state.specs.Setters.{withPending}
+use Rattle.chain_state.specs.Start.{resetPath, resetUnit, resetState, startOf}
 use Rattle.chain.specs.Run.{Ran, numberOf, runOf}
 use Rattle.chain.specs.Resume.{resumed as resumedRun}
 use Rattle.console.specs.Register.{setNumber, setOf}

@@ -11,6 +11,6 @@ pub enum PlayAnswer {
 
 pub struct PlayResult {
     pub answer: PlayAnswer,
-    pub state: chain::State,
+    pub state: chain_state::State,
     pub counts: fields::Counts,
 }

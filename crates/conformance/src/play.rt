@@ -1,8 +1,8 @@
 // A sheet's chain built at an address in main memory, started and run.
 use super::PlayAnswer;
 use super::PlayResult;
-use chain::StartAnswer;
-use chain::State;
+use chain_state::StartAnswer;
+use chain_state::State;
 use fields::no_counts;
 use fields::refusals;
 use memories::VifUnit;
@@ -77,7 +77,7 @@ pub fn build_and_run(
     if number != 0 {
         return refused(number, 0, state);
     }
-    let started = chain::start(state, 1, address, false);
+    let started = chain_state::start(state, 1, address, false);
     let start_answer = started.answer;
     let begun = started.state;
     match start_answer {

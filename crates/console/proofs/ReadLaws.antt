@@ -13,10 +13,9 @@ use Rattle.fields.proofs.ChoiceLaws.{and-left, and-right}
 use Rattle.memories.specs.declared.VifUnit.{VifUnit}
 use Rattle.memories.specs.declared.VifUnit.the-variants.{Vif0, Vif1}
 use Rattle.vif_codes.specs.declared.Vif.{Vif}
-use Rattle.chain.specs.declared.State.{State}
-use Rattle.chain.specs.Range.{unitOf}
-use Rattle.chain.specs.Setters.{withUnit}
-use Rattle.chain.specs.Step.{heldBy}
+use Rattle.chain_state.specs.declared.State.{State}
+use Rattle.chain_state.specs.Range.{unitOf}
+use Rattle.chain_state.specs.Setters.{withUnit, heldBy}
 use Rattle.state_block.specs.declared.ReadUnit.{ReadUnit}
 use Rattle.state_block.specs.declared.ReadPath.{ReadPath}
 use Rattle.state_block.specs.declared.ReadState.{ReadState}

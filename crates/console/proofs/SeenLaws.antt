@@ -9,13 +9,12 @@ use Rattle.memories.specs.declared.VifUnit.{VifUnit}
 use Rattle.memories.specs.declared.VifUnit.the-variants.{Vif0, Vif1}
 use Rattle.memories.specs.Lengths.{Lent}
 use Rattle.vif_codes.specs.Range.{unitInRange}
-use Rattle.chain.specs.declared.State.{State}
-use Rattle.chain.specs.declared.StartAnswer.the-variants.{Started, Refused}
-use Rattle.chain.specs.declared.StartResult.{StartResult}
-use Rattle.chain.specs.Range.{unitOf, startInRange, stateInRange, entryRefusal}
-use Rattle.chain.specs.Setters.{withUnit}
-use Rattle.chain.specs.Step.{heldBy}
-use Rattle.chain.specs.Start.{startResult, startedFrom, startOf}
+use Rattle.chain_state.specs.declared.State.{State}
+use Rattle.chain_state.specs.declared.StartAnswer.the-variants.{Started, Refused}
+use Rattle.chain_state.specs.declared.StartResult.{StartResult}
+use Rattle.chain_state.specs.Range.{unitOf, startInRange, stateInRange, entryRefusal}
+use Rattle.chain_state.specs.Setters.{withUnit, heldBy}
+use Rattle.chain_state.specs.Start.{startResult, startedFrom, startOf}
 use Rattle.console.specs.Register.{numberSet}
 use Rattle.console.specs.Block.{stateSet}
 use Rattle.console.proofs.RegisterLaws.{unit-range-kept}

@@ -7,10 +7,9 @@ use lib.Dec.{eqb, ltb}
 use Rattle.fields.specs.Fields.{if}
 use Rattle.fields.specs.Refusals.{outOfRange, numberMissing, codeWaits}
 use Rattle.vif_codes.specs.declared.Vif.{Vif}
-use Rattle.chain.specs.declared.State.{State}
-use Rattle.chain.specs.Range.{unitOf}
-use Rattle.chain.specs.Setters.{withUnit}
-use Rattle.chain.specs.Step.{heldBy}
+use Rattle.chain_state.specs.declared.State.{State}
+use Rattle.chain_state.specs.Range.{unitOf}
+use Rattle.chain_state.specs.Setters.{withUnit, heldBy}
 use Rattle.state_block.specs.Sizes.{vif1At, vif0At}
 use Rattle.state_block.specs.StateBlock.{stateInBlock}
 use Rattle.console.specs.declared.SetAnswer.{SetAnswer}

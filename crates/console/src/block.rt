@@ -1,7 +1,7 @@
 // The same in a state block, where a host keeps both units' registers.
 use super::SetAnswer;
 use super::register::is_waiting;
-use chain::State;
+use chain_state::State;
 use fields::refusals;
 use state_block::VIF0_AT;
 use state_block::VIF1_AT;

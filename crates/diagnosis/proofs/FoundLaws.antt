@@ -19,16 +19,17 @@ use Rattle.vif_codes.specs.declared.VifAnswer.{VifAnswer}
 use Rattle.vif_codes.specs.declared.VifAnswer.the-variants.{Word, Quadword, Refused as VifRefused}
 use Rattle.vif_codes.specs.Words.{incomingAt}
 use Rattle.vif.specs.Step.{Left as VifLeft}
-use Rattle.chain.specs.declared.TagWords.{TagWords}
-use Rattle.chain.specs.declared.TagWords.the-variants.{Nothing as NoTagWords, From}
-use Rattle.chain.specs.declared.Payload.{Payload}
-use Rattle.chain.specs.declared.Payload.the-variants.{Nothing as NoPayload, Words}
+use Rattle.chain_state.specs.declared.TagWords.{TagWords}
+use Rattle.chain_state.specs.declared.TagWords.the-variants.{Nothing as NoTagWords, From}
+use Rattle.chain_state.specs.declared.Payload.{Payload}
+use Rattle.chain_state.specs.declared.Payload.the-variants.{Nothing as NoPayload, Words}
 use Rattle.chain.specs.declared.StepAnswer.the-variants.{Completed, Refused}
-use Rattle.chain.specs.declared.State.{State}
-use Rattle.chain.specs.Pending.{tagsAfter, payloadAfter}
+use Rattle.chain_state.specs.declared.State.{State}
+use Rattle.chain_state.specs.Pending.{tagsAfter, payloadAfter}
 use Rattle.chain.specs.Tags.{tagStep}
-use Rattle.chain.specs.Range.{entryRefusal}
-use Rattle.chain.specs.Step.{Stepped, steppedBy, fedUnit, heldBy, afterVif, vifTook, vifGiven, afterGif, gifGiven, payloadStep, payloadOrTag, pendingOrTag, stepOf}
+use Rattle.chain_state.specs.Range.{entryRefusal}
+use Rattle.chain.specs.Step.{Stepped, steppedBy, fedUnit, afterVif, vifTook, vifGiven, afterGif, gifGiven, payloadStep, payloadOrTag, pendingOrTag, stepOf}
+use Rattle.chain_state.specs.Setters.{heldBy}
 use Rattle.chain.proofs.ReadyLaws.{facts-of}
 use Rattle.gif_reason.specs.Reason.{quadwordNumbers, quadwordNeeds}
 use Rattle.gif_reason.proofs.Truth.{quadword-told}

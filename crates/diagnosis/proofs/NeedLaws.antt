@@ -12,12 +12,13 @@ use Rattle.vif_codes.specs.declared.Waiting.{Waiting}
 use Rattle.vif_codes.specs.declared.Waiting.the-variants.{Nothing, MaskDue, RowDue, ColDue, MpgDue, DirectDue, DirecthlDue, UnpackDue}
 use Rattle.vif_codes.specs.declared.Vif.{Vif}
 use Rattle.vif_codes.specs.Words.{incomingAt}
-use Rattle.chain.specs.declared.TagWords.{TagWords}
-use Rattle.chain.specs.declared.TagWords.the-variants.{Nothing as NoTagWords, From}
-use Rattle.chain.specs.declared.Payload.{Payload}
-use Rattle.chain.specs.declared.Payload.the-variants.{Nothing as NoPayload, Words}
-use Rattle.chain.specs.declared.State.{State}
-use Rattle.chain.specs.Step.{fedUnit, heldBy}
+use Rattle.chain_state.specs.declared.TagWords.{TagWords}
+use Rattle.chain_state.specs.declared.TagWords.the-variants.{Nothing as NoTagWords, From}
+use Rattle.chain_state.specs.declared.Payload.{Payload}
+use Rattle.chain_state.specs.declared.Payload.the-variants.{Nothing as NoPayload, Words}
+use Rattle.chain_state.specs.declared.State.{State}
+use Rattle.chain.specs.Step.{fedUnit}
+use Rattle.chain_state.specs.Setters.{heldBy}
 use Rattle.gif_reason.specs.Reason.{quadwordNumbers}
 use Rattle.vif_reason.specs.Reason.{codeNumbers, directNumbers, waitingNumbers, wordNumbers}
 use Rattle.diagnosis.specs.Why.{unitNumbers, payloadNumbers, payloadOrTagNumbers, pendingNumbers, nextNumbers}

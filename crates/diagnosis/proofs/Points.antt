@@ -8,8 +8,8 @@ use Rattle.gif.specs.Tag.{formatOf, nregOf, quadwordsOf as gifQuadwordsOf, tagO
 use Rattle.gif.specs.Range.{tagInRange}
 use Rattle.gif.specs.Reglist.{reglistWrite, reglistRefused, reglistWrites}
 use Rattle.gif.specs.Step.{commit, tagStep, packedWith, reglistStep, imageStep, gifStep}
-use Rattle.unpack.specs.Formats.{namedIn}
-use Rattle.unpack.specs.Range.{cycleRefused}
+use Rattle.unpack_rules.specs.Formats.{namedIn}
+use Rattle.unpack_rules.specs.Range.{cycleRefused}
 use Rattle.memories.specs.Lengths.{lengthsRefusal}
 use Rattle.vif_codes.specs.Codes.{quadwordsOf as directQuadwordsOf, missingCode, plainCode, unpackNumbers, codeOf, decodeOf}
 use Rattle.vif_codes.specs.Execute.{startProgram, setMode, unpackRefusal, beginUnpack}
@@ -17,8 +17,8 @@ use Rattle.vif_codes.specs.Payload.{completes, orNothing}
 use Rattle.vif_codes.specs.Range.{registersInRange, waitingInRange, unitInRange, directInRange, upTo}
 use Rattle.vif_codes.specs.Words.{incomingAt}
 use Rattle.vif.specs.Step.{codeStep, giveQuadword, mpgRefused, mpgStep, vifStep}
-use Rattle.chain.specs.Pending.{tagsAfter, payloadAfter}
-use Rattle.chain.specs.Range.{unitOf, channelInRange, startInRange, entryInRange, stackInRange, tagWordInRange, tagsInRange, wordsInRange, payloadInRange, stateInRange, mainRefused, tagsInside, payloadInside, entryRefusal}
+use Rattle.chain_state.specs.Pending.{tagsAfter, payloadAfter}
+use Rattle.chain_state.specs.Range.{unitOf, channelInRange, startInRange, entryInRange, stackInRange, tagWordInRange, tagsInRange, wordsInRange, payloadInRange, stateInRange, mainRefused, tagsInside, payloadInside, entryRefusal}
 use Rattle.chain.specs.Tags.{usesAddr, payloadAt, tagRefusal, tagState, tagRead}
 use Rattle.chain.specs.Step.{vifGiven, gifGiven, payloadStep, stepOf}
 use Rattle.chain.specs.Run.{done}

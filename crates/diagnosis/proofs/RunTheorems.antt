@@ -11,8 +11,8 @@ use Rattle.fields.specs.Counts.{none}
 use Rattle.memories.specs.Lengths.{Lent}
 use Rattle.chain.specs.declared.Answer.{Answer}
 use Rattle.chain.specs.declared.Answer.the-variants.{Done, Allowance, Interrupt, Refused as RunRefused}
-use Rattle.chain.specs.declared.State.{State}
-use Rattle.chain.specs.Range.{entryRefusal}
+use Rattle.chain_state.specs.declared.State.{State}
+use Rattle.chain_state.specs.Range.{entryRefusal}
 use Rattle.chain.specs.Step.{Machine, machine}
 use Rattle.chain.specs.Run.{Ran, ran, done, stepsOf, runOf}
 use Rattle.chain.specs.Stops.{Stops, at-end, at-allowance, at-interrupt, at-refusal}

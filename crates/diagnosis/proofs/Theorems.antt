@@ -10,8 +10,8 @@ use Rattle.fields.specs.Fields.{if}
 use Rattle.memories.specs.Lengths.{Lent}
 use Rattle.chain.specs.declared.StepAnswer.{StepAnswer}
 use Rattle.chain.specs.declared.StepAnswer.the-variants.{Completed, Refused}
-use Rattle.chain.specs.declared.State.{State}
-use Rattle.chain.specs.Range.{entryRefusal}
+use Rattle.chain_state.specs.declared.State.{State}
+use Rattle.chain_state.specs.Range.{entryRefusal}
 use Rattle.chain.specs.Step.{stepOf}
 use Rattle.chain.specs.Run.{done}
 use Rattle.chain_reason.specs.Reason.{nextPlace}

@@ -24,18 +24,19 @@ use Rattle.vif_codes.specs.declared.VifAnswer.the-variants.{Word, Quadword, Ref
 use Rattle.vif_codes.specs.Words.{incomingAt}
 use Rattle.vif.specs.Step.{Left as VifLeft}
 use Rattle.chain.specs.declared.Answer.the-variants.{Done, Allowance}
-use Rattle.chain.specs.declared.TagWords.{TagWords}
-use Rattle.chain.specs.declared.TagWords.the-variants.{Nothing as NoTagWords, From}
-use Rattle.chain.specs.declared.Payload.{Payload}
-use Rattle.chain.specs.declared.Payload.the-variants.{Nothing as NoPayload, Words}
-use Rattle.chain.specs.declared.Stack.{Stack}
+use Rattle.chain_state.specs.declared.TagWords.{TagWords}
+use Rattle.chain_state.specs.declared.TagWords.the-variants.{Nothing as NoTagWords, From}
+use Rattle.chain_state.specs.declared.Payload.{Payload}
+use Rattle.chain_state.specs.declared.Payload.the-variants.{Nothing as NoPayload, Words}
+use Rattle.chain_state.specs.declared.Stack.{Stack}
 use Rattle.chain.specs.declared.StepAnswer.{StepAnswer}
 use Rattle.chain.specs.declared.StepAnswer.the-variants.{Completed, Refused}
-use Rattle.chain.specs.declared.State.{State}
-use Rattle.chain.specs.Pending.{tagsAfter, payloadAfter}
+use Rattle.chain_state.specs.declared.State.{State}
+use Rattle.chain_state.specs.Pending.{tagsAfter, payloadAfter}
 use Rattle.chain.specs.Tags.{qwcOf, idOf, addrOf, sprOf, usesAddr, payloadAt, isFull, tagRefusal, tagState, completedResult, refusedResult, tagRead, tagStep}
-use Rattle.chain.specs.Range.{entryRefusal}
-use Rattle.chain.specs.Step.{Stepped, steppedBy, fedUnit, heldBy, afterVif, vifTook, vifGiven, afterGif, gifGiven, payloadStep, payloadOrTag, pendingOrTag, stepOf}
+use Rattle.chain_state.specs.Range.{entryRefusal}
+use Rattle.chain.specs.Step.{Stepped, steppedBy, fedUnit, afterVif, vifTook, vifGiven, afterGif, gifGiven, payloadStep, payloadOrTag, pendingOrTag, stepOf}
+use Rattle.chain_state.specs.Setters.{heldBy}
 use Rattle.chain.specs.Run.{Ran, ran, done, afterStep, stepsOf, runOf}
 use Rattle.chain.proofs.ReadyLaws.{facts-of, ready-of}
 use Rattle.fields.specs.declared.Counts.{Counts}

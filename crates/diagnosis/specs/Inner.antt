@@ -9,8 +9,8 @@ use Rattle.gif.specs.Log.{lacksRoom}
 use Rattle.memories.specs.Lengths.{Lent}
 use Rattle.chain.specs.declared.Answer.{Answer}
 use Rattle.chain.specs.declared.Answer.the-variants.{Done, Allowance, Interrupt, Refused as RunRefused}
-use Rattle.chain.specs.declared.State.{State}
-use Rattle.chain.specs.Range.{entryRefusal}
+use Rattle.chain_state.specs.declared.State.{State}
+use Rattle.chain_state.specs.Range.{entryRefusal}
 use Rattle.chain.specs.Step.{stepOf}
 use Rattle.chain.specs.Run.{done}
 use Rattle.diagnosis.specs.declared.Reason.{Reason}

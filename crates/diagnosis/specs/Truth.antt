@@ -9,15 +9,16 @@ use Rattle.fields.specs.Memory.{quadwordAt}
 use Rattle.memories.specs.Lengths.{Lent}
 use Rattle.vif_codes.specs.Words.{incomingAt}
 use Rattle.chain.specs.declared.Answer.the-variants.{Done, Refused as RunRefused}
-use Rattle.chain.specs.declared.TagWords.{TagWords}
-use Rattle.chain.specs.declared.TagWords.the-variants.{Nothing as NoTagWords, From}
-use Rattle.chain.specs.declared.Payload.{Payload}
-use Rattle.chain.specs.declared.Payload.the-variants.{Nothing as NoPayload, Words}
+use Rattle.chain_state.specs.declared.TagWords.{TagWords}
+use Rattle.chain_state.specs.declared.TagWords.the-variants.{Nothing as NoTagWords, From}
+use Rattle.chain_state.specs.declared.Payload.{Payload}
+use Rattle.chain_state.specs.declared.Payload.the-variants.{Nothing as NoPayload, Words}
 use Rattle.chain.specs.declared.StepAnswer.the-variants.{Refused}
-use Rattle.chain.specs.declared.State.{State}
+use Rattle.chain_state.specs.declared.State.{State}
 use Rattle.chain.specs.Tags.{tagStep}
-use Rattle.chain.specs.Range.{entryRefusal}
-use Rattle.chain.specs.Step.{steppedBy, fedUnit, heldBy, vifGiven, gifGiven, stepOf}
+use Rattle.chain_state.specs.Range.{entryRefusal}
+use Rattle.chain.specs.Step.{steppedBy, fedUnit, vifGiven, gifGiven, stepOf}
+use Rattle.chain_state.specs.Setters.{heldBy}
 use Rattle.chain.specs.Run.{ran, done, runOf}
 use Rattle.gif_reason.specs.declared.Numbers.{Numbers}
 use Rattle.gif_reason.specs.Reason.{numbers}

@@ -1,7 +1,7 @@
 // The next step, tried on memories and a log of its own, so that those lent stay as they are.
 use super::Trial;
 use chain::Answer;
-use chain::State;
+use chain_state::State;
 ghost use mathlib.Core.Path.{_≡_};
 ghost use Rattle.diagnosis.specs.Inner.{withNoneUsed, trialOf, Tried};
 

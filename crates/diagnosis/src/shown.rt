@@ -1,15 +1,16 @@
 // What the refusal of the next step shows.
-use chain::Payload;
-use chain::State;
-use chain::TagWords;
 use chain_reason::tag_numbers;
+use chain_state::Payload;
+use chain_state::State;
+use chain_state::TagWords;
 use gif_reason::Numbers;
 use gif_reason::quadword_numbers;
 use vif_codes::Vif;
 use vif_codes::incoming_at;
 use vif_reason::word_numbers;
 ghost use mathlib.Core.Path.{_≡_};
-ghost use Rattle.chain.specs.Step.{fedUnit, heldBy};
+ghost use Rattle.chain.specs.Step.{fedUnit};
+ghost use Rattle.chain_state.specs.Setters.{heldBy};
 ghost use Rattle.diagnosis.specs.Why.{unitNumbers, payloadNumbers, payloadOrTagNumbers, nextNumbers};
 
 // The unit that the channel feeds.

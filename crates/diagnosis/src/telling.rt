@@ -4,8 +4,8 @@ use super::Reason;
 use super::Trial;
 use super::attempt::try_step;
 use super::shown::next_numbers;
-use chain::State;
 use chain_reason::next_place;
+use chain_state::State;
 use fields::refusals;
 use gif_reason::free_entries;
 ghost use mathlib.Core.Path.{_≡_};
@@ -60,7 +60,7 @@ pub fn why(main: &[u8], data: &[u32], code: &[u8], log: &[u64], state: State) ->
     ensures { λ r. ⌜ r
         ≡ whyOf (now (main .entry)) state (lent (now («data» .entry)) (now (code .entry)) (now (log .entry))) ⌝ }
 {
-    let refused = chain::entry_refusal(main, data, code, log, state);
+    let refused = chain_state::entry_refusal(main, data, code, log, state);
     if refused != 0 {
         return Reason::Entry(refused);
     }

@@ -14,16 +14,16 @@ use Rattle.fields.specs.Fields.{if}
 use Rattle.fields.proofs.ChoiceLaws.{if-ind}
 use Rattle.memories.specs.Lengths.{Lent}
 use Rattle.chain.specs.declared.Answer.the-variants.{Done, Interrupt, Refused as AnswerRefused}
-use Rattle.chain.specs.declared.StartAnswer.the-variants.{Started}
-use Rattle.chain.specs.declared.StartResult.{StartResult}
+use Rattle.chain_state.specs.declared.StartAnswer.the-variants.{Started}
+use Rattle.chain_state.specs.declared.StartResult.{StartResult}
 use Rattle.chain.specs.declared.StepAnswer.{StepAnswer}
 use Rattle.chain.specs.declared.StepAnswer.the-variants.{Completed, Refused}
 use Rattle.chain.specs.declared.RunResult.{RunResult}
-use Rattle.chain.specs.declared.State.{State}
-use Rattle.chain.specs.Range.{stateInRange, startInRange, entryRefusal}
+use Rattle.chain_state.specs.declared.State.{State}
+use Rattle.chain_state.specs.Range.{stateInRange, startInRange, entryRefusal}
 use Rattle.chain.specs.Inner.{Ready}
-use Rattle.chain.specs.Pending.{payloadPending}
-use Rattle.chain.specs.Start.{startOf}
+use Rattle.chain_state.specs.Pending.{payloadPending}
+use Rattle.chain_state.specs.Start.{startOf}
 use Rattle.chain.specs.Step.{Stepped, stepOf}
 use Rattle.chain.specs.Run.{Ran, ran, leftBy, done, counted, afterStep, onStep, stepsOf, runOf}
 use Rattle.chain.proofs.AfterLaws.{step-stays, step-one}

@@ -13,10 +13,10 @@ use Rattle.vif_codes.specs.Codes.{quadwordsOf, missingCode, plainCode, unpackNu
 use Rattle.vif_codes.specs.Range.{registersInRange, waitingInRange, unitInRange}
 use Rattle.vif_codes.specs.Words.{incomingAt}
 use Rattle.vif.specs.Step.{codeStep, vifStep}
-use Rattle.chain.specs.Pending.{payloadPending, payloadAfter}
-use Rattle.chain.specs.Range.{unitOf, channelInRange, startInRange, stackInRange, tagsInRange, wordsInRange, payloadInRange, stateInRange, mainRefused, tagsInside, payloadInside, entryRefusal}
+use Rattle.chain_state.specs.Pending.{payloadPending, payloadAfter}
+use Rattle.chain_state.specs.Range.{unitOf, channelInRange, startInRange, stackInRange, tagsInRange, wordsInRange, payloadInRange, stateInRange, mainRefused, tagsInside, payloadInside, entryRefusal}
 use Rattle.chain.specs.Tags.{nextStack, usesAddr, payloadAt as placedAt, nextTadr, endsChain, tagWordsOf, payloadOf, tagRefusal, tagState, tagRead}
-use Rattle.chain.specs.Start.{resetState, startOf}
+use Rattle.chain_state.specs.Start.{resetState, startOf}
 use Rattle.chain.specs.Step.{vifGiven, gifGiven, payloadStep, stepOf}
 use Rattle.chain.specs.Run.{done, stepsOf, runOf}
 use Rattle.totals.specs.Totals.{noTotals, passes, anyPasses, numbersOf, addOf}

@@ -11,7 +11,7 @@ use Rattle.gif.specs.Log.{lacksRoom}
 use Rattle.gif.specs.declared.Path.{Path}
 use Rattle.memories.specs.declared.VifUnit.{VifUnit}
 use Rattle.memories.specs.Lengths.{Lent}
-use Rattle.unpack.specs.declared.Format.{Format}
+use Rattle.unpack_rules.specs.declared.Format.{Format}
 use Rattle.vif_codes.specs.declared.Code.{Code}
 use Rattle.vif_codes.specs.declared.Code.the-variants.{Nop, Stcycl, Offset, Base, Itop, Stmod, Mskpath3, Mark, Flushe, Flush, Flusha, Mscal, Mscalf, Mscnt, Stmask, Strow, Stcol, Mpg, Direct, Directhl, Unpack}
 use Rattle.vif_codes.specs.declared.UnpackCode.{UnpackCode}

@@ -9,7 +9,7 @@ use Rattle.fields.specs.Counts.{qwcUnder, plusQwc, totalQwc}
 use Rattle.fields.specs.Fields.{bits}
 use Rattle.fields.proofs.CountLaws.{plus-qwc-none, plus-plus-qwc, total-none, total-plus, total-under}
 use Rattle.fields.proofs.FieldLaws.{bits-below}
-use Rattle.chain.specs.declared.State.{State}
+use Rattle.chain_state.specs.declared.State.{State}
 use Rattle.chain.specs.Tags.{qwcOf, idOf}
 use Rattle.chain.specs.Run.{runOf}
 use Rattle.totals.specs.declared.Totals.{Totals}

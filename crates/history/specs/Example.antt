@@ -7,8 +7,8 @@ use lib.ListN.{replicate}
 use Rattle.memories.specs.declared.VifUnit.the-variants.{Vif1}
 use Rattle.memories.specs.Units.{dataWords, codeBytes}
 use Rattle.memories.specs.Lengths.{Lent, lent}
-use Rattle.chain.specs.declared.State.{State}
-use Rattle.chain.specs.Start.{resetState, startOf}
+use Rattle.chain_state.specs.declared.State.{State}
+use Rattle.chain_state.specs.Start.{resetState, startOf}
 use Rattle.chain.specs.Run.{Ran, runOf}
 use Rattle.totals.specs.declared.Totals.{Totals}
 use Rattle.totals.specs.Totals.{noTotals, addOf}

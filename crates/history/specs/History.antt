@@ -4,10 +4,10 @@ use mathlib.Core.Bool.{Bool}
 use mathlib.Core.List.{List, [], _++_}
 use mathlib.Core.Path.{_≡_}
 use Rattle.memories.specs.Lengths.{Lent}
-use Rattle.chain.specs.declared.StartAnswer.the-variants.{Started}
-use Rattle.chain.specs.declared.State.{State}
-use Rattle.chain.specs.Pending.{payloadPending}
-use Rattle.chain.specs.Start.{startOf}
+use Rattle.chain_state.specs.declared.StartAnswer.the-variants.{Started}
+use Rattle.chain_state.specs.declared.State.{State}
+use Rattle.chain_state.specs.Pending.{payloadPending}
+use Rattle.chain_state.specs.Start.{startOf}
 use Rattle.chain.specs.Run.{runOf}
 use Rattle.history.specs.Trace.{Event, traceOf, qwcRead, payloadTaken}
 

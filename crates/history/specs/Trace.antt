@@ -10,15 +10,15 @@ use Rattle.fields.specs.Fields.{if}
 use Rattle.fields.specs.Memory.{longAt}
 use Rattle.memories.specs.Lengths.{Lent}
 use Rattle.vif.specs.Step.{wordsTaken}
-use Rattle.chain.specs.declared.TagWords.{TagWords}
-use Rattle.chain.specs.declared.TagWords.the-variants.{Nothing as NoTagWords, From}
-use Rattle.chain.specs.declared.Payload.{Payload}
-use Rattle.chain.specs.declared.Payload.the-variants.{Nothing as NoPayload, Words}
+use Rattle.chain_state.specs.declared.TagWords.{TagWords}
+use Rattle.chain_state.specs.declared.TagWords.the-variants.{Nothing as NoTagWords, From}
+use Rattle.chain_state.specs.declared.Payload.{Payload}
+use Rattle.chain_state.specs.declared.Payload.the-variants.{Nothing as NoPayload, Words}
 use Rattle.chain.specs.declared.StepAnswer.{StepAnswer}
 use Rattle.chain.specs.declared.StepAnswer.the-variants.{Completed, Refused}
-use Rattle.chain.specs.declared.State.{State}
+use Rattle.chain_state.specs.declared.State.{State}
 use Rattle.chain.specs.Tags.{qwcOf, idOf}
-use Rattle.chain.specs.Range.{entryRefusal}
+use Rattle.chain_state.specs.Range.{entryRefusal}
 use Rattle.chain.specs.Step.{Stepped, fedUnit, vifTook, stepOf}
 use Rattle.chain.specs.Run.{done}
 

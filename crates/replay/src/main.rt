@@ -11,7 +11,7 @@ use cases::fill_bytes;
 use cases::fill_memories;
 use cases::fill_words;
 use cases::tell_damaged;
-use chain::State;
+use chain_state::State;
 use input::least;
 use input::read_case;
 use run::run_calls;

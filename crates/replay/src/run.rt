@@ -9,9 +9,9 @@ use blocks::emit_counts;
 use blocks::shown_block;
 use cases::emit_memories;
 use cases::tell_changes;
-use chain::StartAnswer;
-use chain::StartResult;
-use chain::State;
+use chain_state::StartAnswer;
+use chain_state::StartResult;
+use chain_state::State;
 use console::SetAnswer;
 use console::set_in_block;
 use state_block::state_in_block;
@@ -46,7 +46,7 @@ fn started(state: State, channel: u32, tadr: u32, tte: u32) -> StartResult {
             state,
         };
     }
-    chain::start(state, channel, tadr, tte == 1)
+    chain_state::start(state, channel, tadr, tte == 1)
 }
 
 fn start_call(out: &mut [u8; 65536], s: Running, case: Case, calls: &[u8], k: u32) -> Running {

@@ -1,7 +1,7 @@
 // What a case starts from, by its header.
 use super::Case;
 use blocks::block_at;
-use chain::State;
+use chain_state::State;
 use wire::word_at;
 
 pub(crate) fn case_of(header: &[u8]) -> Case {

@@ -10,13 +10,13 @@ use lib.Dec.{eqb, leb}
 use Rattle.fields.specs.Fields.{if}
 use Rattle.fields.specs.Parts.{withWords}
 use Rattle.fields.proofs.ChoiceLaws.{if-ind}
-use Rattle.chain.specs.declared.Stack.{Stack}
-use Rattle.chain.specs.declared.Stack.the-variants.{Empty, One, Two}
-use Rattle.chain.specs.declared.TagWords.{TagWords}
-use Rattle.chain.specs.declared.TagWords.the-variants.{Nothing as NoTagWords, From}
-use Rattle.chain.specs.declared.Payload.{Payload}
-use Rattle.chain.specs.declared.Payload.the-variants.{Nothing as NoPayload, Words}
-use Rattle.chain.specs.declared.State.{State}
+use Rattle.chain_state.specs.declared.Stack.{Stack}
+use Rattle.chain_state.specs.declared.Stack.the-variants.{Empty, One, Two}
+use Rattle.chain_state.specs.declared.TagWords.{TagWords}
+use Rattle.chain_state.specs.declared.TagWords.the-variants.{Nothing as NoTagWords, From}
+use Rattle.chain_state.specs.declared.Payload.{Payload}
+use Rattle.chain_state.specs.declared.Payload.the-variants.{Nothing as NoPayload, Words}
+use Rattle.chain_state.specs.declared.State.{State}
 use Rattle.state_block.specs.declared.ReadPath.{ReadPath}
 use Rattle.state_block.specs.declared.ReadUnit.{ReadUnit}
 use Rattle.state_block.specs.declared.ReadState.{ReadState}

@@ -8,11 +8,11 @@ use native.Mathlib.Omega.{arith}
 use lib.ListN.{getD, length, length-append}
 use Rattle.fields.specs.Fields.{if}
 use Rattle.fields.specs.Parts.{withWords}
-use Rattle.unpack.specs.declared.Format.{Format}
-use Rattle.unpack.specs.declared.NamedFormat.{NamedFormat}
-use Rattle.unpack.specs.declared.NamedFormat.the-variants.{Named, Missing}
-use Rattle.unpack.specs.Formats.{formatNumber, formatNamed}
-use Rattle.unpack.proofs.FormatLaws.{named-number, number-named}
+use Rattle.unpack_rules.specs.declared.Format.{Format}
+use Rattle.unpack_rules.specs.declared.NamedFormat.{NamedFormat}
+use Rattle.unpack_rules.specs.declared.NamedFormat.the-variants.{Named, Missing}
+use Rattle.unpack_rules.specs.Formats.{formatNumber, formatNamed}
+use Rattle.unpack_rules.proofs.FormatLaws.{named-number, number-named}
 use Rattle.vif_codes.specs.declared.Waiting.{Waiting}
 use Rattle.vif_codes.specs.declared.Waiting.the-variants.{Nothing, MaskDue, RowDue, ColDue, MpgDue, DirectDue, DirecthlDue, UnpackDue}
 use Rattle.vif_codes.specs.declared.Vif.{Vif}

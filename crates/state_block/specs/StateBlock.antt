@@ -7,14 +7,14 @@ use lib.Dec.{eqb, leb}
 use Rattle.fields.specs.Fields.{if}
 use Rattle.gif.specs.declared.Path.{Path}
 use Rattle.vif_codes.specs.declared.Vif.{Vif}
-use Rattle.chain.specs.declared.Stack.{Stack}
-use Rattle.chain.specs.declared.Stack.the-variants.{Empty, One, Two}
-use Rattle.chain.specs.declared.TagWords.{TagWords}
-use Rattle.chain.specs.declared.TagWords.the-variants.{Nothing as NoTagWords, From}
-use Rattle.chain.specs.declared.Payload.{Payload}
-use Rattle.chain.specs.declared.Payload.the-variants.{Nothing as NoPayload, Words}
-use Rattle.chain.specs.declared.State.{State}
-use Rattle.chain.specs.Start.{resetPath, resetUnit}
+use Rattle.chain_state.specs.declared.Stack.{Stack}
+use Rattle.chain_state.specs.declared.Stack.the-variants.{Empty, One, Two}
+use Rattle.chain_state.specs.declared.TagWords.{TagWords}
+use Rattle.chain_state.specs.declared.TagWords.the-variants.{Nothing as NoTagWords, From}
+use Rattle.chain_state.specs.declared.Payload.{Payload}
+use Rattle.chain_state.specs.declared.Payload.the-variants.{Nothing as NoPayload, Words}
+use Rattle.chain_state.specs.declared.State.{State}
+use Rattle.chain_state.specs.Start.{resetPath, resetUnit}
 use Rattle.state_block.specs.declared.ReadPath.{ReadPath}
 use Rattle.state_block.specs.declared.ReadUnit.{ReadUnit}
 use Rattle.state_block.specs.declared.ReadState.{ReadState}

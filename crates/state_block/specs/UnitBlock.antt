@@ -5,17 +5,17 @@ use mathlib.Core.List.{List, [], _∷_, _++_}
 use lib.ListN.{length, getD}
 use lib.Dec.{eqb}
 use Rattle.fields.specs.Fields.{if}
-use Rattle.unpack.specs.declared.Format.{Format}
-use Rattle.unpack.specs.declared.Format.the-variants.{S32}
-use Rattle.unpack.specs.declared.NamedFormat.{NamedFormat}
-use Rattle.unpack.specs.declared.NamedFormat.the-variants.{Named, Missing}
-use Rattle.unpack.specs.Formats.{formatNumber, formatNamed}
-use Rattle.unpack.specs.declared.Unpacking.{Unpacking}
+use Rattle.unpack_rules.specs.declared.Format.{Format}
+use Rattle.unpack_rules.specs.declared.Format.the-variants.{S32}
+use Rattle.unpack_rules.specs.declared.NamedFormat.{NamedFormat}
+use Rattle.unpack_rules.specs.declared.NamedFormat.the-variants.{Named, Missing}
+use Rattle.unpack_rules.specs.Formats.{formatNumber, formatNamed}
+use Rattle.unpack_rules.specs.declared.Unpacking.{Unpacking}
 use Rattle.vif_codes.specs.declared.Waiting.{Waiting}
 use Rattle.vif_codes.specs.declared.Waiting.the-variants.{Nothing, MaskDue, RowDue, ColDue, MpgDue, DirectDue, DirecthlDue, UnpackDue}
 use Rattle.vif_codes.specs.declared.Vif.{Vif}
 use Rattle.vif_codes.specs.Setters.{withWaiting}
-use Rattle.chain.specs.Start.{resetUnit}
+use Rattle.chain_state.specs.Start.{resetUnit}
 use Rattle.state_block.specs.declared.ReadFormat.{ReadFormat}
 use Rattle.state_block.specs.declared.ReadWaiting.{ReadWaiting}
 use Rattle.state_block.specs.declared.ReadUnit.{ReadUnit}

@@ -43,7 +43,7 @@ pub struct ReadPath {
 // What a format's number says, and whether it is a format's.
 pub(crate) struct ReadFormat {
     pub(crate) known: bool,
-    pub(crate) format: unpack::Format,
+    pub(crate) format: unpack_rules::Format,
 }
 
 // The code that a unit block says waits, and whether its words are one's.
@@ -61,5 +61,5 @@ pub struct ReadUnit {
 // What a state block holds, and whether it is a state's; where it is none's, `state` is one out of range.
 pub struct ReadState {
     pub known: bool,
-    pub state: chain::State,
+    pub state: chain_state::State,
 }

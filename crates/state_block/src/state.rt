@@ -15,10 +15,10 @@ use super::unit::unit_in_block;
 use super::words::bit;
 use super::words::both;
 use super::words::joined;
-use chain::Payload;
-use chain::Stack;
-use chain::State;
-use chain::TagWords;
+use chain_state::Payload;
+use chain_state::Stack;
+use chain_state::State;
+use chain_state::TagWords;
 use gif::Path;
 use vif_codes::Vif;
 ghost use mathlib.Core.Path.{_≡_};
@@ -189,7 +189,7 @@ fn held_state(block: &[u32], vif1: Vif, path2: Path, path3: Path, vif0: Vif) -> 
 fn no_state(channel: u32, used: u64) -> ReadState
     ensures { λ r. ⌜ r ≡ readState false (noState channel used) ⌝ }
 {
-    let reset = chain::reset();
+    let reset = chain_state::reset();
     ReadState {
         known: false,
         state: State {

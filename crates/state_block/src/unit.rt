@@ -7,9 +7,9 @@ use super::UNIT_WORDS;
 use super::WAITING_WORDS;
 use super::words::bit;
 use super::words::both;
-use unpack::Format;
-use unpack::NamedFormat;
-use unpack::Unpacking;
+use unpack_rules::Format;
+use unpack_rules::NamedFormat;
+use unpack_rules::Unpacking;
 use vif_codes::Vif;
 use vif_codes::Waiting;
 ghost use mathlib.Core.Path.{_≡_};
@@ -41,7 +41,7 @@ fn unpack_words(f: Format, u: Unpacking) -> [u32; WAITING_WORDS]
         u.due,
         u.address,
         u.count,
-        unpack::format_number(f),
+        unpack_rules::format_number(f),
         bit(u.usn),
         bit(u.masked),
         u.first,
@@ -136,7 +136,7 @@ fn no_format() -> ReadFormat
 fn format_numbered(n: u32) -> ReadFormat
     ensures { λ r. ⌜ r ≡ formatNumbered n ⌝ }
 {
-    match unpack::format_named(n) {
+    match unpack_rules::format_named(n) {
         NamedFormat::Named(f) => a_format(f),
         NamedFormat::Missing => no_format(),
     }
@@ -235,7 +235,7 @@ fn held_unit(block: &[u32], waiting: Waiting) -> Vif
 fn no_unit() -> ReadUnit
     ensures { λ r. ⌜ r ≡ readUnit false noUnit ⌝ }
 {
-    let reset = chain::reset();
+    let reset = chain_state::reset();
     let unit = reset.vif1;
     let waiting = Waiting::RowDue {
         due: 0,

@@ -8,8 +8,8 @@ use Rattle.gif.specs.Log.{logMost}
 use Rattle.memories.specs.declared.VifUnit.the-variants.{Vif1}
 use Rattle.memories.specs.Units.{dataWords, codeBytes}
 use Rattle.memories.specs.Lengths.{Lent}
-use Rattle.chain.specs.declared.StartResult.{StartResult}
-use Rattle.chain.specs.Start.{resetState}
+use Rattle.chain_state.specs.declared.StartResult.{StartResult}
+use Rattle.chain_state.specs.Start.{resetState}
 use Rattle.sheet.specs.declared.BuildAnswer.the-variants.{Built}
 use Rattle.sheet.specs.Records.{Record}
 use Rattle.sheet.specs.Reader.{Contents, valid, refused}

@@ -18,8 +18,8 @@ use Rattle.memories.proofs.LengthLaws.{fit-lengths}
 use Rattle.chain.specs.declared.Answer.{Answer}
 use Rattle.chain.specs.declared.Answer.the-variants.{Done, Allowance, Interrupt, Refused as RunRefused}
 use Rattle.chain.specs.declared.RunResult.{RunResult}
-use Rattle.chain.specs.declared.State.{State}
-use Rattle.chain.specs.Range.{entryRefusal}
+use Rattle.chain_state.specs.declared.State.{State}
+use Rattle.chain_state.specs.Range.{entryRefusal}
 use Rattle.chain.specs.Run.{leftBy, runOf}
 use Rattle.sheet.specs.declared.MatchAnswer.{MatchAnswer}
 use Rattle.sheet.specs.declared.MatchAnswer.the-variants.{Matched, Refused as MatchRefused}

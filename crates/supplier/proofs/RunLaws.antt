@@ -20,18 +20,18 @@ use Rattle.memories.specs.declared.VifUnit.the-variants.{Vif1}
 use Rattle.memories.specs.Lengths.{Lent, LengthsFit, lengthsRefusal}
 use Rattle.vif_codes.specs.declared.VifAnswer.{VifAnswer}
 use Rattle.vif_codes.specs.declared.VifAnswer.the-variants.{Word, Quadword, Refused as VifRefused}
-use Rattle.chain.specs.declared.StartAnswer.the-variants.{Started}
-use Rattle.chain.specs.declared.StartResult.{StartResult}
+use Rattle.chain_state.specs.declared.StartAnswer.the-variants.{Started}
+use Rattle.chain_state.specs.declared.StartResult.{StartResult}
 use Rattle.chain.specs.declared.StepResult.{StepResult}
-use Rattle.chain.specs.declared.TagWords.{TagWords}
-use Rattle.chain.specs.declared.TagWords.the-variants.{Nothing as NoTagWords, From}
-use Rattle.chain.specs.declared.Payload.{Payload}
-use Rattle.chain.specs.declared.Payload.the-variants.{Nothing as NoPayload, Words}
-use Rattle.chain.specs.declared.State.{State}
-use Rattle.chain.specs.Range.{unitOf, mainRefused, startInRange, channelInRange, stackInRange, tagsInRange, payloadInRange, tagsInside, payloadInside, entryRefusal}
-use Rattle.chain.specs.Start.{resetState, startResult, startedFrom, startOf}
+use Rattle.chain_state.specs.declared.TagWords.{TagWords}
+use Rattle.chain_state.specs.declared.TagWords.the-variants.{Nothing as NoTagWords, From}
+use Rattle.chain_state.specs.declared.Payload.{Payload}
+use Rattle.chain_state.specs.declared.Payload.the-variants.{Nothing as NoPayload, Words}
+use Rattle.chain_state.specs.declared.State.{State}
+use Rattle.chain_state.specs.Range.{unitOf, mainRefused, startInRange, channelInRange, stackInRange, tagsInRange, payloadInRange, tagsInside, payloadInside, entryRefusal}
+use Rattle.chain_state.specs.Start.{resetState, startResult, startedFrom, startOf}
 use Rattle.chain.specs.Tags.{tagState, tagRead, tagStep}
-use Rattle.chain.specs.Pending.{tagsAfter, payloadAfter}
+use Rattle.chain_state.specs.Pending.{tagsAfter, payloadAfter}
 use Rattle.chain.specs.Step.{Machine, machine, Stepped, steppedBy, fedUnit, afterVif, vifTook, vifGiven, afterGif, gifGiven, payloadStep, payloadOrTag, pendingOrTag, stepOf}
 use Rattle.chain.specs.Run.{Ran, stepsOf}
 use Rattle.chain.specs.Stops.{Reaches, here, step, Stops, at-end, at-allowance, at-interrupt, at-refusal}

@@ -20,8 +20,8 @@ use Rattle.memories.specs.Units.{quadwords, instructions, dataWords, codeBytes}
 use Rattle.memories.specs.Lengths.{Lent, LengthsFit}
 use Rattle.chain.specs.declared.Answer.{Answer}
 use Rattle.chain.specs.declared.Answer.the-variants.{Done, Allowance, Interrupt, Refused as RunRefused}
-use Rattle.chain.specs.declared.State.{State}
-use Rattle.chain.specs.Range.{entryRefusal}
+use Rattle.chain_state.specs.declared.State.{State}
+use Rattle.chain_state.specs.Range.{entryRefusal}
 use Rattle.chain.specs.Run.{Ran, runOf}
 use Rattle.sheet.specs.Records.{Record}
 use Rattle.sheet.specs.Reader.{Contents, valid, refused}

@@ -10,7 +10,7 @@ use Rattle.memories.specs.Units.{quadwords, instructions}
 use Rattle.memories.specs.Lengths.{Lent}
 use Rattle.chain.specs.declared.Answer.{Answer}
 use Rattle.chain.specs.declared.Answer.the-variants.{Done}
-use Rattle.chain.specs.Range.{entryRefusal}
+use Rattle.chain_state.specs.Range.{entryRefusal}
 use Rattle.chain.specs.Run.{Ran}
 use Rattle.sheet.specs.declared.BuildAnswer.the-variants.{Built}
 use Rattle.sheet.specs.Records.{Record}

@@ -2,7 +2,7 @@
 use super::CheckAnswer;
 use super::CheckResult;
 use super::verdict::judge;
-use chain::State;
+use chain_state::State;
 use sheet::StepsAnswer;
 ghost use mathlib.Core.Path.{_≡_};
 ghost use lib.ListN.{length};
@@ -15,7 +15,7 @@ ghost use Rattle.supplier.specs.Inner.{judgement, judgedRun, Runs, RunsB
 fn started() -> State
     ensures { λ r. ⌜ r ≡ begun ⌝ }
 {
-    chain::start(chain::reset(), 1, 0, false).state
+    chain_state::start(chain_state::reset(), 1, 0, false).state
 }
 
 fn copy_bytes(from: &[u8], to: &mut [u8])
@@ -113,7 +113,7 @@ pub fn check_chain(
     ensures { λ r. ⌜ checked (r .answer) (r .used) (r .counts) (lent (now («data» .exit)) (now (code .exit)) (now (log .exit)))
         ≡ checkOf (now (sheet .entry)) (now (main .entry)) (lent (now («data» .entry)) (now (code .entry)) (now (log .entry))) allowance ⌝ }
 {
-    let number = chain::entry_refusal(main, data, code, log, started());
+    let number = chain_state::entry_refusal(main, data, code, log, started());
     if number != 0 {
         return refused(number, 0);
     }

@@ -10,7 +10,7 @@ use Rattle.fields.specs.Fields.{if}
 use Rattle.fields.specs.Parts.{withWords}
 use Rattle.fields.proofs.PartLaws.{words-end}
 use Rattle.sheet.proofs.ListLaws.{sets-front}
-use Rattle.chain.specs.declared.State.{State}
+use Rattle.chain_state.specs.declared.State.{State}
 use Rattle.state_block.specs.StateBlock.{stateBlock}
 use Rattle.tejborun.specs.Buffers.{written, writtenBack}
 

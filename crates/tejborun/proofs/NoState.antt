@@ -14,12 +14,12 @@ use Rattle.fields.proofs.ChoiceLaws.{if-ind}
 use Rattle.memories.specs.declared.VifUnit.the-variants.{Vif1}
 use Rattle.memories.specs.Lengths.{Lent}
 use Rattle.memories.proofs.LengthLaws.{lengths-most}
-use Rattle.chain.specs.declared.State.{State}
-use Rattle.chain.specs.Range.{unitOf, channelInRange, startInRange, stateInRange, entryRefusal}
+use Rattle.chain_state.specs.declared.State.{State}
+use Rattle.chain_state.specs.Range.{unitOf, channelInRange, startInRange, stateInRange, entryRefusal}
 use Rattle.state_block.specs.Sizes.{stateSize}
 use Rattle.state_block.specs.StateBlock.{usedInBlock, noState, readState, stateInBlock}
 use Rattle.state_block.proofs.StateLaws.{none-read}
-use Rattle.chain.specs.Start.{startOf}
+use Rattle.chain_state.specs.Start.{startOf}
 use Rattle.chain.specs.Run.{runOf}
 use Rattle.conformance.specs.Play.{playRefusal, playOf}
 use Rattle.diagnosis.specs.Why.{whyOf}

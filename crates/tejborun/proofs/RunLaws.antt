@@ -10,20 +10,20 @@ use Rattle.fields.specs.Counts.{countNumbers}
 use Rattle.fields.specs.Fields.{if}
 use Rattle.fields.proofs.ChoiceLaws.{if-ind}
 use Rattle.memories.specs.Lengths.{Lent}
-use Rattle.chain.specs.declared.State.{State}
+use Rattle.chain_state.specs.declared.State.{State}
 use Rattle.state_block.specs.declared.ReadState.{ReadState}
-use Rattle.chain.specs.declared.StartAnswer.{StartAnswer}
-use Rattle.chain.specs.declared.StartAnswer.the-variants.{Started, Refused}
-use Rattle.chain.specs.declared.StartResult.{StartResult}
+use Rattle.chain_state.specs.declared.StartAnswer.{StartAnswer}
+use Rattle.chain_state.specs.declared.StartAnswer.the-variants.{Started, Refused}
+use Rattle.chain_state.specs.declared.StartResult.{StartResult}
 use Rattle.chain.specs.declared.RunResult.{RunResult}
 use Rattle.state_block.specs.Sizes.{stateSize}
 use Rattle.state_block.specs.StateBlock.{stateBlock, readState, stateInBlock}
 use Rattle.chain.specs.Step.{Machine}
-use Rattle.chain.specs.Start.{resetState, startNumber, startOf}
+use Rattle.chain_state.specs.Start.{resetState, startNumber, startOf}
 use Rattle.chain.specs.Run.{numberOf, leftBy, runOf}
 use Rattle.chain.proofs.ResumeLaws.{stopping-changes-nothing}
-use Rattle.chain.specs.Range.{unitOf}
-use Rattle.chain.specs.Setters.{withUnit}
+use Rattle.chain_state.specs.Range.{unitOf}
+use Rattle.chain_state.specs.Setters.{withUnit}
 use Rattle.console.specs.declared.SetAnswer.{SetAnswer}
 use Rattle.console.specs.Register.{setNumber, setOf}
 use Rattle.console.specs.Block.{unitHeld, setBlock, setInBlock}

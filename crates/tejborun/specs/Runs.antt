@@ -7,11 +7,11 @@ use lib.Dec.{eqb, ltb}
 use Rattle.fields.specs.Counts.{countNumbers}
 use Rattle.fields.specs.Fields.{if}
 use Rattle.memories.specs.Lengths.{Lent}
-use Rattle.chain.specs.declared.StartAnswer.{StartAnswer}
-use Rattle.chain.specs.declared.StartAnswer.the-variants.{Started, Refused}
-use Rattle.chain.specs.declared.StartResult.{StartResult}
+use Rattle.chain_state.specs.declared.StartAnswer.{StartAnswer}
+use Rattle.chain_state.specs.declared.StartAnswer.the-variants.{Started, Refused}
+use Rattle.chain_state.specs.declared.StartResult.{StartResult}
 use Rattle.state_block.specs.StateBlock.{stateBlock, stateInBlock}
-use Rattle.chain.specs.Start.{resetState, startNumber, startOf}
+use Rattle.chain_state.specs.Start.{resetState, startNumber, startOf}
 use Rattle.chain.specs.Run.{Ran, numberOf, runOf}
 use Rattle.console.specs.Register.{setNumber}
 use Rattle.console.specs.Block.{SetBlock, setInBlock}

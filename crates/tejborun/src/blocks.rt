@@ -1,5 +1,5 @@
 // State blocks, written back.
-use chain::State;
+use chain_state::State;
 ghost use mathlib.Core.Path.{_≡_};
 ghost use lib.ListN.{length};
 ghost use Rattle.state_block.specs.Sizes.{stateSize};

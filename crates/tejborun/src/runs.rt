@@ -3,7 +3,7 @@ use super::blocks::put_back;
 use super::blocks::put_state;
 use super::results::put_counts;
 use chain::Answer;
-use chain::StartAnswer;
+use chain_state::StartAnswer;
 use console::SetAnswer;
 use state_block::STATE_WORDS;
 use state_block::state_in_block;
@@ -11,7 +11,7 @@ ghost use mathlib.Core.Path.{_≡_};
 ghost use mathlib.Core.Bool.{not};
 ghost use lib.Dec.{eqb};
 ghost use Rattle.memories.specs.Lengths.{lent};
-ghost use Rattle.chain.specs.Start.{startNumber};
+ghost use Rattle.chain_state.specs.Start.{startNumber};
 ghost use Rattle.chain.specs.Run.{numberOf};
 ghost use Rattle.console.specs.Register.{setNumber};
 ghost use Rattle.tejborun.specs.Runs.{blocked, resetCall, started, startCall, setCall, left, runCall};
@@ -59,7 +59,7 @@ pub extern "C" fn tejborun_reset(block: &mut [u32]) -> u32
     if block.len() != STATE_WORDS {
         return 60;
     }
-    put_state(block, chain::reset());
+    put_state(block, chain_state::reset());
     0
 }
 
@@ -75,7 +75,7 @@ pub extern "C" fn tejborun_start(block: &mut [u32], channel: u32, tadr: u32, tte
     }
     let read = state_in_block(block);
     let given = read.state;
-    let r = chain::start(given, channel, tadr, tte == 1);
+    let r = chain_state::start(given, channel, tadr, tte == 1);
     let answer = r.answer;
     let state = r.state;
     put_back(block, started(answer), state);

@@ -10,11 +10,11 @@ use native.Mathlib.Omega.{arith}
 use borrow.Author.Tests.{ltb-true, ltb-false, le-ltb}
 use lib.ListN.{length, set}
 use Rattle.fields.specs.Memory.{wordAt}
-use Rattle.unpack.specs.Position.{filling, fills, vectorsBefore, positionOf}
-use Rattle.unpack.specs.Whole.{storeQuadword}
+use Rattle.unpack_rules.specs.Position.{filling, fills, vectorsBefore, positionOf}
+use Rattle.unpack_rules.specs.Whole.{storeQuadword}
 use Rattle.unpack.specs.Short.{quadFrom, storesFrom, wordsOfWrite, copyWords, CopyFits, Stride}
-use Rattle.unpack.proofs.CycleLaws.{plain-vectors, vectors-few, vectors-mono, fill-next, payload-next, fill-late, payload-early}
-use Rattle.unpack.proofs.WriteLaws.{plain-place, filling-place}
+use Rattle.unpack_rules.proofs.CycleLaws.{plain-vectors, vectors-few, vectors-mono, fill-next, payload-next, fill-late, payload-early}
+use Rattle.unpack_rules.proofs.WriteLaws.{plain-place, filling-place}
 
 -- ---- stores one after another
 

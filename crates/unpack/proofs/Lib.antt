@@ -1,13 +1,4 @@
--- Laws of the definitions, by subject; the crates above cite them.
-pub mod FormatLaws
-pub mod PayloadLaws
-pub mod VectorLaws
-pub mod CycleLaws
-pub mod WriteLaws
-pub mod StepLaws
-pub mod WholeLaws
-pub mod LengthLaws
-pub mod WordsLaws
+-- Laws of many writes at once.
 pub mod CopyLaws
 pub mod ShortLaws
 pub mod VectorsLaws

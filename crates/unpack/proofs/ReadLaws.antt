@@ -4,8 +4,7 @@ use mathlib.Core.Logic.{⊎-elim}
 use mathlib.Core.Bool.{Bool, true, false, _&&_}
 use mathlib.Core.List.{List, [], _∷_, _++_}
 use Prim.Native.Nat.{ℕ, zero, suc, _+_, _*_, _-_, _/_, _%_, _^_, _<_, _≤_, min}
-use native.Mathlib.Nat.{add-zero, sub-zero, add-mul, one-mul, mul-le-mul-left, mul-le-mul-right, div-mul-le-self, mod-lt, eq-or-lt-of-le, div-add-mod', mul-mod-left}
-use native.Mathlib.Numerals.{add-one}
+use native.Mathlib.Nat.{add-mul, one-mul, mul-le-mul-left, mul-le-mul-right, div-mul-le-self, mod-lt, eq-or-lt-of-le, div-add-mod', mul-mod-left}
 use native.Mathlib.Omega.{arith}
 use borrow.Author.Tests.{eqb-true, le-ltb}
 use lib.ListN.{length, getD, set, length-set}
@@ -13,25 +12,25 @@ use lib.Dec.{eqb}
 use lib.Seq.{getD-set-other, getD-set-same}
 use Rattle.fields.specs.Memory.{wordAt}
 use Rattle.fields.proofs.ChoiceLaws.{if-ind, and-left, and-right}
-use Rattle.unpack.specs.declared.Format.{Format}
-use Rattle.unpack.specs.declared.Unpacking.{Unpacking}
-use Rattle.unpack.specs.declared.Registers.{Registers}
-use Rattle.unpack.specs.Payload.{elementBits, elements, vectorBits, value, wholeVectors, isFive}
-use Rattle.unpack.specs.Vector.{fieldsOf, fiveFields, vectorAt}
-use Rattle.unpack.specs.Position.{filling, vectorsBefore, writesDone, positionOf}
-use Rattle.unpack.specs.Range.{payloadFor, UnpackingFits}
-use Rattle.unpack.specs.Write.{Written, written, lastVector, writesFrom}
-use Rattle.unpack.specs.Step.{takenWords, holds, acting}
-use Rattle.unpack.specs.Whole.{wordsFrom, takeWords, heldAfter, storeQuadword, takenBy, WordsLeft}
+use Rattle.unpack_rules.specs.declared.Format.{Format}
+use Rattle.unpack_rules.specs.declared.Unpacking.{Unpacking}
+use Rattle.unpack_rules.specs.declared.Registers.{Registers}
+use Rattle.unpack_rules.specs.Payload.{elementBits, elements, vectorBits, wholeVectors, isFive}
+use Rattle.unpack_rules.specs.Vector.{fieldsOf, fiveFields, vectorAt}
+use Rattle.unpack_rules.specs.Position.{filling, vectorsBefore, writesDone, positionOf}
+use Rattle.unpack_rules.specs.Range.{payloadFor, UnpackingFits}
+use Rattle.unpack_rules.specs.Write.{Written, written, lastVector, writesFrom}
+use Rattle.unpack_rules.specs.Step.{takenWords, holds, acting}
+use Rattle.unpack_rules.specs.Whole.{wordsFrom, takeWords, heldAfter, storeQuadword, takenBy, WordsLeft}
 use Rattle.unpack.specs.Short.{storesFrom, skipped}
 use Rattle.unpack.specs.Vectors.{vectorBytes, vectorIn, vectorFrom, quadOf, vectorOf, WritesFit, ReadsFit, VectorsFit}
-use Rattle.unpack.proofs.PayloadLaws.{width-of, few-elements, bits-some, whole-most, inside-words}
-use Rattle.unpack.proofs.CycleLaws.{plain-vectors, vectors-few, vectors-mono, vectors-zero, done-few, done-below, done-vectors, done-mono}
-use Rattle.unpack.proofs.StepLaws.{due-cycle, payload-few}
-use Rattle.unpack.proofs.WholeLaws.{whole-mono, same-writes, take-join}
+use Rattle.unpack_rules.proofs.PayloadLaws.{width-of, whole-most}
+use Rattle.unpack_rules.proofs.CycleLaws.{plain-vectors, vectors-few, vectors-mono, vectors-zero, done-few, done-below, done-vectors, done-mono}
+use Rattle.unpack_rules.proofs.StepLaws.{due-cycle, payload-few}
+use Rattle.unpack_rules.proofs.WholeLaws.{whole-mono, same-writes, take-join}
 use Rattle.unpack.proofs.CopyLaws.{same-stores, even-place}
 use Rattle.unpack.proofs.ShortLaws.{stored-writes, last-is, held-on, words-append, after-words}
-use Rattle.unpack.proofs.VectorsLaws.{scaled, begins, Begins, vectors-write}
+use Rattle.unpack.proofs.VectorsLaws.{scaled, begins, vectors-write}
 
 -- ---- a vector has four fields
 

@@ -12,26 +12,26 @@ use lib.Dec.{eqb}
 use Rattle.fields.specs.Fields.{if}
 use Rattle.fields.specs.Memory.{wordAt}
 use Rattle.fields.proofs.ChoiceLaws.{and-left, and-right, if-ind}
-use Rattle.unpack.specs.declared.Format.{Format}
-use Rattle.unpack.specs.declared.Format.the-variants.{S32, S16, S8, V2x32, V2x16, V2x8, V3x32, V3x16, V3x8, V4x32, V4x16, V4x8, V4x5}
-use Rattle.unpack.specs.declared.Unpacking.{Unpacking}
-use Rattle.unpack.specs.declared.Registers.{Registers}
-use Rattle.unpack.specs.Payload.{vectorBits, value, wholeVectors}
-use Rattle.unpack.specs.Vector.{vectorAt}
-use Rattle.unpack.specs.Position.{fills, vectorsBefore, writesDone, positionOf}
-use Rattle.unpack.specs.Mask.{maskOf, codeRow}
-use Rattle.unpack.specs.Range.{payloadFor, CycleFits, UnpackingFits}
-use Rattle.unpack.specs.Write.{Written, written, writeVector, registersAt, lastVector, writeAt, writesFrom}
-use Rattle.unpack.specs.Step.{takenWords, holds, acting, heldVector, doneAfter, wordOf, unpackWord}
-use Rattle.unpack.specs.Inner.{MemoryFits, VectorIn, WriteIn}
-use Rattle.unpack.specs.Whole.{payloadVector, fourWords, storeQuadword, takeWords, heldAfter, wordsFrom, takenBy, WordsLeft}
+use Rattle.unpack_rules.specs.declared.Format.{Format}
+use Rattle.unpack_rules.specs.declared.Format.the-variants.{S32, S16, S8, V2x32, V2x16, V2x8, V3x32, V3x16, V3x8, V4x32, V4x16, V4x8, V4x5}
+use Rattle.unpack_rules.specs.declared.Unpacking.{Unpacking}
+use Rattle.unpack_rules.specs.declared.Registers.{Registers}
+use Rattle.unpack_rules.specs.Payload.{vectorBits, value, wholeVectors}
+use Rattle.unpack_rules.specs.Vector.{vectorAt}
+use Rattle.unpack_rules.specs.Position.{fills, vectorsBefore, writesDone, positionOf}
+use Rattle.unpack_rules.specs.Mask.{maskOf, codeRow}
+use Rattle.unpack_rules.specs.Range.{payloadFor, CycleFits, UnpackingFits}
+use Rattle.unpack_rules.specs.Write.{Written, written, writeVector, registersAt, lastVector, writeAt, writesFrom}
+use Rattle.unpack_rules.specs.Step.{takenWords, holds, acting, heldVector, doneAfter, wordOf, unpackWord}
+use Rattle.unpack_rules.specs.Inner.{MemoryFits, VectorIn, WriteIn}
+use Rattle.unpack_rules.specs.Whole.{payloadVector, fourWords, storeQuadword, takeWords, heldAfter, wordsFrom, takenBy, WordsLeft}
 use Rattle.unpack.specs.Short.{isWhole, goesShort, quadFrom, storesFrom, wordsOfWrite, ShortFits, Ended, CopyFits, ShortWord, ShortCopy, ShortWords, skipped}
-use Rattle.unpack.proofs.VectorLaws.{Words, four-words}
-use Rattle.unpack.proofs.CycleLaws.{done-below, done-vectors, done-more, vectors-few, vectors-some, done-few, done-mono}
-use Rattle.unpack.proofs.WriteLaws.{plain-rows, plain-quadword}
-use Rattle.unpack.proofs.StepLaws.{word-taken, none-completed, write-in, due-cycle}
-use Rattle.unpack.proofs.WordsLaws.{unpacking-on}
-use Rattle.unpack.proofs.WholeLaws.{same-writes, writes-to, take-join, plain-codes, v4-vector, v4-words}
+use Rattle.unpack_rules.proofs.VectorLaws.{Words, four-words}
+use Rattle.unpack_rules.proofs.CycleLaws.{done-below, done-vectors, done-more, vectors-few, vectors-some, done-few, done-mono}
+use Rattle.unpack_rules.proofs.WriteLaws.{plain-rows, plain-quadword}
+use Rattle.unpack_rules.proofs.StepLaws.{word-taken, none-completed, write-in, due-cycle}
+use Rattle.unpack_rules.proofs.WordsLaws.{unpacking-on}
+use Rattle.unpack_rules.proofs.WholeLaws.{same-writes, writes-to, take-join, plain-codes, v4-vector, v4-words}
 use Rattle.unpack.proofs.CopyLaws.{same-stores}
 
 -- ---- which UNPACKs go the short way

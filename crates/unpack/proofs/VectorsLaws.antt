@@ -3,7 +3,7 @@ use mathlib.Core.Path.{_≡_, refl, sym, ap, _∙_}
 use mathlib.Core.Bool.{Bool, true, false, _&&_}
 use mathlib.Core.List.{List, [], _∷_}
 use Prim.Native.Nat.{ℕ, zero, suc, _+_, _*_, _-_, _/_, _%_, _^_, _<_, _≤_, min}
-use native.Mathlib.Nat.{add-zero, zero-add, mul-assoc, mul-comm, mul-left-comm, add-mul, mul-le-mul-left, mul-le-mul-right, suc-mul, mul-suc, div-one, div-add-mod', zero-mod, min-eq-right, mul-div-cancel, lt-of-mul-lt-mul-right, mul-add, mul-one, one-mul, sub-zero, mul-zero, mod-lt}
+use native.Mathlib.Nat.{add-zero, mul-assoc, mul-comm, mul-left-comm, add-mul, mul-le-mul-left, mul-le-mul-right, suc-mul, mul-suc, div-one, div-add-mod', zero-mod, mul-div-cancel, lt-of-mul-lt-mul-right, mul-add, mul-one, one-mul, sub-zero, mul-zero, mod-lt}
 use native.Mathlib.Omega.{arith}
 use borrow.Author.Tests.{leb-true, leb-false}
 use lib.ListN.{length, getD}
@@ -11,25 +11,25 @@ use lib.Dec.{leb}
 use lib.Seq.{getD-set-other}
 use Rattle.fields.specs.Fields.{if}
 use Rattle.fields.specs.Memory.{wordAt}
-use Rattle.unpack.specs.declared.Format.{Format}
-use Rattle.unpack.specs.declared.Unpacking.{Unpacking}
-use Rattle.unpack.specs.declared.Registers.{Registers}
-use Rattle.unpack.specs.Payload.{elementBits, elements, vectorBits, payloadWords, value, wholeVectors}
-use Rattle.unpack.specs.Vector.{element, extended, extendedAt, vectorAt}
-use Rattle.unpack.specs.Position.{filling, fills, vectorsBefore, writesDone, positionOf}
-use Rattle.unpack.specs.Mask.{rowOfCycle}
-use Rattle.unpack.specs.Range.{payloadFor}
-use Rattle.unpack.specs.Write.{fieldOf, putField, writtenAt, Written, written, writeVector, registersAt, lastVector, writeAt, writesFrom}
-use Rattle.unpack.specs.Step.{takenWords, acting, doneAfter}
-use Rattle.unpack.specs.Inner.{Width, eight, sixteen, whole}
-use Rattle.unpack.specs.Whole.{wordsFrom, takeWords, storeQuadword}
+use Rattle.unpack_rules.specs.declared.Format.{Format}
+use Rattle.unpack_rules.specs.declared.Unpacking.{Unpacking}
+use Rattle.unpack_rules.specs.declared.Registers.{Registers}
+use Rattle.unpack_rules.specs.Payload.{elementBits, elements, vectorBits, payloadWords, value, wholeVectors}
+use Rattle.unpack_rules.specs.Vector.{element, extended, extendedAt, vectorAt}
+use Rattle.unpack_rules.specs.Position.{filling, fills, vectorsBefore, writesDone}
+use Rattle.unpack_rules.specs.Mask.{rowOfCycle}
+use Rattle.unpack_rules.specs.Range.{payloadFor}
+use Rattle.unpack_rules.specs.Write.{fieldOf, putField, writtenAt, Written, written, writeVector, registersAt, lastVector, writeAt, writesFrom}
+use Rattle.unpack_rules.specs.Step.{takenWords, acting, doneAfter}
+use Rattle.unpack_rules.specs.Inner.{Width, eight, sixteen, whole}
+use Rattle.unpack_rules.specs.Whole.{wordsFrom, takeWords, storeQuadword}
 use Rattle.unpack.specs.Short.{storesFrom}
 use Rattle.unpack.specs.Vectors.{Scalar, vectorBytes, vectorIn, vectorFrom, quadOf, vectorOf, fieldsAfter, WritesFit}
-use Rattle.unpack.proofs.PayloadLaws.{width-of, few-elements, bits-most, bits-some, next-mul, inside-words}
-use Rattle.unpack.proofs.CycleLaws.{done-few, done-exactly, vectors-few}
-use Rattle.unpack.proofs.WriteLaws.{filling-at}
-use Rattle.unpack.proofs.VectorLaws.{Words, none, more, element-word, element-on, width-power, shifted as power}
-use Rattle.unpack.proofs.WholeLaws.{same-vector, same-place, same-writes, words-write}
+use Rattle.unpack_rules.proofs.PayloadLaws.{width-of, few-elements, bits-most, bits-some, next-mul, inside-words}
+use Rattle.unpack_rules.proofs.CycleLaws.{done-few, done-exactly, vectors-few}
+use Rattle.unpack_rules.proofs.WriteLaws.{filling-at}
+use Rattle.unpack_rules.proofs.VectorLaws.{Words, none, more, element-word, element-on, width-power, shifted as power}
+use Rattle.unpack_rules.proofs.WholeLaws.{same-vector, same-place, same-writes, words-write}
 use Rattle.unpack.proofs.CopyLaws.{stores-join, moved-stores, places-follow}
 use Rattle.unpack.proofs.ShortLaws.{word-below}
 

@@ -7,16 +7,16 @@ use mathlib.Core.List.{List, [], _∷_}
 use lib.ListN.{length, set}
 use lib.Dec.{eqb}
 use Rattle.fields.specs.Memory.{wordAt}
-use Rattle.unpack.specs.declared.Format.{Format}
-use Rattle.unpack.specs.declared.Format.the-variants.{S32, S16, S8, V2x32, V2x16, V2x8, V3x32, V3x16, V3x8, V4x32, V4x16, V4x8, V4x5}
-use Rattle.unpack.specs.declared.Unpacking.{Unpacking}
-use Rattle.unpack.specs.declared.Registers.{Registers}
-use Rattle.unpack.specs.Position.{addressMost, vectorsBefore}
-use Rattle.unpack.specs.Range.{CycleFits, UnpackingFits}
-use Rattle.unpack.specs.Write.{written}
-use Rattle.unpack.specs.Step.{unpackWord}
-use Rattle.unpack.specs.Inner.{MemoryFits}
-use Rattle.unpack.specs.Whole.{takeWords, takenBy, storeQuadword}
+use Rattle.unpack_rules.specs.declared.Format.{Format}
+use Rattle.unpack_rules.specs.declared.Format.the-variants.{S32, S16, S8, V2x32, V2x16, V2x8, V3x32, V3x16, V3x8, V4x32, V4x16, V4x8, V4x5}
+use Rattle.unpack_rules.specs.declared.Unpacking.{Unpacking}
+use Rattle.unpack_rules.specs.declared.Registers.{Registers}
+use Rattle.unpack_rules.specs.Position.{addressMost, vectorsBefore}
+use Rattle.unpack_rules.specs.Range.{CycleFits, UnpackingFits}
+use Rattle.unpack_rules.specs.Write.{written}
+use Rattle.unpack_rules.specs.Step.{unpackWord}
+use Rattle.unpack_rules.specs.Inner.{MemoryFits}
+use Rattle.unpack_rules.specs.Whole.{takeWords, takenBy, storeQuadword}
 
 -- the format whose vectors are four whole words
 abbrev pub isWhole : Format → Bool

@@ -4,17 +4,17 @@ use mathlib.Core.Path.{_≡_}
 use mathlib.Core.Bool.{Bool, false}
 use mathlib.Core.List.{List, [], _∷_}
 use lib.ListN.{length, getD}
-use Rattle.unpack.specs.declared.Format.{Format}
-use Rattle.unpack.specs.declared.Unpacking.{Unpacking}
-use Rattle.unpack.specs.declared.Registers.{Registers}
-use Rattle.unpack.specs.Payload.{elements, isFive, vectorBits, value}
-use Rattle.unpack.specs.Vector.{vectorAt}
-use Rattle.unpack.specs.Position.{addressMost, vectorsBefore}
-use Rattle.unpack.specs.Write.{fieldOf}
-use Rattle.unpack.specs.Range.{CycleFits, UnpackingFits}
-use Rattle.unpack.specs.Step.{takenWords}
-use Rattle.unpack.specs.Whole.{wordsFrom}
-use Rattle.unpack.specs.Inner.{MemoryFits}
+use Rattle.unpack_rules.specs.declared.Format.{Format}
+use Rattle.unpack_rules.specs.declared.Unpacking.{Unpacking}
+use Rattle.unpack_rules.specs.declared.Registers.{Registers}
+use Rattle.unpack_rules.specs.Payload.{elements, isFive, vectorBits, value}
+use Rattle.unpack_rules.specs.Vector.{vectorAt}
+use Rattle.unpack_rules.specs.Position.{addressMost, vectorsBefore}
+use Rattle.unpack_rules.specs.Write.{fieldOf}
+use Rattle.unpack_rules.specs.Range.{CycleFits, UnpackingFits}
+use Rattle.unpack_rules.specs.Step.{takenWords}
+use Rattle.unpack_rules.specs.Whole.{wordsFrom}
+use Rattle.unpack_rules.specs.Inner.{MemoryFits}
 
 -- S: a vector is one element, extended
 pub record Scalar (f : Format) : Type 0 where

@@ -1,17 +1,17 @@
 // Quadwords copied from main memory to data memory as they are.
-use super::Registers;
-use super::cycle::place_in_cycle;
-use super::cycle::smaller;
 use super::write::place;
 use super::write::store_quadword;
-use super::write::wrapped;
+use unpack_rules::Registers;
+use unpack_rules::place_in_cycle;
+use unpack_rules::smaller;
+use unpack_rules::wrapped;
 ghost use mathlib.Core.Path.{_≡_};
 ghost use Prim.Native.Nat.{ℕ, suc, _<_, _≤_, _+_, _*_, _-_, _%_, _^_};
 ghost use lib.ListN.{length};
 ghost use Rattle.fields.specs.Memory.{wordAt};
-ghost use Rattle.unpack.specs.Position.{addressMost, positionOf};
-ghost use Rattle.unpack.specs.Range.{CycleFits};
-ghost use Rattle.unpack.specs.Inner.{MemoryFits};
+ghost use Rattle.unpack_rules.specs.Position.{addressMost, positionOf};
+ghost use Rattle.unpack_rules.specs.Range.{CycleFits};
+ghost use Rattle.unpack_rules.specs.Inner.{MemoryFits};
 ghost use Rattle.unpack.specs.Short.{quadFrom, storesFrom, wordsOfWrite, copyWords, CopyFits, Stride};
 
 fn wide(x: u8) -> u32

@@ -1,26 +1,26 @@
 // V4-32 with M clear and MODE 0 by a short way: a vector's four words are stored as they came, and no elements are split.
-use super::Format;
-use super::Registers;
-use super::Unpacking;
 use super::copy::copy_writes;
 use super::copy::word_inside;
-use super::cycle::vectors_before;
 use super::cycle::writes_done;
 use super::words::held;
 use super::write::place;
 use super::write::store_quadword;
 use fields::word_at;
+use unpack_rules::Format;
+use unpack_rules::Registers;
+use unpack_rules::Unpacking;
+use unpack_rules::vectors_before;
 ghost use mathlib.Core.Path.{_≡_};
 ghost use mathlib.Core.Bool.{true};
 ghost use mathlib.Core.List.{[], _∷_};
 ghost use Prim.Native.Nat.{ℕ, _<_, _≤_, _+_, _*_, _-_, _%_, _^_};
 ghost use lib.ListN.{length};
 ghost use Rattle.fields.specs.Memory.{wordAt};
-ghost use Rattle.unpack.specs.declared.Unpacking.{Unpacking as UnpackingT};
-ghost use Rattle.unpack.specs.Position.{addressMost, positionOf};
-ghost use Rattle.unpack.specs.Range.{CycleFits};
-ghost use Rattle.unpack.specs.Inner.{MemoryFits};
-ghost use Rattle.unpack.specs.Whole.{wordsFrom};
+ghost use Rattle.unpack_rules.specs.declared.Unpacking.{Unpacking as UnpackingT};
+ghost use Rattle.unpack_rules.specs.Position.{addressMost, positionOf};
+ghost use Rattle.unpack_rules.specs.Range.{CycleFits};
+ghost use Rattle.unpack_rules.specs.Inner.{MemoryFits};
+ghost use Rattle.unpack_rules.specs.Whole.{wordsFrom};
 ghost use Rattle.unpack.specs.Short.{isWhole, goesShort, storesFrom, ShortFits, Ended, ShortWord, ShortCopy, ShortWords, skipped};
 
 fn is_whole(f: Format) -> bool

@@ -1,38 +1,36 @@
 // One payload word of an UNPACK.
-use super::ADDRESS_MOST;
-use super::ADDRESSES;
-use super::Format;
-use super::Registers;
-use super::Rows;
-use super::Unpacking;
 use super::cycle::vectors_after;
-use super::cycle::vectors_before;
 use super::cycle::writes_done;
-use super::mask::mask_of;
-use super::mask::row_of_cycle;
-use super::mask::unfold_mask;
-use super::payload::is_five;
 use super::payload::payload_words;
-use super::payload::vector_bits;
 use super::payload::whole_vectors;
-use super::range::cycle_in_range;
 use super::range::unpacking_in_range;
 use super::short::goes_short;
 use super::short::take_short;
 use super::vector::vector;
 use super::write::fill_at;
 use super::write::write_at;
+use unpack_rules::ADDRESS_MOST;
+use unpack_rules::ADDRESSES;
+use unpack_rules::Format;
+use unpack_rules::Registers;
+use unpack_rules::Rows;
+use unpack_rules::Unpacking;
+use unpack_rules::cycle_in_range;
+use unpack_rules::is_five;
+use unpack_rules::mask_of;
+use unpack_rules::row_of_cycle;
+use unpack_rules::unfold_mask;
+use unpack_rules::vector_bits;
+use unpack_rules::vectors_before;
 ghost use mathlib.Core.Path.{_≡_};
-ghost use mathlib.Core.List.{[], _∷_};
+ghost use mathlib.Core.List.{[]};
 ghost use Prim.Native.Nat.{_-_, _≤_, _+_};
-ghost use lib.ListN.{length};
 ghost use Rattle.fields.specs.Fields.{if};
-ghost use Rattle.unpack.specs.Payload.{isFive};
-ghost use Rattle.unpack.specs.Mask.{unfolded};
-ghost use Rattle.unpack.specs.Write.{written, writeVector, writesFrom};
-ghost use Rattle.unpack.specs.Range.{CycleFits, UnpackingFits};
-ghost use Rattle.unpack.specs.Inner.{MemoryFits, VectorIn, WordFits, CompletedFits, completedWrites, UnfedFits};
-ghost use Rattle.unpack.specs.Step.{acting, heldVector, wordOf, unpackWord, left, acceptable, takeOf, unfedAcceptable, unfedOf};
+ghost use Rattle.unpack_rules.specs.Payload.{isFive};
+ghost use Rattle.unpack_rules.specs.Write.{written, writesFrom};
+ghost use Rattle.unpack_rules.specs.Range.{CycleFits, UnpackingFits};
+ghost use Rattle.unpack_rules.specs.Inner.{MemoryFits, VectorIn, WordFits, CompletedFits, completedWrites, UnfedFits};
+ghost use Rattle.unpack_rules.specs.Step.{acting, heldVector, unpackWord, left, acceptable, takeOf, unfedAcceptable, unfedOf};
 
 // The registers as an UNPACK reads them.
 pub(crate) fn acting_registers(f: Format, u: Unpacking, r: Registers) -> Registers

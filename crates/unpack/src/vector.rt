@@ -1,15 +1,16 @@
 // A vector's four fields from the payload words that hold it.
-use super::Format;
-use super::payload::element_bits;
-use super::payload::elements_of;
-use super::payload::is_five;
+use unpack_rules::Format;
+use unpack_rules::element_bits;
+use unpack_rules::elements_of;
+use unpack_rules::five_fields;
+use unpack_rules::is_five;
 ghost use mathlib.Core.Path.{_≡_};
 ghost use mathlib.Core.List.{[], _∷_};
 ghost use Prim.Native.Nat.{_^_, _≤_, _<_};
 ghost use lib.ListN.{getD};
-ghost use Rattle.unpack.specs.Payload.{value};
-ghost use Rattle.unpack.specs.Vector.{extended, element, fiveFields, vectorAt};
-ghost use Rattle.unpack.specs.Inner.{ElementFits, VectorFits};
+ghost use Rattle.unpack_rules.specs.Payload.{value};
+ghost use Rattle.unpack_rules.specs.Vector.{extended, element, vectorAt};
+ghost use Rattle.unpack_rules.specs.Inner.{ElementFits, VectorFits};
 
 // An element of a width as 32 bits.
 pub(crate) fn extend(x: u32, width: u32, usn: bool) -> u32
@@ -54,17 +55,6 @@ fn extended_at(a: u32, b: u32, c: u32, d: u32, width: u32, usn: bool, at: u32) -
     ensures { λ r. ⌜ r ≡ extended width usn (element width (value (a ∷ b ∷ c ∷ d ∷ [])) at 0) ⌝ }
 {
     extend(element_at(a, b, c, d, width, at), width, usn)
-}
-
-pub(crate) fn five_fields(h: u32) -> [u32; 4]
-    ensures { λ r. ⌜ r ≡ fiveFields h ⌝ }
-{
-    [
-        h % 32 * 8,
-        h / 32 % 32 * 8,
-        h / 1024 % 32 * 8,
-        h / 32768 % 2 * 128,
-    ]
 }
 
 // The four data fields of the vector that starts at a bit of four words.

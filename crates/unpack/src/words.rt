@@ -1,11 +1,5 @@
 // Payload words of an UNPACK taken at once, from main memory.
-use super::Format;
 use super::MAIN_MOST;
-use super::Registers;
-use super::Unpacking;
-use super::WordsTaken;
-use super::cycle::vectors_before;
-use super::payload::elements_of;
 use super::payload::payload_words;
 use super::payload::whole_vectors;
 use super::short::goes_short;
@@ -16,14 +10,20 @@ use super::step::acceptable_input;
 use super::step::write_completed;
 use super::vectors::take_vectors;
 use fields::word_at;
+use unpack_rules::Format;
+use unpack_rules::Registers;
+use unpack_rules::Unpacking;
+use unpack_rules::WordsTaken;
+use unpack_rules::elements_of;
+use unpack_rules::vectors_before;
 ghost use mathlib.Core.Path.{_≡_};
 ghost use Prim.Native.Nat.{_+_, _-_, _%_, _≤_, _<_};
-ghost use Rattle.unpack.specs.Payload.{elements};
-ghost use Rattle.unpack.specs.Write.{written};
-ghost use Rattle.unpack.specs.Range.{CycleFits, UnpackingFits};
-ghost use Rattle.unpack.specs.Inner.{MemoryFits};
-ghost use Rattle.unpack.specs.Step.{holds};
-ghost use Rattle.unpack.specs.Whole.{wordsFrom, takenBy, wordsLeft, wordsAcceptable, takeWordsOf};
+ghost use Rattle.unpack_rules.specs.Payload.{elements};
+ghost use Rattle.unpack_rules.specs.Write.{written};
+ghost use Rattle.unpack_rules.specs.Range.{CycleFits, UnpackingFits};
+ghost use Rattle.unpack_rules.specs.Inner.{MemoryFits};
+ghost use Rattle.unpack_rules.specs.Step.{holds};
+ghost use Rattle.unpack_rules.specs.Whole.{wordsFrom, takenBy, wordsLeft, wordsAcceptable, takeWordsOf};
 
 fn one_less(due: u32) -> u32
     ensures { λ r. ⌜ r ≡ due - 1 ⌝ }

@@ -1,71 +1,30 @@
 // Vectors written to data memory.
-use super::Registers;
-use super::cycle::cycles_before;
-use super::cycle::is_fill;
-use super::cycle::place_in_cycle;
+use unpack_rules::Registers;
+use unpack_rules::cycles_before;
+use unpack_rules::field;
+use unpack_rules::is_plain;
+use unpack_rules::mode_at;
+use unpack_rules::next_rows;
+use unpack_rules::place_in_cycle;
+use unpack_rules::wrapped;
 ghost use mathlib.Core.Path.{_≡_};
 ghost use mathlib.Core.Bool.{false};
 ghost use mathlib.Core.List.{[], _∷_};
-ghost use Prim.Native.Nat.{_<_, _≤_, _+_, _*_, _%_};
+ghost use Prim.Native.Nat.{_<_, _≤_, _+_, _*_};
 ghost use lib.ListN.{length, getD};
 ghost use Rattle.fields.specs.Fields.{if};
-ghost use Rattle.unpack.specs.Position.{filling, addressMost, positionOf};
-ghost use Rattle.unpack.specs.Mask.{rowOfCycle, codeRow};
-ghost use Rattle.unpack.specs.Write.{added, rowOf, dataOf, fieldOf, rowsAfter, putField, writtenAt, written, writeVector, registersAt};
-ghost use Rattle.unpack.specs.Whole.{storeQuadword};
-ghost use Rattle.unpack.specs.Range.{CycleFits};
-ghost use Rattle.unpack.specs.Inner.{MemoryFits, plain};
-
-fn add(x: u32, y: u32) -> u32
-    ensures { λ r. ⌜ r ≡ added x y ⌝ }
-{
-    std::num::wrapping_add_u32(x, y)
-}
-
-// Without a branch, so that the four fields of a write are computed side by side.
-fn choose(first: bool, x: u32, y: u32) -> u32
-    ensures { λ r. ⌜ r ≡ if first x y ⌝ }
-{
-    if first { x } else { y }
-}
-
-fn next_row(code: u32, mode: u32, x: u32, row: u32) -> u32
-    ensures { λ r. ⌜ r ≡ rowOf code mode x row ⌝ }
-{
-    let next = choose(mode == 2, add(x, row), row);
-    choose(code == 0, next, row)
-}
-
-fn data_of(mode: u32, x: u32, row: u32) -> u32
-    ensures { λ r. ⌜ r ≡ dataOf mode x row ⌝ }
-{
-    let sum = add(x, row);
-    choose(mode == 1, sum, choose(mode == 2, sum, x))
-}
-
-pub(crate) fn field(code: u32, mode: u32, x: u32, row: u32, col: u32, old: u32) -> u32
-    ensures { λ r. ⌜ r ≡ fieldOf code mode x row col old ⌝ }
-{
-    let other = choose(code == 1, row, choose(code == 2, col, old));
-    choose(code == 0, data_of(mode, x, row), other)
-}
+ghost use Rattle.unpack_rules.specs.Position.{filling, addressMost, positionOf};
+ghost use Rattle.unpack_rules.specs.Mask.{rowOfCycle, codeRow};
+ghost use Rattle.unpack_rules.specs.Write.{rowsAfter, putField, writtenAt, written, writeVector, registersAt};
+ghost use Rattle.unpack_rules.specs.Whole.{storeQuadword};
+ghost use Rattle.unpack_rules.specs.Range.{CycleFits};
+ghost use Rattle.unpack_rules.specs.Inner.{MemoryFits};
 
 fn put_field(data: &mut [u32], at: usize, code: u32, mode: u32, x: u32, row: u32, col: u32)
     requires { ⌜ at < length (now «data») ⌝ }
     ensures { λ r. ⌜ now («data» .exit) ≡ putField (now («data» .entry)) at code mode x row col ⌝ }
 {
     data[at] = field(code, mode, x, row, col, data[at]);
-}
-
-pub(crate) fn next_rows(codes: [u32; 4], mode: u32, fields: [u32; 4], row: [u32; 4]) -> [u32; 4]
-    ensures { λ r. ⌜ r ≡ rowsAfter codes mode fields row ⌝ }
-{
-    [
-        next_row(codes[0], mode, fields[0], row[0]),
-        next_row(codes[1], mode, fields[1], row[1]),
-        next_row(codes[2], mode, fields[2], row[2]),
-        next_row(codes[3], mode, fields[3], row[3]),
-    ]
 }
 
 // The four fields of a quadword.
@@ -107,25 +66,6 @@ pub(crate) fn store_quadword(data: &mut [u32], quad: usize, words: [u32; 4])
     store_words(data, quad, words[0], words[1], words[2], words[3]);
 }
 
-// Whether a write stores its data as it is and leaves ROW.
-fn is_plain(codes: [u32; 4], mode: u32) -> bool
-    ensures { λ r. ⌜ r ≡ plain codes mode ⌝ }
-{
-    if mode != 0 {
-        return false;
-    }
-    if codes[0] != 0 {
-        return false;
-    }
-    if codes[1] != 0 {
-        return false;
-    }
-    if codes[2] != 0 {
-        return false;
-    }
-    codes[3] == 0
-}
-
 fn write_quadword(
     data: &mut [u32],
     quad: usize,
@@ -146,14 +86,6 @@ fn write_quadword(
     next_rows(codes, mode, fields, row)
 }
 
-// A place modulo the memory's size.
-pub(crate) fn wrapped(size: u32, at: u32) -> u32
-    requires { ⌜ 0 < size ⌝ }
-    ensures { λ r. ⌜ r ≡ at % size ⌝ }
-{
-    if at < size { at } else { at % size }
-}
-
 // The quadword that a write goes to, where none fills.
 fn position(size: u32, address: u32, cl: u32, wl: u32, i: u32) -> u32
     requires { ⌜ CycleFits cl wl × (filling cl wl ≡ false) × (0 < size) × (address ≤ addressMost) × (i ≤ 255) ⌝ }
@@ -172,14 +104,6 @@ pub(crate) fn place(size: u32, address: u32, cl: u32, wl: u32, i: u32) -> u32
         return wrapped(size, address + i);
     }
     position(size, address, cl, wl, i)
-}
-
-// MODE of write i: a fill is without.
-fn mode_at(r: Registers, i: u32) -> u32
-    requires { ⌜ CycleFits (r .cl) (r .wl) ⌝ }
-    ensures { λ m. ⌜ m ≡ registersAt r i .mode ⌝ }
-{
-    if is_fill(r.cl, r.wl, i) { 0 } else { r.mode }
 }
 
 // Write i of an UNPACK, with the mask's codes and COL of its row.

@@ -25,16 +25,16 @@ use Rattle.gif.proofs.FeedLaws.{Takes, none, more, feed-quadwords, feed-few, ta
 use Rattle.memories.specs.declared.VifUnit.{VifUnit}
 use Rattle.memories.specs.Units.{quadwords, instructions}
 use Rattle.memories.specs.Lengths.{Lent, lent}
-use Rattle.unpack.specs.declared.Format.{Format}
-use Rattle.unpack.specs.declared.Unpacking.{Unpacking}
-use Rattle.unpack.specs.declared.Registers.{Registers}
-use Rattle.unpack.specs.declared.WordsTaken.{WordsTaken}
-use Rattle.unpack.specs.Write.{Written, written}
-use Rattle.unpack.specs.Step.{holds, unpackWord, acceptable}
-use Rattle.unpack.specs.Whole.{takeWords, heldAfter, wordsFrom, WordsLeft, wordsLeft, takenBy, wordsAcceptable, takeWordsOf}
-use Rattle.unpack.proofs.StepLaws.{acceptable-fits, fits-cycle, fits-unpacking}
-use Rattle.unpack.proofs.LengthLaws.{word-length}
-use Rattle.unpack.proofs.WordsLaws.{unpacking-on}
+use Rattle.unpack_rules.specs.declared.Format.{Format}
+use Rattle.unpack_rules.specs.declared.Unpacking.{Unpacking}
+use Rattle.unpack_rules.specs.declared.Registers.{Registers}
+use Rattle.unpack_rules.specs.declared.WordsTaken.{WordsTaken}
+use Rattle.unpack_rules.specs.Write.{Written, written}
+use Rattle.unpack_rules.specs.Step.{holds, unpackWord, acceptable}
+use Rattle.unpack_rules.specs.Whole.{takeWords, heldAfter, wordsFrom, WordsLeft, wordsLeft, takenBy, wordsAcceptable, takeWordsOf}
+use Rattle.unpack_rules.proofs.StepLaws.{acceptable-fits, fits-cycle, fits-unpacking}
+use Rattle.unpack_rules.proofs.LengthLaws.{word-length}
+use Rattle.unpack_rules.proofs.WordsLaws.{unpacking-on}
 use Rattle.vif_codes.specs.declared.Incoming.{Incoming}
 use Rattle.vif_codes.specs.declared.Incoming.the-variants.{Word0}
 use Rattle.vif_codes.specs.declared.Waiting.{Waiting}

@@ -21,17 +21,17 @@ use Rattle.gif.specs.declared.Path.{Path}
 use Rattle.memories.specs.declared.VifUnit.{VifUnit}
 use Rattle.memories.specs.Units.{quadwords, instructions}
 use Rattle.memories.specs.Lengths.{Lent, lent}
-use Rattle.unpack.specs.declared.Format.{Format}
-use Rattle.unpack.specs.declared.Unpacking.{Unpacking}
-use Rattle.unpack.specs.declared.Registers.{Registers}
-use Rattle.unpack.specs.declared.Rows.{Rows}
-use Rattle.unpack.specs.declared.WordsTaken.{WordsTaken}
-use Rattle.unpack.specs.Write.{Written, written}
-use Rattle.unpack.specs.Step.{Left as UnpackLeft, left as unpackLeft, holds, unpackWord, acceptable, takeOf as unpackTakeOf}
-use Rattle.unpack.specs.Whole.{takeWords, heldAfter, wordsFrom, WordsLeft, wordsLeft, takenBy, wordsAcceptable, takeWordsOf}
-use Rattle.unpack.proofs.StepLaws.{acceptable-fits, fits-cycle, fits-unpacking}
-use Rattle.unpack.proofs.LengthLaws.{word-length}
-use Rattle.unpack.proofs.WordsLaws.{unpacking-on}
+use Rattle.unpack_rules.specs.declared.Format.{Format}
+use Rattle.unpack_rules.specs.declared.Unpacking.{Unpacking}
+use Rattle.unpack_rules.specs.declared.Registers.{Registers}
+use Rattle.unpack_rules.specs.declared.Rows.{Rows}
+use Rattle.unpack_rules.specs.declared.WordsTaken.{WordsTaken}
+use Rattle.unpack_rules.specs.Write.{Written, written}
+use Rattle.unpack_rules.specs.Step.{Left as UnpackLeft, left as unpackLeft, holds, unpackWord, acceptable, takeOf as unpackTakeOf}
+use Rattle.unpack_rules.specs.Whole.{takeWords, heldAfter, wordsFrom, WordsLeft, wordsLeft, takenBy, wordsAcceptable, takeWordsOf}
+use Rattle.unpack_rules.proofs.StepLaws.{acceptable-fits, fits-cycle, fits-unpacking}
+use Rattle.unpack_rules.proofs.LengthLaws.{word-length}
+use Rattle.unpack_rules.proofs.WordsLaws.{unpacking-on}
 use Rattle.vif_codes.specs.declared.Code.{Code}
 use Rattle.vif_codes.specs.declared.Code.the-variants.{Nop, Stcycl, Offset, Base, Itop, Stmod, Mskpath3, Mark, Flushe, Flush, Flusha, Mscal, Mscalf, Mscnt, Stmask, Strow, Stcol, Mpg, Direct, Directhl, Unpack}
 use Rattle.vif_codes.specs.declared.CodeResult.{CodeResult}

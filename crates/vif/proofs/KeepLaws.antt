@@ -21,8 +21,8 @@ use Rattle.gif.proofs.StepLaws.{Wrote, step-wrote}
 use Rattle.memories.specs.declared.VifUnit.{VifUnit}
 use Rattle.memories.specs.Units.{quadwords, instructions}
 use Rattle.memories.specs.Lengths.{Lent}
-use Rattle.unpack.specs.Write.{written}
-use Rattle.unpack.proofs.LengthLaws.{word-length}
+use Rattle.unpack_rules.specs.Write.{written}
+use Rattle.unpack_rules.proofs.LengthLaws.{word-length}
 use Rattle.vif_codes.specs.declared.Incoming.{Incoming}
 use Rattle.vif_codes.specs.declared.Incoming.the-variants.{Word0, Word1, Word2, Word3}
 use Rattle.vif_codes.specs.declared.VifAnswer.the-variants.{Word, Quadword, Refused}

@@ -17,9 +17,9 @@ use Rattle.gif.proofs.RangeLaws.{log-fits}
 use Rattle.gif.proofs.StepLaws.{step-ranged}
 use Rattle.memories.specs.declared.VifUnit.{VifUnit}
 use Rattle.memories.specs.Lengths.{Lent}
-use Rattle.unpack.specs.Range.{cycleInRange}
-use Rattle.unpack.specs.Step.{holds}
-use Rattle.unpack.proofs.StepLaws.{unpacking-fits, fits-unpacking}
+use Rattle.unpack_rules.specs.Range.{cycleInRange}
+use Rattle.unpack_rules.specs.Step.{holds}
+use Rattle.unpack_rules.proofs.StepLaws.{unpacking-fits, fits-unpacking}
 use Rattle.vif_codes.specs.declared.Incoming.{Incoming}
 use Rattle.vif_codes.specs.declared.Incoming.the-variants.{Word0, Word1, Word2, Word3}
 use Rattle.vif_codes.specs.declared.Waiting.{Waiting}

@@ -11,13 +11,13 @@ use Rattle.fields.proofs.ChoiceLaws.{and-right}
 use Rattle.memories.specs.declared.VifUnit.{VifUnit}
 use Rattle.memories.specs.Units.{quadwords, instructions, dataWords, codeBytes}
 use Rattle.memories.proofs.UnitLaws.{quadwords-some, quadwords-most, instructions-some, instructions-most}
-use Rattle.unpack.specs.declared.Format.{Format}
-use Rattle.unpack.specs.declared.Unpacking.{Unpacking}
-use Rattle.unpack.specs.Position.{addresses, addressMost}
-use Rattle.unpack.specs.Range.{cycleInRange}
-use Rattle.unpack.specs.Inner.{MemoryFits}
-use Rattle.unpack.specs.Step.{acceptable, unpackingOf, unfedAcceptable}
-use Rattle.unpack.proofs.StepLaws.{unpacking-fits, count-few, accepted-cycle}
+use Rattle.unpack_rules.specs.declared.Format.{Format}
+use Rattle.unpack_rules.specs.declared.Unpacking.{Unpacking}
+use Rattle.unpack_rules.specs.Position.{addresses, addressMost}
+use Rattle.unpack_rules.specs.Range.{cycleInRange}
+use Rattle.unpack_rules.specs.Inner.{MemoryFits}
+use Rattle.unpack_rules.specs.Step.{acceptable, unpackingOf, unfedAcceptable}
+use Rattle.unpack_rules.proofs.StepLaws.{unpacking-fits, count-few, accepted-cycle}
 use Rattle.vif_codes.specs.declared.Waiting.the-variants.{MpgDue, UnpackDue}
 use Rattle.vif_codes.specs.declared.Vif.{Vif}
 use Rattle.vif_codes.specs.Range.{waitingInRange, unitInRange}

@@ -25,17 +25,17 @@ use Rattle.gif.proofs.SheetLaws.{sheetPlace, took, sheet-tag, sheet-data}
 use Rattle.memories.specs.declared.VifUnit.{VifUnit}
 use Rattle.memories.specs.Units.{quadwords, instructions}
 use Rattle.memories.specs.Lengths.{Lent, lent}
-use Rattle.unpack.specs.declared.Format.the-variants.{V4x32}
-use Rattle.unpack.specs.Payload.{payloadWords, vectorBits}
-use Rattle.unpack.specs.Write.{Written, written}
-use Rattle.unpack.specs.Position.{addresses}
-use Rattle.unpack.specs.Range.{cycleRefused}
-use Rattle.unpack.specs.Step.{countOf}
-use Rattle.unpack.specs.Whole.{copyVectors, fourWords}
-use Rattle.unpack.proofs.FormatLaws.{named-number}
-use Rattle.unpack.proofs.CycleLaws.{plain-vectors}
-use Rattle.unpack.proofs.VectorLaws.{Words}
-use Rattle.unpack.proofs.WholeLaws.{v4-payload}
+use Rattle.unpack_rules.specs.declared.Format.the-variants.{V4x32}
+use Rattle.unpack_rules.specs.Payload.{payloadWords, vectorBits}
+use Rattle.unpack_rules.specs.Write.{Written, written}
+use Rattle.unpack_rules.specs.Position.{addresses}
+use Rattle.unpack_rules.specs.Range.{cycleRefused}
+use Rattle.unpack_rules.specs.Step.{countOf}
+use Rattle.unpack_rules.specs.Whole.{copyVectors, fourWords}
+use Rattle.unpack_rules.proofs.FormatLaws.{named-number}
+use Rattle.unpack_rules.proofs.CycleLaws.{plain-vectors}
+use Rattle.unpack_rules.proofs.VectorLaws.{Words}
+use Rattle.unpack_rules.proofs.WholeLaws.{v4-payload}
 use Rattle.vif_codes.specs.declared.Code.the-variants.{Nop, Stcycl, Stmod, Mscal, Mpg, Direct, Unpack}
 use Rattle.vif_codes.specs.declared.UnpackCode.{UnpackCode}
 use Rattle.vif_codes.specs.declared.Decoded.the-variants.{Known}

@@ -20,11 +20,11 @@ use Rattle.memories.specs.declared.VifUnit.{VifUnit}
 use Rattle.memories.specs.Units.{quadwords}
 use Rattle.memories.specs.Lengths.{Lent, lent, lengthsRefusal}
 use Rattle.memories.proofs.LengthLaws.{lengths-fit, fit-lengths}
-use Rattle.unpack.specs.declared.Format.{Format}
-use Rattle.unpack.specs.declared.Unpacking.{Unpacking}
-use Rattle.unpack.specs.declared.Registers.{Registers}
-use Rattle.unpack.specs.declared.Rows.{Rows}
-use Rattle.unpack.specs.Step.{Left as UnpackLeft, left as unpackLeft, takeOf as unpackTakeOf}
+use Rattle.unpack_rules.specs.declared.Format.{Format}
+use Rattle.unpack_rules.specs.declared.Unpacking.{Unpacking}
+use Rattle.unpack_rules.specs.declared.Registers.{Registers}
+use Rattle.unpack_rules.specs.declared.Rows.{Rows}
+use Rattle.unpack_rules.specs.Step.{Left as UnpackLeft, left as unpackLeft, takeOf as unpackTakeOf}
 use Rattle.vif_codes.specs.declared.Code.{Code}
 use Rattle.vif_codes.specs.declared.Decoded.the-variants.{Known}
 use Rattle.vif_codes.specs.declared.Incoming.{Incoming}

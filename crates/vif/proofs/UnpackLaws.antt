@@ -15,17 +15,17 @@ use Rattle.gif.specs.declared.Path.{Path}
 use Rattle.memories.specs.declared.VifUnit.{VifUnit}
 use Rattle.memories.specs.Units.{quadwords}
 use Rattle.memories.specs.Lengths.{Lent, lent}
-use Rattle.unpack.specs.declared.Format.{Format}
-use Rattle.unpack.specs.declared.Unpacking.{Unpacking}
-use Rattle.unpack.specs.Write.{Written, written}
-use Rattle.unpack.specs.Range.{cycleRefused, cycleInRange, payloadFor, unpackingInRange}
-use Rattle.unpack.specs.Step.{countOf, unpackingOf, holds, unpackWord}
-use Rattle.unpack.specs.Whole.{takeWords, heldAfter}
-use Rattle.unpack.proofs.CycleLaws.{vectors-some}
-use Rattle.unpack.proofs.PayloadLaws.{payload-some}
-use Rattle.unpack.proofs.StepLaws.{count-range, cycle-fits, unpacking-fits, due-cycle}
-use Rattle.unpack.proofs.VectorLaws.{Words, none as no-word, more as a-word}
-use Rattle.unpack.proofs.WholeLaws.{payload-theorem, payload-due, take-join, unfed-theorem}
+use Rattle.unpack_rules.specs.declared.Format.{Format}
+use Rattle.unpack_rules.specs.declared.Unpacking.{Unpacking}
+use Rattle.unpack_rules.specs.Write.{Written, written}
+use Rattle.unpack_rules.specs.Range.{cycleRefused, cycleInRange, payloadFor, unpackingInRange}
+use Rattle.unpack_rules.specs.Step.{countOf, unpackingOf, holds, unpackWord}
+use Rattle.unpack_rules.specs.Whole.{takeWords, heldAfter}
+use Rattle.unpack_rules.proofs.CycleLaws.{vectors-some}
+use Rattle.unpack_rules.proofs.PayloadLaws.{payload-some}
+use Rattle.unpack_rules.proofs.StepLaws.{count-range, cycle-fits, unpacking-fits, due-cycle}
+use Rattle.unpack_rules.proofs.VectorLaws.{Words, none as no-word, more as a-word}
+use Rattle.unpack_rules.proofs.WholeLaws.{payload-theorem, payload-due, take-join, unfed-theorem}
 use Rattle.vif_codes.specs.declared.Code.the-variants.{Unpack}
 use Rattle.vif_codes.specs.declared.UnpackCode.{UnpackCode}
 use Rattle.vif_codes.specs.declared.Decoded.the-variants.{Known}

@@ -14,8 +14,8 @@ use Rattle.gif.specs.declared.Path.{Path}
 use Rattle.gif.specs.Range.{pathInRange}
 use Rattle.memories.specs.declared.VifUnit.the-variants.{Vif0}
 use Rattle.memories.specs.Lengths.{Lent, lengthsRefusal}
-use Rattle.unpack.specs.declared.Format.{Format}
-use Rattle.unpack.specs.Range.{cycleRefused}
+use Rattle.unpack_rules.specs.declared.Format.{Format}
+use Rattle.unpack_rules.specs.Range.{cycleRefused}
 use Rattle.vif_codes.specs.declared.Code.the-variants.{Unpack}
 use Rattle.vif_codes.specs.declared.Decoded.the-variants.{Known, Unknown}
 use Rattle.vif_codes.specs.declared.UnpackCode.{UnpackCode}

@@ -11,10 +11,10 @@ use Rattle.gif.specs.declared.Path.{Path}
 use Rattle.memories.specs.declared.VifUnit.{VifUnit}
 use Rattle.memories.specs.Units.{quadwords}
 use Rattle.memories.specs.Lengths.{Lent, lent}
-use Rattle.unpack.specs.declared.Format.{Format}
-use Rattle.unpack.specs.declared.Unpacking.{Unpacking}
-use Rattle.unpack.specs.Write.{Written, written}
-use Rattle.unpack.specs.Whole.{unpackedBy}
+use Rattle.unpack_rules.specs.declared.Format.{Format}
+use Rattle.unpack_rules.specs.declared.Unpacking.{Unpacking}
+use Rattle.unpack_rules.specs.Write.{Written, written}
+use Rattle.unpack_rules.specs.Whole.{unpackedBy}
 use Rattle.vif_codes.specs.declared.Incoming.{Incoming}
 use Rattle.vif_codes.specs.declared.Incoming.the-variants.{Word0}
 use Rattle.vif_codes.specs.declared.VifAnswer.{VifAnswer}

@@ -13,9 +13,9 @@ use Rattle.gif.specs.Step.{Left as GifLeft, gifStep}
 use Rattle.memories.specs.declared.VifUnit.{VifUnit}
 use Rattle.memories.specs.Units.{instructions}
 use Rattle.memories.specs.Lengths.{Lent, lent, lengthsRefusal}
-use Rattle.unpack.specs.declared.Format.{Format}
-use Rattle.unpack.specs.declared.Unpacking.{Unpacking}
-use Rattle.unpack.specs.Write.{Written}
+use Rattle.unpack_rules.specs.declared.Format.{Format}
+use Rattle.unpack_rules.specs.declared.Unpacking.{Unpacking}
+use Rattle.unpack_rules.specs.Write.{Written}
 use Rattle.vif_codes.specs.declared.Incoming.{Incoming}
 use Rattle.vif_codes.specs.declared.Incoming.the-variants.{Word0, Word1, Word2, Word3}
 use Rattle.vif_codes.specs.declared.VifAnswer.{VifAnswer}

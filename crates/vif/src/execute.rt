@@ -1,8 +1,8 @@
 // A code's own step.
 use fields::refusals;
 use memories::VifUnit;
-use unpack::Format;
-use unpack::Unpacking;
+use unpack_rules::Format;
+use unpack_rules::Unpacking;
 use vif_codes::Code;
 use vif_codes::CodeResult;
 use vif_codes::Decoded;
@@ -32,7 +32,7 @@ ghost use mathlib.Core.Bool.{true};
 ghost use mathlib.Core.List.{List};
 ghost use Prim.Native.Nat.{ℕ};
 ghost use Rattle.memories.specs.Units.{quadwords};
-ghost use Rattle.unpack.specs.Step.{unfedAcceptable};
+ghost use Rattle.unpack_rules.specs.Step.{unfedAcceptable};
 ghost use Rattle.vif_codes.specs.Codes.{interruptOf, decodeOf};
 ghost use Rattle.vif_codes.specs.Payload.{writeRegisters};
 ghost use Rattle.vif_codes.specs.Execute.{resultWith, unfedWritten, unfedStep, beginUnpack, executeOf, decodedStep};

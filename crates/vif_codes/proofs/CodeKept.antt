@@ -13,9 +13,9 @@ use Rattle.gif.specs.Log.{entrySize, startEntry, lacksRoom}
 use Rattle.gif.proofs.LogLaws.{logged-length}
 use Rattle.memories.specs.declared.VifUnit.{VifUnit}
 use Rattle.memories.specs.Units.{quadwords}
-use Rattle.unpack.specs.declared.Format.{Format}
-use Rattle.unpack.specs.Write.{written}
-use Rattle.unpack.proofs.LengthLaws.{unfed-length}
+use Rattle.unpack_rules.specs.declared.Format.{Format}
+use Rattle.unpack_rules.specs.Write.{written}
+use Rattle.unpack_rules.proofs.LengthLaws.{unfed-length}
 use Rattle.vif_codes.specs.declared.Code.{Code}
 use Rattle.vif_codes.specs.declared.Code.the-variants.{Nop, Stcycl, Offset, Base, Itop, Stmod, Mskpath3, Mark, Flushe, Flush, Flusha, Mscal, Mscalf, Mscnt, Stmask, Strow, Stcol, Mpg, Direct, Directhl, Unpack}
 use Rattle.vif_codes.specs.declared.UnpackCode.{UnpackCode}

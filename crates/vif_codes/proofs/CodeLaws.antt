@@ -13,13 +13,13 @@ use Rattle.gif.specs.Log.{startEntry, lacksRoom, Entered, entered, entryOf}
 use Rattle.memories.specs.declared.VifUnit.{VifUnit}
 use Rattle.memories.specs.declared.VifUnit.the-variants.{Vif0, Vif1}
 use Rattle.memories.specs.Units.{quadwords}
-use Rattle.unpack.specs.declared.Format.{Format}
-use Rattle.unpack.specs.declared.Unpacking.{Unpacking}
-use Rattle.unpack.specs.declared.Registers.{Registers}
-use Rattle.unpack.specs.declared.Rows.{Rows}
-use Rattle.unpack.specs.Position.{addresses}
-use Rattle.unpack.specs.Range.{cycleRefused}
-use Rattle.unpack.specs.Step.{Left as UnpackLeft, left as unpackLeft, unpackingOf, unfedAcceptable, unfedOf}
+use Rattle.unpack_rules.specs.declared.Format.{Format}
+use Rattle.unpack_rules.specs.declared.Unpacking.{Unpacking}
+use Rattle.unpack_rules.specs.declared.Registers.{Registers}
+use Rattle.unpack_rules.specs.declared.Rows.{Rows}
+use Rattle.unpack_rules.specs.Position.{addresses}
+use Rattle.unpack_rules.specs.Range.{cycleRefused}
+use Rattle.unpack_rules.specs.Step.{Left as UnpackLeft, left as unpackLeft, unpackingOf, unfedAcceptable, unfedOf}
 use Rattle.vif_codes.specs.declared.Code.{Code}
 use Rattle.vif_codes.specs.declared.UnpackCode.{UnpackCode}
 use Rattle.vif_codes.specs.declared.CodeResult.{CodeResult}

@@ -12,14 +12,14 @@ use Rattle.fields.proofs.FieldLaws.{bits-below}
 use Rattle.fields.proofs.ChoiceLaws.{if-ind, if-ind-by}
 use Rattle.memories.specs.declared.VifUnit.{VifUnit}
 use Rattle.memories.specs.declared.VifUnit.the-variants.{Vif0, Vif1}
-use Rattle.unpack.specs.declared.Format.{Format}
-use Rattle.unpack.specs.declared.NamedFormat.{NamedFormat}
-use Rattle.unpack.specs.declared.NamedFormat.the-variants.{Named, Missing}
-use Rattle.unpack.specs.Formats.{formatNamed}
-use Rattle.unpack.specs.Position.{addressMost}
-use Rattle.unpack.specs.Range.{cycleRefused, cycleInRange}
-use Rattle.unpack.specs.Step.{countOf}
-use Rattle.unpack.proofs.StepLaws.{count-range, accepted-cycle, cycle-fits, fits-unpacking, begun-fits}
+use Rattle.unpack_rules.specs.declared.Format.{Format}
+use Rattle.unpack_rules.specs.declared.NamedFormat.{NamedFormat}
+use Rattle.unpack_rules.specs.declared.NamedFormat.the-variants.{Named, Missing}
+use Rattle.unpack_rules.specs.Formats.{formatNamed}
+use Rattle.unpack_rules.specs.Position.{addressMost}
+use Rattle.unpack_rules.specs.Range.{cycleRefused, cycleInRange}
+use Rattle.unpack_rules.specs.Step.{countOf}
+use Rattle.unpack_rules.proofs.StepLaws.{count-range, accepted-cycle, cycle-fits, fits-unpacking, begun-fits}
 use Rattle.vif_codes.specs.declared.Code.{Code}
 use Rattle.vif_codes.specs.declared.Code.the-variants.{Nop, Stcycl, Offset, Base, Itop, Stmod, Mskpath3, Mark, Flushe, Flush, Flusha, Mscal, Mscalf, Mscnt, Stmask, Strow, Stcol, Mpg, Direct, Directhl, Unpack}
 use Rattle.vif_codes.specs.declared.UnpackCode.{UnpackCode}

@@ -6,11 +6,11 @@ use borrow.Author.Tests.{leb-true, le-leb}
 use lib.Dec.{leb}
 use Rattle.fields.proofs.ChoiceLaws.{and-left, and-right}
 use Rattle.memories.specs.declared.VifUnit.{VifUnit}
-use Rattle.unpack.specs.declared.Format.{Format}
-use Rattle.unpack.specs.declared.Unpacking.{Unpacking}
-use Rattle.unpack.specs.Position.{addressMost}
-use Rattle.unpack.specs.Range.{cycleInRange}
-use Rattle.unpack.proofs.StepLaws.{unpacking-fits}
+use Rattle.unpack_rules.specs.declared.Format.{Format}
+use Rattle.unpack_rules.specs.declared.Unpacking.{Unpacking}
+use Rattle.unpack_rules.specs.Position.{addressMost}
+use Rattle.unpack_rules.specs.Range.{cycleInRange}
+use Rattle.unpack_rules.proofs.StepLaws.{unpacking-fits}
 use Rattle.vif_codes.specs.declared.Waiting.{Waiting}
 use Rattle.vif_codes.specs.declared.Waiting.the-variants.{RowDue, ColDue, MpgDue, DirectDue, DirecthlDue, UnpackDue}
 use Rattle.vif_codes.specs.declared.Vif.{Vif}

@@ -7,9 +7,9 @@ use Rattle.fields.specs.Fields.{if, bits}
 use Rattle.fields.specs.Refusals.{cmdUnlisted, formatMissing}
 use Rattle.memories.specs.declared.VifUnit.{VifUnit}
 use Rattle.memories.specs.declared.VifUnit.the-variants.{Vif0, Vif1}
-use Rattle.unpack.specs.declared.NamedFormat.{NamedFormat}
-use Rattle.unpack.specs.declared.NamedFormat.the-variants.{Named, Missing}
-use Rattle.unpack.specs.Formats.{formatNamed}
+use Rattle.unpack_rules.specs.declared.NamedFormat.{NamedFormat}
+use Rattle.unpack_rules.specs.declared.NamedFormat.the-variants.{Named, Missing}
+use Rattle.unpack_rules.specs.Formats.{formatNamed}
 use Rattle.vif_codes.specs.declared.Code.the-variants.{Nop, Stcycl, Offset, Base, Itop, Stmod, Mskpath3, Mark, Flushe, Flush, Flusha, Mscal, Mscalf, Mscnt, Stmask, Strow, Stcol, Mpg, Direct, Directhl, Unpack}
 use Rattle.vif_codes.specs.declared.UnpackCode.{UnpackCode}
 use Rattle.vif_codes.specs.declared.Decoded.{Decoded}

@@ -9,12 +9,12 @@ use Rattle.gif.specs.Log.{startEntry, logged, lacksRoom}
 use Rattle.memories.specs.declared.VifUnit.{VifUnit}
 use Rattle.memories.specs.declared.VifUnit.the-variants.{Vif0, Vif1}
 use Rattle.memories.specs.Units.{quadwords}
-use Rattle.unpack.specs.declared.Format.{Format}
-use Rattle.unpack.specs.declared.Unpacking.{Unpacking}
-use Rattle.unpack.specs.Position.{addresses}
-use Rattle.unpack.specs.Range.{cycleRefused}
-use Rattle.unpack.specs.Write.{Written, written}
-use Rattle.unpack.specs.Step.{countOf, unpackingOf, unfedWrites}
+use Rattle.unpack_rules.specs.declared.Format.{Format}
+use Rattle.unpack_rules.specs.declared.Unpacking.{Unpacking}
+use Rattle.unpack_rules.specs.Position.{addresses}
+use Rattle.unpack_rules.specs.Range.{cycleRefused}
+use Rattle.unpack_rules.specs.Write.{Written, written}
+use Rattle.unpack_rules.specs.Step.{countOf, unpackingOf, unfedWrites}
 use Rattle.vif_codes.specs.declared.Code.{Code}
 use Rattle.vif_codes.specs.declared.Code.the-variants.{Nop, Stcycl, Offset, Base, Itop, Stmod, Mskpath3, Mark, Flushe, Flush, Flusha, Mscal, Mscalf, Mscnt, Stmask, Strow, Stcol, Mpg, Direct, Directhl, Unpack}
 use Rattle.vif_codes.specs.declared.UnpackCode.{UnpackCode}

@@ -8,11 +8,11 @@ use lib.Dec.{eqb}
 use Rattle.fields.specs.Fields.{if}
 use Rattle.memories.specs.declared.VifUnit.{VifUnit}
 use Rattle.memories.specs.Units.{quadwords}
-use Rattle.unpack.specs.declared.Format.{Format}
-use Rattle.unpack.specs.declared.Unpacking.{Unpacking}
-use Rattle.unpack.specs.declared.Registers.{Registers}
-use Rattle.unpack.specs.Write.{Written, written}
-use Rattle.unpack.specs.Step.{holds, unpackWord}
+use Rattle.unpack_rules.specs.declared.Format.{Format}
+use Rattle.unpack_rules.specs.declared.Unpacking.{Unpacking}
+use Rattle.unpack_rules.specs.declared.Registers.{Registers}
+use Rattle.unpack_rules.specs.Write.{Written, written}
+use Rattle.unpack_rules.specs.Step.{holds, unpackWord}
 use Rattle.vif_codes.specs.declared.Waiting.{Waiting}
 use Rattle.vif_codes.specs.declared.Waiting.the-variants.{Nothing, RowDue, ColDue, MpgDue, UnpackDue}
 use Rattle.vif_codes.specs.declared.Vif.{Vif}

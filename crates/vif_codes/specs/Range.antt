@@ -6,8 +6,8 @@ use mathlib.Core.Bool.{Bool, true, not, _&&_}
 use lib.Dec.{leb}
 use Rattle.memories.specs.declared.VifUnit.{VifUnit}
 use Rattle.memories.specs.declared.VifUnit.the-variants.{Vif0, Vif1}
-use Rattle.unpack.specs.Position.{addressMost}
-use Rattle.unpack.specs.Range.{cycleInRange, unpackingInRange}
+use Rattle.unpack_rules.specs.Position.{addressMost}
+use Rattle.unpack_rules.specs.Range.{cycleInRange, unpackingInRange}
 use Rattle.vif_codes.specs.declared.Waiting.{Waiting}
 use Rattle.vif_codes.specs.declared.Waiting.the-variants.{Nothing, MaskDue, RowDue, ColDue, MpgDue, DirectDue, DirecthlDue, UnpackDue}
 use Rattle.vif_codes.specs.declared.Vif.{Vif}

@@ -5,8 +5,8 @@ use super::MPG_ADDRESSES;
 use super::UnpackCode;
 use fields::refusals;
 use memories::VifUnit;
-use unpack::ADDRESSES;
-use unpack::NamedFormat;
+use unpack_rules::ADDRESSES;
+use unpack_rules::NamedFormat;
 ghost use mathlib.Core.Path.{_≡_};
 ghost use Rattle.vif_codes.specs.Codes.{quadwordsOf, plainCode, unpackCode, unpackNumbers, missingCode, codeListed, codeOf, decodeOf};
 
@@ -103,7 +103,7 @@ fn code_of(which: VifUnit, cmd: u32, num: u32, imm: u32) -> Decoded
 {
     if 0x60 <= cmd {
         return unpack_code(
-            unpack::format_named(cmd % 16),
+            unpack_rules::format_named(cmd % 16),
             unpack_numbers(cmd, num, imm),
         );
     }

@@ -9,14 +9,14 @@ use super::registers::with_start;
 use super::registers::with_waiting;
 use fields::refusals;
 use memories::VifUnit;
-use unpack::ADDRESSES;
-use unpack::Format;
-use unpack::Unpacking;
+use unpack_rules::ADDRESSES;
+use unpack_rules::Format;
+use unpack_rules::Unpacking;
 ghost use mathlib.Core.Path.{_≡_};
 ghost use mathlib.Core.Bool.{false};
 ghost use mathlib.Core.List.{List};
 ghost use Prim.Native.Nat.{ℕ, _%_};
-ghost use Rattle.unpack.specs.Position.{addresses};
+ghost use Rattle.unpack_rules.specs.Position.{addresses};
 ghost use Rattle.vif_codes.specs.Setters.{withWaiting};
 ghost use Rattle.vif_codes.specs.Execute.{codeResult, resultWith, nextTops, started, startProgram, setMode, addressOf, beginMpg, begunUnpack, topsRefused, unpackRefusal};
 
@@ -134,7 +134,7 @@ fn tops_refused(which: VifUnit, tops: bool) -> bool
 pub fn unpack_refusal(which: VifUnit, u: UnpackCode, unit: Vif) -> u32
     ensures { λ r. ⌜ r ≡ unpackRefusal which u unit ⌝ }
 {
-    let cycle = unpack::cycle_refused(unit.cl, unit.wl);
+    let cycle = unpack_rules::cycle_refused(unit.cl, unit.wl);
     let tops = tops_refused(which, u.tops);
     if cycle {
         return refusals::CYCLE_WRONG;
@@ -148,7 +148,7 @@ pub fn unpack_refusal(which: VifUnit, u: UnpackCode, unit: Vif) -> u32
 pub fn begin_mpg(address: u32, num: u32, unit: Vif, interrupt: bool, used: u64) -> CodeResult
     ensures { λ r. ⌜ r ≡ beginMpg address num unit interrupt used ⌝ }
 {
-    let count = unpack::count_of(num);
+    let count = unpack_rules::count_of(num);
     let waiting = Waiting::MpgDue {
         address,
         count,

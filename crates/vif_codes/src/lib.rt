@@ -71,7 +71,7 @@ pub enum Code {
     Mpg { address: u32, num: u32 },
     Direct(u32),
     Directhl(u32),
-    Unpack(unpack::Format, UnpackCode),
+    Unpack(unpack_rules::Format, UnpackCode),
 }
 
 pub enum Decoded {
@@ -105,7 +105,7 @@ pub enum Waiting {
         due: u32,
         interrupt: bool,
     },
-    UnpackDue(unpack::Format, unpack::Unpacking),
+    UnpackDue(unpack_rules::Format, unpack_rules::Unpacking),
 }
 
 pub struct Vif {

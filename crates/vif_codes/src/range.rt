@@ -4,12 +4,12 @@ use super::Vif;
 use super::Waiting;
 use super::decoding::code_listed;
 use memories::VifUnit;
-use unpack::ADDRESS_MOST;
+use unpack_rules::ADDRESS_MOST;
 ghost use mathlib.Core.Path.{_≡_};
 ghost use mathlib.Core.Bool.{_&&_};
 ghost use Prim.Native.Nat.{_+_};
 ghost use lib.Dec.{leb};
-ghost use Rattle.unpack.specs.Range.{cycleInRange, unpackingInRange};
+ghost use Rattle.unpack_rules.specs.Range.{cycleInRange, unpackingInRange};
 ghost use Rattle.vif_codes.specs.Codes.{mpgAddressMost};
 ghost use Rattle.vif_codes.specs.Range.{upTo, topsMost, bitInRange, vif1RegistersInRange, registersInRange, directInRange, waitingInRange, unitInRange};
 
@@ -132,10 +132,10 @@ fn waiting_in_range(which: VifUnit, waiting: Waiting, cl: u32, wl: u32) -> bool
     }
 }
 
-fn unpack_in_range(cl: u32, wl: u32, f: unpack::Format, u: unpack::Unpacking) -> bool
+fn unpack_in_range(cl: u32, wl: u32, f: unpack_rules::Format, u: unpack_rules::Unpacking) -> bool
     ensures { λ r. ⌜ r ≡ (cycleInRange cl wl && unpackingInRange f cl wl u) ⌝ }
 {
-    if unpack::cycle_in_range(cl, wl) {
+    if unpack_rules::cycle_in_range(cl, wl) {
         return unpack::unpacking_in_range(f, cl, wl, u);
     }
     false

@@ -1,7 +1,7 @@
 // The unit with some of its registers replaced, and those that UNPACK reads.
 use super::Vif;
 use super::Waiting;
-use unpack::Registers;
+use unpack_rules::Registers;
 ghost use mathlib.Core.Path.{_≡_};
 ghost use Rattle.vif_codes.specs.Setters.{withCycle, withOffset, withBase, withItops, withMode, withMskpath3, withMark, withMask, withRow, withStart, withWaiting};
 ghost use Rattle.vif_codes.specs.Payload.{writeRegisters};

@@ -10,10 +10,10 @@ use Rattle.fields.specs.Refusals.{cmdUnlisted, formatMissing}
 use Rattle.fields.proofs.ChoiceLaws.{if-ind-by, and-false}
 use Rattle.fields.proofs.FieldLaws.{bits-below}
 use Rattle.memories.specs.declared.VifUnit.{VifUnit}
-use Rattle.unpack.specs.declared.Format.{Format}
-use Rattle.unpack.specs.declared.NamedFormat.{NamedFormat}
-use Rattle.unpack.specs.declared.NamedFormat.the-variants.{Named, Missing}
-use Rattle.unpack.specs.Formats.{namedIn, formatNamed}
+use Rattle.unpack_rules.specs.declared.Format.{Format}
+use Rattle.unpack_rules.specs.declared.NamedFormat.{NamedFormat}
+use Rattle.unpack_rules.specs.declared.NamedFormat.the-variants.{Named, Missing}
+use Rattle.unpack_rules.specs.Formats.{namedIn, formatNamed}
 use Rattle.vif_codes.specs.declared.Code.{Code}
 use Rattle.vif_codes.specs.declared.Code.the-variants.{Nop, Stcycl, Offset, Base, Itop, Stmod, Mskpath3, Mark, Flushe, Flush, Flusha, Mscal, Mscalf, Mscnt, Stmask, Strow, Stcol, Mpg, Direct, Directhl, Unpack}
 use Rattle.vif_codes.specs.declared.UnpackCode.{UnpackCode}

@@ -5,7 +5,7 @@ use Rattle.chain_bench.proofs.rounds.Statement.{statement}
 use Rattle.chain_bench.proofs.rounds.Tie as tie
 use Rattle.chain_bench.proofs.rounds.Reads as reads
 use Rattle.chain_bench.proofs.rounds.Lts as lts
-use Rattle.chain.proofs.reset.Reads as reset-reads
+use Rattle.chain_state.proofs.reset.Reads as reset-reads
 use Rattle.chain_bench.proofs.round.Reads as round-reads
 
 abbrev Inv-loop : tie.InvT-loop

@@ -1,4 +1,4 @@
-use Rattle.chain.specs.Pending.{payloadAfter}
+use Rattle.chain_state.specs.Pending.{payloadAfter}
 use Rattle.fields.specs.Fields.{if}
 use borrow.Author.Tests.{le-leb, lt-leb}
 use borrow.Author.Needs.{needs}

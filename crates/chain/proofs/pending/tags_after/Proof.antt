@@ -1,4 +1,4 @@
-use Rattle.chain.specs.Pending.{tagsAfter}
+use Rattle.chain_state.specs.Pending.{tagsAfter}
 use Rattle.fields.specs.Fields.{if}
 use borrow.Author.Tests.{eq-eqb, ne-eqb}
 use borrow.Author.Needs.{needs}

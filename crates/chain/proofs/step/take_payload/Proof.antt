@@ -1,5 +1,5 @@
 use Rattle.chain.proofs.StepLaws.{same-pending, quadword-ready, word-inside}
-use Rattle.chain.specs.Pending.{payloadAfter}
+use Rattle.chain_state.specs.Pending.{payloadAfter}
 use Rattle.chain.specs.Step.{payloadStep}
 use Rattle.fields.specs.Fields.{if}
 use borrow.Author.Tests.{eq-eqb, ne-eqb}

@@ -5,7 +5,7 @@ use Rattle.chain.proofs.tags.tag_state.Statement.{statement}
 use Rattle.chain.proofs.tags.tag_state.Tie as tie
 use Rattle.chain.proofs.tags.tag_state.Reads as reads
 use Rattle.chain.proofs.tags.tag_state.Lts as lts
-use Rattle.chain.proofs.setters.with_tag.Reads as with-tag-reads
+use Rattle.chain_state.proofs.with_tag.Reads as with-tag-reads
 use Rattle.chain.proofs.tags.ends_chain.Reads as ends-chain-reads
 use Rattle.chain.proofs.tags.next_stack.Reads as next-stack-reads
 use Rattle.chain.proofs.tags.next_tadr.Reads as next-tadr-reads

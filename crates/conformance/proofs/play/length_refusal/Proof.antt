@@ -1,7 +1,7 @@
 use borrow.Author.Needs.{needs}
 use borrow.Author.Tests.{eq-eqb, ne-eqb, lt-ltb}
 use Rattle.fields.specs.Fields.{if}
-use Rattle.chain.specs.Range.{mainRefused}
+use Rattle.chain_state.specs.Range.{mainRefused}
 use Rattle.conformance.specs.Inner.{memoriesRefusal}
 use Rattle.conformance.proofs.AnswerLaws.{main-passes}
 use Rattle.conformance.proofs.play.length_refusal.Statement.{statement}

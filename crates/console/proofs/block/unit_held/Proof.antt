@@ -1,6 +1,6 @@
 use borrow.Author.Tests.{eq-eqb, ne-eqb}
 use Rattle.fields.specs.Fields.{if}
-use Rattle.chain.specs.Range.{unitOf}
+use Rattle.chain_state.specs.Range.{unitOf}
 use Rattle.console.proofs.block.unit_held.Statement.{statement}
 use Rattle.console.proofs.block.unit_held.Tie as tie
 

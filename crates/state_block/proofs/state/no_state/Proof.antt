@@ -1,4 +1,4 @@
-use Rattle.chain.specs.Start.{resetState}
+use Rattle.chain_state.specs.Start.{resetState}
 use Rattle.state_block.specs.StateBlock.{noState}
 use borrow.Author.Needs.{needs}
 use Rattle.state_block.proofs.state.no_state.Statement.{statement}

@@ -1,4 +1,4 @@
-use Rattle.chain.specs.Start.{resetState}
+use Rattle.chain_state.specs.Start.{resetState}
 use borrow.Author.Needs.{needs}
 use Rattle.state_block.proofs.unit.no_unit.Statement.{statement}
 use Rattle.state_block.proofs.unit.no_unit.Tie as tie

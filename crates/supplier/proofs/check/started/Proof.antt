@@ -1,6 +1,6 @@
 use mathlib.Core.Path.{ap, _∙_}
 use borrow.Author.Needs.{needs}
-use Rattle.chain.specs.declared.StartResult.{StartResult}
+use Rattle.chain_state.specs.declared.StartResult.{StartResult}
 use Rattle.supplier.specs.Check.{begun}
 use Rattle.supplier.proofs.check.started.Statement.{statement}
 use Rattle.supplier.proofs.check.started.Tie as tie

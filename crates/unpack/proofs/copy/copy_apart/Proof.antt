@@ -1,13 +1,12 @@
 use mathlib.Core.Path.{_≡_, refl, sym, _∙_}
-use Prim.Native.Nat.{ℕ, suc, _+_, _*_, _-_, _%_, _≤_, _<_}
+use Prim.Native.Nat.{suc, _+_, _*_, _-_, _%_, _≤_, _<_}
 use native.Mathlib.Nat.{mod-lt}
-use native.Mathlib.Numerals.{add-one}
 use native.Mathlib.Omega.{arith}
 use lib.ListN.{length}
 use borrow.Author.Needs.{needs}
-use Rattle.unpack.specs.Position.{vectorsBefore, positionOf}
+use Rattle.unpack_rules.specs.Position.{vectorsBefore, positionOf}
 use Rattle.unpack.specs.Short.{storesFrom, wordsOfWrite}
-use Rattle.unpack.proofs.WriteLaws.{position-inside}
+use Rattle.unpack_rules.proofs.WriteLaws.{position-inside}
 use Rattle.unpack.proofs.CopyLaws.{copy-inside, copy-near, copy-words, next-cycle, next-place, next-vector, stores-more, stores-none}
 use Rattle.unpack.proofs.copy.copy_apart.Statement.{statement}
 use Rattle.unpack.proofs.copy.copy_apart.Tie as tie
@@ -82,11 +81,6 @@ add-wrapped c =
     let s = c .stride .ensures .few in
     omega arith
 
-wrapped-requires : tie.Need-wrapped-requires Inv-loop μ-loop
-wrapped-requires c κs =
-    let l = c .before .before .before .before .before .before .before in
-    l .before .before .before .before .before .pre .memory .some
-
 next-in-cycle-requires : tie.Need-next-in-cycle-requires Inv-loop μ-loop
 next-in-cycle-requires c κs =
     let l = c .before .before .before .before .before .before .before .before in
@@ -134,14 +128,14 @@ copy-apart-spec =
     Inv-loop
     μ-loop
     place-requires
-    (λ c κs. c .before .before .before .pre .cycle .some)
+    (λ c κs. search needs)
     loop-holds
     quad-inside-requires
     (λ c. search needs)
     store-quadword-requires
     stride-requires
     add-wrapped
-    wrapped-requires
+    (λ c κs. search needs)
     next-in-cycle-requires
     next-vector-requires
     (λ c. search needs)

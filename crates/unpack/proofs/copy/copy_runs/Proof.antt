@@ -1,5 +1,5 @@
 use mathlib.Core.Path.{_≡_, refl, sym, _∙_}
-use Prim.Native.Nat.{ℕ, suc, _+_, _*_, _-_, _%_, _≤_, _<_}
+use Prim.Native.Nat.{ℕ, suc, _+_, _*_, _-_, _%_, _≤_}
 use native.Mathlib.Nat.{mod-lt}
 use native.Mathlib.Omega.{arith}
 use lib.ListN.{length}
@@ -29,9 +29,6 @@ loop-holds c = record { sizes = refl; late = omega arith; few = let p = c .befor
 
 add-wrapped : tie.Need-add-wrapped Inv-loop μ-loop
 add-wrapped c = let p = c .before .before .before .before .pre in omega arith
-
-wrapped-requires : tie.Need-wrapped-requires Inv-loop μ-loop
-wrapped-requires c κs = c .before .before .before .before .pre .0 .some
 
 sub-smaller-2 : tie.Need-sub-smaller-2 Inv-loop μ-loop
 sub-smaller-2 c =
@@ -124,7 +121,7 @@ copy-runs-spec =
     μ-loop
     loop-holds
     add-wrapped
-    wrapped-requires
+    (λ c κs. search needs)
     (λ c. search needs)
     sub-smaller-2
     (λ c κs. search needs)

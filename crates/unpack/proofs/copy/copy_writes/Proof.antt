@@ -1,4 +1,3 @@
-use native.Mathlib.Omega.{arith}
 use borrow.Author.Needs.{needs}
 use Rattle.unpack.proofs.CopyLaws.{even-vectors, even-copied}
 use Rattle.unpack.proofs.copy.copy_writes.Statement.{statement}

@@ -1,7 +1,7 @@
 use mathlib.Core.Path.{sym, _∙_}
 use native.Mathlib.Omega.{arith}
 use borrow.Author.Needs.{needs}
-use Rattle.unpack.proofs.CycleLaws.{vectors-few, fill-next, payload-next}
+use Rattle.unpack_rules.proofs.CycleLaws.{vectors-few, fill-next, payload-next}
 use Rattle.unpack.proofs.cycle.vectors_after.Statement.{statement}
 use Rattle.unpack.proofs.cycle.vectors_after.Tie as tie
 

@@ -4,7 +4,7 @@ use native.Mathlib.Omega.{arith}
 use mathlib.Core.Path.{sym, _∙_}
 use borrow.Author.Needs.{needs}
 use borrow.Author.Tests.{lt-ltb, le-ltb}
-use Rattle.unpack.proofs.CycleLaws.{filling-done, plain-done}
+use Rattle.unpack_rules.proofs.CycleLaws.{filling-done, plain-done}
 use Rattle.unpack.proofs.cycle.writes_done.Statement.{statement}
 use Rattle.unpack.proofs.cycle.writes_done.Tie as tie
 

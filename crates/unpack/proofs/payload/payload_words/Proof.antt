@@ -1,5 +1,5 @@
-use Rattle.unpack.proofs.PayloadLaws.{payload-fits}
-use Rattle.unpack.specs.Payload.{payloadWords}
+use Rattle.unpack_rules.proofs.PayloadLaws.{payload-fits}
+use Rattle.unpack_rules.specs.Payload.{payloadWords}
 use native.Mathlib.Omega.{arith}
 use borrow.Author.Needs.{needs}
 use Rattle.unpack.proofs.payload.payload_words.Statement.{statement}

@@ -1,8 +1,8 @@
 use native.Mathlib.Omega.{arith}
 use borrow.Author.Needs.{needs}
-use Rattle.unpack.specs.Step.{unpackingOf}
-use Rattle.unpack.proofs.CycleLaws.{vectors-few}
-use Rattle.unpack.proofs.StepLaws.{count-few}
+use Rattle.unpack_rules.specs.Step.{unpackingOf}
+use Rattle.unpack_rules.proofs.CycleLaws.{vectors-few}
+use Rattle.unpack_rules.proofs.StepLaws.{count-few}
 use Rattle.unpack.proofs.payload.waiting_for.Statement.{statement}
 use Rattle.unpack.proofs.payload.waiting_for.Tie as tie
 

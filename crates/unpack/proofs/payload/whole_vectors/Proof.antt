@@ -1,5 +1,5 @@
-use Rattle.unpack.proofs.PayloadLaws.{bits-some}
-use Rattle.unpack.specs.Payload.{wholeVectors}
+use Rattle.unpack_rules.proofs.PayloadLaws.{bits-some}
+use Rattle.unpack_rules.specs.Payload.{wholeVectors}
 use native.Mathlib.Nat.{min-eq-left, min-eq-right}
 use native.Mathlib.Omega.{arith}
 use mathlib.Core.Path.{sym}

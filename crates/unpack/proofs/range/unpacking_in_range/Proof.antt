@@ -1,8 +1,8 @@
 use native.Mathlib.Omega.{arith}
 use borrow.Author.Needs.{needs}
 use Rattle.fields.proofs.ChoiceLaws.{in-turn}
-use Rattle.unpack.specs.Range.{unpackingInRange}
-use Rattle.unpack.proofs.CycleLaws.{vectors-few}
+use Rattle.unpack_rules.specs.Range.{unpackingInRange}
+use Rattle.unpack_rules.proofs.CycleLaws.{vectors-few}
 use Rattle.unpack.proofs.range.unpacking_in_range.Statement.{statement}
 use Rattle.unpack.proofs.range.unpacking_in_range.Tie as tie
 

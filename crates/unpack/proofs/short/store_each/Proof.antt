@@ -1,11 +1,11 @@
 use mathlib.Core.Path.{_≡_, refl, sym, _∙_}
-use Prim.Native.Nat.{ℕ, _-_, _≤_}
+use Prim.Native.Nat.{ℕ, _-_}
 use native.Mathlib.Omega.{arith}
 use lib.ListN.{length}
 use borrow.Author.Needs.{needs}
-use Rattle.unpack.specs.Position.{positionOf}
+use Rattle.unpack_rules.specs.Position.{positionOf}
 use Rattle.unpack.specs.Short.{storesFrom}
-use Rattle.unpack.proofs.WriteLaws.{position-inside}
+use Rattle.unpack_rules.proofs.WriteLaws.{position-inside}
 use Rattle.unpack.proofs.CopyLaws.{stores-more, stores-none}
 use Rattle.unpack.proofs.short.store_each.Statement.{statement}
 use Rattle.unpack.proofs.short.store_each.Tie as tie

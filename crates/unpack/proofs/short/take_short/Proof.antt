@@ -1,6 +1,6 @@
 use native.Mathlib.Omega.{arith}
 use borrow.Author.Needs.{needs}
-use Rattle.unpack.proofs.CycleLaws.{done-most}
+use Rattle.unpack_rules.proofs.CycleLaws.{done-most}
 use Rattle.unpack.proofs.ShortLaws.{word-waits, word-short, numbers}
 use Rattle.unpack.proofs.short.take_short.Statement.{statement}
 use Rattle.unpack.proofs.short.take_short.Tie as tie

@@ -4,11 +4,11 @@ use Prim.Native.Nat.{ℕ, _+_, _*_, _-_, _≤_, _<_}
 use native.Mathlib.Omega.{arith}
 use lib.ListN.{length}
 use borrow.Author.Needs.{needs}
-use Rattle.unpack.specs.declared.Format.the-variants.{V4x32}
-use Rattle.unpack.specs.Write.{written}
-use Rattle.unpack.specs.Whole.{wordsFrom, takenBy}
+use Rattle.unpack_rules.specs.declared.Format.the-variants.{V4x32}
+use Rattle.unpack_rules.specs.Write.{written}
+use Rattle.unpack_rules.specs.Whole.{wordsFrom, takenBy}
 use Rattle.unpack.specs.Short.{ShortFits}
-use Rattle.unpack.proofs.WordsLaws.{words-more, words-none}
+use Rattle.unpack_rules.proofs.WordsLaws.{words-more, words-none}
 use Rattle.unpack.proofs.ShortLaws.{short-on}
 use Rattle.unpack.proofs.short.take_singly.Statement.{statement}
 use Rattle.unpack.proofs.short.take_singly.Tie as tie

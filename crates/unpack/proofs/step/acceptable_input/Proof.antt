@@ -1,4 +1,4 @@
-use Rattle.unpack.specs.Step.{acceptable}
+use Rattle.unpack_rules.specs.Step.{acceptable}
 use borrow.Author.Tests.{le-leb, lt-leb, eq-eqb, ne-eqb}
 use mathlib.Core.Path.{sym, _∙_}
 use borrow.Author.Needs.{needs}

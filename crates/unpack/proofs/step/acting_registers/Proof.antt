@@ -1,4 +1,4 @@
-use Rattle.unpack.specs.Step.{acting}
+use Rattle.unpack_rules.specs.Step.{acting}
 use borrow.Author.Needs.{needs}
 use Rattle.unpack.proofs.step.acting_registers.Statement.{statement}
 use Rattle.unpack.proofs.step.acting_registers.Tie as tie

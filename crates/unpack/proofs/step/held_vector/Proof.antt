@@ -1,5 +1,5 @@
-use Rattle.unpack.proofs.PayloadLaws.{payload-fits, starts-inside, vector-fits}
-use Rattle.unpack.specs.Step.{heldVector}
+use Rattle.unpack_rules.proofs.PayloadLaws.{payload-fits, starts-inside, vector-fits}
+use Rattle.unpack_rules.specs.Step.{heldVector}
 use native.Mathlib.Omega.{arith}
 use borrow.Author.Needs.{needs}
 use Rattle.unpack.proofs.step.held_vector.Statement.{statement}

@@ -1,8 +1,8 @@
 use mathlib.Core.Path.{sym, _∙_}
 use native.Mathlib.Omega.{arith}
 use borrow.Author.Needs.{needs}
-use Rattle.unpack.proofs.CycleLaws.{vectors-few}
-use Rattle.unpack.proofs.StepLaws.{taken-is, taken-few, completed-fits, word-taken, none-completed}
+use Rattle.unpack_rules.proofs.CycleLaws.{vectors-few}
+use Rattle.unpack_rules.proofs.StepLaws.{taken-is, taken-few, completed-fits, word-taken, none-completed}
 use Rattle.unpack.proofs.ShortLaws.{goes-short, short-fits, word-as}
 use Rattle.unpack.proofs.step.take.Statement.{statement}
 use Rattle.unpack.proofs.step.take.Tie as tie

@@ -1,5 +1,5 @@
-use Rattle.unpack.proofs.StepLaws.{acceptable-fits, taken-as}
-use Rattle.unpack.specs.Step.{takeOf}
+use Rattle.unpack_rules.proofs.StepLaws.{acceptable-fits, taken-as}
+use Rattle.unpack_rules.specs.Step.{takeOf}
 use Rattle.fields.specs.Fields.{if}
 use mathlib.Core.Path.{sym, _∙_}
 use borrow.Author.Needs.{needs}

@@ -2,7 +2,7 @@ use mathlib.Core.Path.{sym, _∙_}
 use borrow.Author.Needs.{needs}
 use borrow.Author.Tests.{le-leb, lt-leb, eq-eqb, ne-eqb}
 use Rattle.fields.proofs.ChoiceLaws.{in-turn}
-use Rattle.unpack.specs.Step.{unfedAcceptable}
+use Rattle.unpack_rules.specs.Step.{unfedAcceptable}
 use Rattle.unpack.proofs.step.unfed_acceptable.Statement.{statement}
 use Rattle.unpack.proofs.step.unfed_acceptable.Tie as tie
 

@@ -1,5 +1,5 @@
 use borrow.Author.Needs.{needs}
-use Rattle.unpack.proofs.StepLaws.{writes-fit, vectors-small, cycle-taken, completed-by}
+use Rattle.unpack_rules.proofs.StepLaws.{writes-fit, vectors-small, cycle-taken, completed-by}
 use Rattle.unpack.proofs.step.write_completed.Statement.{statement}
 use Rattle.unpack.proofs.step.write_completed.Tie as tie
 

@@ -1,15 +1,15 @@
 use mathlib.Core.Path.{_≡_, refl, sym, _∙_}
-use mathlib.Core.List.{[], _∷_}
-use Prim.Native.Nat.{suc, _-_}
+use mathlib.Core.List.{[]}
+use Prim.Native.Nat.{_-_}
 use native.Mathlib.Nat.{sub-zero}
 use native.Mathlib.Omega.{arith}
 use lib.ListN.{length}
 use borrow.Author.Needs.{needs}
-use Rattle.unpack.specs.Mask.{unfolded}
-use Rattle.unpack.specs.Write.{written, writesFrom}
-use Rattle.unpack.specs.Inner.{UnfedFits}
-use Rattle.unpack.proofs.WriteLaws.{row-few, row-chosen, unfed-at, writes-more, writes-none}
-use Rattle.unpack.proofs.StepLaws.{unfed-again, unfed-vectors}
+use Rattle.unpack_rules.specs.Mask.{unfolded}
+use Rattle.unpack_rules.specs.Write.{written, writesFrom}
+use Rattle.unpack_rules.specs.Inner.{UnfedFits}
+use Rattle.unpack_rules.proofs.WriteLaws.{row-few, row-chosen, unfed-at, writes-more, writes-none}
+use Rattle.unpack_rules.proofs.StepLaws.{unfed-again, unfed-vectors}
 use Rattle.unpack.proofs.step.write_unfed.Statement.{statement}
 use Rattle.unpack.proofs.step.write_unfed.Tie as tie
 
@@ -31,9 +31,6 @@ abbrev μ-loop : tie.MeasureT-loop
 loop-holds : tie.Need-loop-holds Inv-loop μ-loop
 loop-holds c =
     record { fits = c .before .before .before .pre; length = refl; codes = c .before .unfold-mask .ensures; col = refl; same = rw sub-zero }
-
-row-of-cycle-requires : tie.Need-row-of-cycle-requires Inv-loop μ-loop
-row-of-cycle-requires c κs = c .before .before .loop .inv .fits .cycle .some
 
 array-copy-out-chosen : tie.Need-array-copy-out-chosen Inv-loop μ-loop
 array-copy-out-chosen c = row-few _ _ (c .row-of-cycle .ensures)
@@ -77,7 +74,7 @@ write-unfed-spec =
     μ-loop
     (λ c κs. search needs)
     loop-holds
-    row-of-cycle-requires
+    (λ c κs. search needs)
     (λ c. search needs)
     (λ c. search needs)
     array-copy-out-chosen

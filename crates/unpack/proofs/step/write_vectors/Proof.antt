@@ -3,14 +3,14 @@ use Prim.Native.Nat.{_-_, _≤_, _+_}
 use native.Mathlib.Omega.{arith}
 use lib.ListN.{length}
 use borrow.Author.Needs.{needs}
-use Rattle.unpack.specs.Position.{vectorsBefore}
-use Rattle.unpack.specs.Mask.{unfolded}
-use Rattle.unpack.specs.Write.{written, writesFrom}
-use Rattle.unpack.specs.Step.{heldVector}
-use Rattle.unpack.specs.Inner.{WordFits}
-use Rattle.unpack.proofs.CycleLaws.{vectors-few}
-use Rattle.unpack.proofs.WriteLaws.{row-few, row-chosen, filling-at, writes-more, writes-none}
-use Rattle.unpack.proofs.StepLaws.{word-fits-again, number-up, number-some, number-in}
+use Rattle.unpack_rules.specs.Position.{vectorsBefore}
+use Rattle.unpack_rules.specs.Mask.{unfolded}
+use Rattle.unpack_rules.specs.Write.{written, writesFrom}
+use Rattle.unpack_rules.specs.Step.{heldVector}
+use Rattle.unpack_rules.specs.Inner.{WordFits}
+use Rattle.unpack_rules.proofs.CycleLaws.{vectors-few}
+use Rattle.unpack_rules.proofs.WriteLaws.{row-few, row-chosen, filling-at, writes-more, writes-none}
+use Rattle.unpack_rules.proofs.StepLaws.{word-fits-again, number-up, number-some, number-in}
 use Rattle.unpack.proofs.step.write_vectors.Statement.{statement}
 use Rattle.unpack.proofs.step.write_vectors.Tie as tie
 
@@ -59,9 +59,6 @@ held-vector-requires c κs =
     let l = c .before .loop-test .taken in
     let n = w .few in
     (number-in (w .each _ (i .later) l) (c .vectors-after .ensures), w .words, omega (arith, c .vectors-after .ensures))
-
-row-of-cycle-requires : tie.Need-row-of-cycle-requires Inv-loop μ-loop
-row-of-cycle-requires c κs = c .before .before .before .loop .inv .fits .cycle .some
 
 array-copy-out-chosen : tie.Need-array-copy-out-chosen Inv-loop μ-loop
 array-copy-out-chosen c = row-few _ _ (c .row-of-cycle .ensures)
@@ -112,7 +109,7 @@ write-vectors-spec =
     vectors-after-requires
     sub-held-vector
     held-vector-requires
-    row-of-cycle-requires
+    (λ c κs. search needs)
     (λ c. search needs)
     (λ c. search needs)
     array-copy-out-chosen

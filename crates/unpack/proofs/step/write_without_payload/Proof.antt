@@ -1,8 +1,8 @@
 use mathlib.Core.Path.{sym, _∙_}
 use borrow.Author.Needs.{needs}
 use Rattle.fields.specs.Fields.{if}
-use Rattle.unpack.specs.Step.{unfedOf}
-use Rattle.unpack.proofs.StepLaws.{unfed-fits, unfed-as}
+use Rattle.unpack_rules.specs.Step.{unfedOf}
+use Rattle.unpack_rules.proofs.StepLaws.{unfed-fits, unfed-as}
 use Rattle.unpack.proofs.step.write_without_payload.Statement.{statement}
 use Rattle.unpack.proofs.step.write_without_payload.Tie as tie
 

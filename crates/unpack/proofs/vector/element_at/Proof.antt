@@ -1,5 +1,5 @@
-use Rattle.unpack.proofs.PayloadLaws.{width-some}
-use Rattle.unpack.proofs.VectorLaws.{shifted, width-power, four-words, element-code}
+use Rattle.unpack_rules.proofs.PayloadLaws.{width-some}
+use Rattle.unpack_rules.proofs.VectorLaws.{shifted, width-power, four-words, element-code}
 use native.Mathlib.Omega.{arith}
 use borrow.Author.Needs.{needs}
 use Rattle.unpack.proofs.vector.element_at.Statement.{statement}

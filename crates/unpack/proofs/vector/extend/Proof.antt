@@ -1,5 +1,5 @@
-use Rattle.unpack.proofs.VectorLaws.{halves}
-use Rattle.unpack.specs.Vector.{extended}
+use Rattle.unpack_rules.proofs.VectorLaws.{halves}
+use Rattle.unpack_rules.specs.Vector.{extended}
 use Rattle.fields.specs.Fields.{if}
 use borrow.Author.Tests.{lt-ltb, le-ltb}
 use native.Mathlib.Omega.{arith}

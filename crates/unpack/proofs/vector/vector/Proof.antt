@@ -1,6 +1,6 @@
-use Rattle.unpack.proofs.VectorLaws.{part-fits, part-as, part-near}
-use Rattle.unpack.proofs.VectorLaws.{vector-five, vector-one, vector-two, vector-three, vector-four}
-use Rattle.unpack.proofs.PayloadLaws.{few-elements}
+use Rattle.unpack_rules.proofs.VectorLaws.{part-fits, part-as, part-near}
+use Rattle.unpack_rules.proofs.VectorLaws.{vector-five, vector-one, vector-two, vector-three, vector-four}
+use Rattle.unpack_rules.proofs.PayloadLaws.{few-elements}
 use native.Mathlib.Omega.{arith}
 use mathlib.Core.Path.{sym, _∙_}
 use borrow.Author.Needs.{needs}

@@ -1,4 +1,4 @@
-use Rattle.unpack.proofs.VectorLaws.{fourth}
+use Rattle.unpack_rules.proofs.VectorLaws.{fourth}
 use Rattle.unpack.proofs.vector.word_of.Statement.{statement}
 use Rattle.unpack.proofs.vector.word_of.Tie as tie
 

@@ -1,6 +1,6 @@
 use native.Mathlib.Omega.{arith}
-use Rattle.unpack.proofs.PayloadLaws.{width-some}
-use Rattle.unpack.proofs.VectorLaws.{shifted, width-power}
+use Rattle.unpack_rules.proofs.PayloadLaws.{width-some}
+use Rattle.unpack_rules.proofs.VectorLaws.{shifted, width-power}
 use Rattle.unpack.proofs.VectorsLaws.{cut}
 use borrow.Author.Needs.{needs}
 use Rattle.unpack.proofs.vectors.element_inside.Statement.{statement}

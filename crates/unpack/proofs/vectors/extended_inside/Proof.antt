@@ -1,5 +1,5 @@
 use native.Mathlib.Omega.{arith}
-use Rattle.unpack.proofs.PayloadLaws.{width-some}
+use Rattle.unpack_rules.proofs.PayloadLaws.{width-some}
 use borrow.Author.Needs.{needs}
 use Rattle.unpack.proofs.vectors.extended_inside.Statement.{statement}
 use Rattle.unpack.proofs.vectors.extended_inside.Tie as tie

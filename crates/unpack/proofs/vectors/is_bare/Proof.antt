@@ -1,5 +1,4 @@
 use borrow.Author.Tests.{eq-eqb, ne-eqb}
-use borrow.Author.Needs.{needs}
 use Rattle.unpack.proofs.vectors.is_bare.Statement.{statement}
 use Rattle.unpack.proofs.vectors.is_bare.Tie as tie
 

@@ -1,4 +1,3 @@
-use mathlib.Core.Bool.{_&&_}
 use Rattle.fields.specs.Fields.{if}
 use borrow.Author.Tests.{lt-ltb, le-ltb, le-leb, lt-leb}
 use Rattle.unpack.proofs.vectors.mode_in.Statement.{statement}

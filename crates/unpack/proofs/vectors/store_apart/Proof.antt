@@ -1,14 +1,13 @@
-use mathlib.Core.Path.{_≡_, refl, sym, ap, _∙_}
-use Prim.Native.Nat.{ℕ, suc, _+_, _*_, _-_, _%_, _≤_, _<_}
+use mathlib.Core.Path.{_≡_, refl, sym, _∙_}
+use Prim.Native.Nat.{suc, _+_, _-_, _%_, _<_}
 use native.Mathlib.Nat.{mod-lt}
-use native.Mathlib.Numerals.{add-one}
 use native.Mathlib.Omega.{arith}
 use lib.ListN.{length}
 use borrow.Author.Needs.{needs}
-use Rattle.unpack.specs.Position.{vectorsBefore, positionOf}
+use Rattle.unpack_rules.specs.Position.{vectorsBefore, positionOf}
 use Rattle.unpack.specs.Short.{storesFrom}
 use Rattle.unpack.specs.Vectors.{vectorOf}
-use Rattle.unpack.proofs.WriteLaws.{position-inside}
+use Rattle.unpack_rules.proofs.WriteLaws.{position-inside}
 use Rattle.unpack.proofs.CopyLaws.{next-cycle, next-place, next-index, stores-more, stores-none}
 use Rattle.unpack.proofs.VectorsLaws.{index-few, index-words, index-first}
 use Rattle.unpack.proofs.vectors.store_apart.Statement.{statement}
@@ -83,11 +82,6 @@ add-wrapped c =
     let s = c .stride .ensures .few in
     omega arith
 
-wrapped-requires : tie.Need-wrapped-requires Inv-loop μ-loop
-wrapped-requires c κs =
-    let l = c .before .before .before .before .before .before .before in
-    l .before .before .before .before .before .pre .0 .memory .some
-
 next-in-cycle-requires : tie.Need-next-in-cycle-requires Inv-loop μ-loop
 next-in-cycle-requires c κs =
     let l = c .before .before .before .before .before .before .before .before in
@@ -135,14 +129,14 @@ store-apart-spec =
     Inv-loop
     μ-loop
     place-requires
-    (λ c κs. c .before .before .before .pre .0 .cycle .some)
+    (λ c κs. search needs)
     loop-holds
     quad-of-requires
     (λ c. search needs)
     store-quadword-requires
     stride-requires
     add-wrapped
-    wrapped-requires
+    (λ c κs. search needs)
     next-in-cycle-requires
     next-index-requires
     (λ c. search needs)

@@ -1,6 +1,6 @@
 use mathlib.Core.Path.{_≡_, refl, sym, _∙_}
-use Prim.Native.Nat.{ℕ, suc, _+_, _*_, _-_, _%_, _≤_, _<_}
-use native.Mathlib.Nat.{mod-lt, mul-zero, add-zero, mul-le-mul}
+use Prim.Native.Nat.{ℕ, _+_, _*_, _-_, _%_, _≤_}
+use native.Mathlib.Nat.{mod-lt}
 use native.Mathlib.Omega.{arith}
 use lib.ListN.{length}
 use borrow.Author.Needs.{needs}
@@ -31,9 +31,6 @@ loop-holds c = let p = c .before .before .before .pre in record { sizes = refl; 
 
 add-wrapped : tie.Need-add-wrapped Inv-loop μ-loop
 add-wrapped c = let p = c .before .before .before .before .before .pre in omega arith
-
-wrapped-requires : tie.Need-wrapped-requires Inv-loop μ-loop
-wrapped-requires c κs = c .before .before .before .before .before .pre .0 .some
 
 sub-smaller-2 : tie.Need-sub-smaller-2 Inv-loop μ-loop
 sub-smaller-2 c =
@@ -129,7 +126,7 @@ store-runs-spec =
     (λ c κs. search needs)
     loop-holds
     add-wrapped
-    wrapped-requires
+    (λ c κs. search needs)
     (λ c. search needs)
     sub-smaller-2
     (λ c κs. search needs)

@@ -1,5 +1,4 @@
-use mathlib.Core.Path.{_≡_, sym, _∙_}
-use native.Mathlib.Omega.{arith}
+use mathlib.Core.Path.{sym, _∙_}
 use borrow.Author.Needs.{needs}
 use Rattle.unpack.proofs.vectors.store_scalars_by.Statement.{statement}
 use Rattle.unpack.proofs.vectors.store_scalars_by.Tie as tie

@@ -1,9 +1,9 @@
-use mathlib.Core.Path.{_≡_, refl, sym, ap, _∙_}
+use mathlib.Core.Path.{sym, ap, _∙_}
 use native.Mathlib.Omega.{arith}
-use Rattle.unpack.specs.Whole.{storeQuadword}
+use Rattle.unpack_rules.specs.Whole.{storeQuadword}
 use Rattle.unpack.specs.Vectors.{vectorIn}
-use Rattle.unpack.proofs.PayloadLaws.{few-elements}
-use Rattle.unpack.proofs.VectorLaws.{vector-five, vector-one, vector-two, vector-three, vector-four}
+use Rattle.unpack_rules.proofs.PayloadLaws.{few-elements}
+use Rattle.unpack_rules.proofs.VectorLaws.{vector-five, vector-one, vector-two, vector-three, vector-four}
 use Rattle.unpack.proofs.VectorsLaws.{part-known, part-in, part-inside, five-in}
 use borrow.Author.Needs.{needs}
 use Rattle.unpack.proofs.vectors.store_vector.Statement.{statement}

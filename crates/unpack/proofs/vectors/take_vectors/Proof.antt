@@ -1,9 +1,9 @@
-use mathlib.Core.Path.{_≡_, sym, ap, _∙_}
+use mathlib.Core.Path.{_∙_}
 use native.Mathlib.Omega.{arith}
 use borrow.Author.Needs.{needs}
-use Rattle.unpack.specs.Step.{acting}
-use Rattle.unpack.proofs.CycleLaws.{vectors-few}
-use Rattle.unpack.proofs.StepLaws.{taken-is}
+use Rattle.unpack_rules.specs.Step.{acting}
+use Rattle.unpack_rules.proofs.CycleLaws.{vectors-few}
+use Rattle.unpack_rules.proofs.StepLaws.{taken-is}
 use Rattle.unpack.proofs.ReadLaws.{fed, words-most, vectors-most, vectors-ordered, vectors-fit, vectors-taken}
 use Rattle.unpack.proofs.vectors.take_vectors.Statement.{statement}
 use Rattle.unpack.proofs.vectors.take_vectors.Tie as tie

@@ -1,15 +1,14 @@
-use mathlib.Core.Path.{_≡_, refl, sym, ap, _∙_}
-use Prim.Native.Nat.{ℕ, suc, _+_, _*_, _-_, _%_, _≤_, _<_}
+use mathlib.Core.Path.{_≡_, refl, sym, _∙_}
+use Prim.Native.Nat.{ℕ, suc, _+_, _-_, _%_, _<_}
 use native.Mathlib.Nat.{mod-lt}
-use native.Mathlib.Numerals.{add-one}
 use native.Mathlib.Omega.{arith}
 use lib.ListN.{length}
 use borrow.Author.Needs.{needs}
-use Rattle.unpack.specs.Position.{vectorsBefore, positionOf}
-use Rattle.unpack.specs.Mask.{unfolded}
-use Rattle.unpack.specs.Write.{written, writesFrom}
+use Rattle.unpack_rules.specs.Position.{vectorsBefore, positionOf}
+use Rattle.unpack_rules.specs.Mask.{unfolded}
+use Rattle.unpack_rules.specs.Write.{written, writesFrom}
 use Rattle.unpack.specs.Vectors.{quadOf}
-use Rattle.unpack.proofs.WriteLaws.{position-inside, row-few, row-chosen, at-written, writes-more, writes-none}
+use Rattle.unpack_rules.proofs.WriteLaws.{position-inside, row-few, row-chosen, at-written, writes-more, writes-none}
 use Rattle.unpack.proofs.CopyLaws.{next-cycle, next-place, next-index}
 use Rattle.unpack.proofs.VectorsLaws.{index-few, index-first, index-written, mode-in, row-in}
 use Rattle.unpack.proofs.vectors.write_apart.Statement.{statement}
@@ -98,11 +97,6 @@ add-wrapped c =
     let s = c .stride .ensures .few in
     omega arith
 
-wrapped-requires : tie.Need-wrapped-requires Inv-loop μ-loop
-wrapped-requires c κs =
-    let l = c .before .before .before .before .before .before .before .before .before .before in
-    l .before .before .before .before .before .before .before .pre .0 .memory .some
-
 next-in-cycle-requires : tie.Need-next-in-cycle-requires Inv-loop μ-loop
 next-in-cycle-requires c κs =
     let l = c .before .before .before .before .before .before .before .before .before .before .before in
@@ -165,7 +159,7 @@ write-apart-spec =
     μ-loop
     (λ c κs. search needs)
     place-requires
-    (λ c κs. c .before .before .before .before .before .pre .0 .cycle .some)
+    (λ c κs. search needs)
     loop-holds
     quad-of-requires
     (λ c κs. search needs)
@@ -179,7 +173,7 @@ write-apart-spec =
     write-fields-requires
     stride-requires
     add-wrapped
-    wrapped-requires
+    (λ c κs. search needs)
     next-in-cycle-requires
     next-index-requires
     add-i

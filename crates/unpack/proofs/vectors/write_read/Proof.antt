@@ -1,5 +1,4 @@
 use mathlib.Core.Path.{sym, _∙_}
-use native.Mathlib.Omega.{arith}
 use borrow.Author.Needs.{needs}
 use Rattle.unpack.proofs.ReadLaws.{read-writes, read-stores}
 use Rattle.unpack.proofs.vectors.write_read.Statement.{statement}

@@ -1,22 +1,22 @@
 use mathlib.Core.Path.{_≡_, refl, sym, ap, _∙_}
 use mathlib.Core.Logic.{⊎-elim}
 use Prim.Native.Nat.{_+_, _*_, _-_, _≤_, _<_}
-use native.Mathlib.Nat.{add-zero, sub-zero}
+use native.Mathlib.Nat.{add-zero}
 use native.Mathlib.Omega.{arith}
 use borrow.Author.Needs.{needs}
 use lib.ListN.{length}
 use Rattle.fields.specs.Memory.{wordAt}
-use Rattle.unpack.specs.Payload.{wholeVectors}
-use Rattle.unpack.specs.Position.{vectorsBefore}
-use Rattle.unpack.specs.Write.{Written, written}
-use Rattle.unpack.specs.Range.{CycleFits, UnpackingFits}
-use Rattle.unpack.specs.Step.{takenWords, unpackWord}
-use Rattle.unpack.specs.Inner.{MemoryFits}
-use Rattle.unpack.specs.Whole.{wordsFrom, takenBy}
-use Rattle.unpack.proofs.CycleLaws.{vectors-few}
-use Rattle.unpack.proofs.StepLaws.{payload-few, taken-few, taken-is, completed-fits, word-taken, none-completed}
-use Rattle.unpack.proofs.LengthLaws.{word-length}
-use Rattle.unpack.proofs.WordsLaws.{unpacking-on, taken-on, whole-on, words-more, words-none}
+use Rattle.unpack_rules.specs.Payload.{wholeVectors}
+use Rattle.unpack_rules.specs.Position.{vectorsBefore}
+use Rattle.unpack_rules.specs.Write.{Written, written}
+use Rattle.unpack_rules.specs.Range.{CycleFits, UnpackingFits}
+use Rattle.unpack_rules.specs.Step.{takenWords, unpackWord}
+use Rattle.unpack_rules.specs.Inner.{MemoryFits}
+use Rattle.unpack_rules.specs.Whole.{wordsFrom, takenBy}
+use Rattle.unpack_rules.proofs.CycleLaws.{vectors-few}
+use Rattle.unpack_rules.proofs.StepLaws.{payload-few, taken-few, taken-is, completed-fits, word-taken, none-completed}
+use Rattle.unpack_rules.proofs.LengthLaws.{word-length}
+use Rattle.unpack_rules.proofs.WordsLaws.{unpacking-on, taken-on, whole-on, words-more, words-none}
 use Rattle.unpack.proofs.words.take_each.Statement.{statement}
 use Rattle.unpack.proofs.words.take_each.Tie as tie
 

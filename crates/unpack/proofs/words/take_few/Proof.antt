@@ -1,5 +1,5 @@
 use borrow.Author.Needs.{needs}
-use Rattle.unpack.proofs.WordsLaws.{words-zero}
+use Rattle.unpack_rules.proofs.WordsLaws.{words-zero}
 use Rattle.unpack.proofs.words.take_few.Statement.{statement}
 use Rattle.unpack.proofs.words.take_few.Tie as tie
 

@@ -1,8 +1,8 @@
-use mathlib.Core.Path.{_≡_, refl, sym, ap, _∙_}
+use mathlib.Core.Path.{refl, _∙_}
 use native.Mathlib.Omega.{arith}
 use borrow.Author.Needs.{needs}
-use Rattle.unpack.proofs.CycleLaws.{vectors-few}
-use Rattle.unpack.proofs.StepLaws.{payload-few, taken-is}
+use Rattle.unpack_rules.proofs.CycleLaws.{vectors-few}
+use Rattle.unpack_rules.proofs.StepLaws.{payload-few, taken-is}
 use Rattle.unpack.proofs.ReadLaws.{begun-fits, begun-due, begun-taken, words-joined}
 use Rattle.unpack.proofs.words.take_most.Statement.{statement}
 use Rattle.unpack.proofs.words.take_most.Tie as tie

@@ -1,9 +1,9 @@
 use mathlib.Core.Path.{sym, _∙_}
 use borrow.Author.Needs.{needs}
 use Rattle.fields.specs.Fields.{if}
-use Rattle.unpack.specs.Whole.{takeWordsOf}
-use Rattle.unpack.proofs.StepLaws.{acceptable-fits}
-use Rattle.unpack.proofs.WordsLaws.{words-accepted}
+use Rattle.unpack_rules.specs.Whole.{takeWordsOf}
+use Rattle.unpack_rules.proofs.StepLaws.{acceptable-fits}
+use Rattle.unpack_rules.proofs.WordsLaws.{words-accepted}
 use Rattle.unpack.proofs.ShortLaws.{goes-short, short-fits, words-as}
 use Rattle.unpack.proofs.words.take_words.Statement.{statement}
 use Rattle.unpack.proofs.words.take_words.Tie as tie

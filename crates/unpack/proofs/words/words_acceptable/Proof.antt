@@ -1,6 +1,6 @@
 use borrow.Author.Needs.{needs}
 use borrow.Author.Tests.{le-leb, lt-leb, lt-ltb, le-ltb}
-use Rattle.unpack.specs.Whole.{wordsAcceptable}
+use Rattle.unpack_rules.specs.Whole.{wordsAcceptable}
 use Rattle.unpack.proofs.words.words_acceptable.Statement.{statement}
 use Rattle.unpack.proofs.words.words_acceptable.Tie as tie
 

@@ -1,6 +1,6 @@
 use native.Mathlib.Nat.{add-zero, mod-lt}
 use native.Mathlib.Omega.{arith}
-use Rattle.unpack.proofs.PayloadLaws.{few-elements}
+use Rattle.unpack_rules.proofs.PayloadLaws.{few-elements}
 use Rattle.unpack.proofs.ReadLaws.{words-short}
 use borrow.Author.Needs.{needs}
 use Rattle.unpack.proofs.words.words_before.Statement.{statement}

@@ -2,7 +2,7 @@ use Prim.Native.Nat.{_+_}
 use native.Mathlib.Nat.{mod-lt}
 use native.Mathlib.Omega.{arith}
 use borrow.Author.Needs.{needs}
-use Rattle.unpack.proofs.WriteLaws.{unfed-written}
+use Rattle.unpack_rules.proofs.WriteLaws.{unfed-written}
 use Rattle.unpack.proofs.write.fill_at.Statement.{statement}
 use Rattle.unpack.proofs.write.fill_at.Tie as tie
 

@@ -1,6 +1,6 @@
 use mathlib.Core.List.{[], _∷_}
 use borrow.Author.Needs.{needs}
-use Rattle.unpack.proofs.WriteLaws.{stored}
+use Rattle.unpack_rules.proofs.WriteLaws.{stored}
 use Rattle.unpack.proofs.write.fill_quadword.Statement.{statement}
 use Rattle.unpack.proofs.write.fill_quadword.Tie as tie
 

@@ -1,7 +1,7 @@
 use borrow.Author.Needs.{needs}
 use borrow.Author.Tests.{lt-ltb, le-ltb}
 use mathlib.Core.Path.{sym, _∙_}
-use Rattle.unpack.proofs.WriteLaws.{filling-place}
+use Rattle.unpack_rules.proofs.WriteLaws.{filling-place}
 use Rattle.unpack.proofs.write.place.Statement.{statement}
 use Rattle.unpack.proofs.write.place.Tie as tie
 

@@ -1,4 +1,4 @@
-use Rattle.unpack.proofs.WriteLaws.{cycle-most, plain-place}
+use Rattle.unpack_rules.proofs.WriteLaws.{cycle-most, plain-place}
 use native.Mathlib.Nat.{mod-le}
 use native.Mathlib.Omega.{arith}
 use borrow.Author.Needs.{needs}

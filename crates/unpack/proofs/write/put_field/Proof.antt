@@ -1,4 +1,4 @@
-use Rattle.unpack.specs.Write.{putField}
+use Rattle.unpack_rules.specs.Write.{putField}
 use borrow.Author.Needs.{needs}
 use Rattle.unpack.proofs.write.put_field.Statement.{statement}
 use Rattle.unpack.proofs.write.put_field.Tie as tie

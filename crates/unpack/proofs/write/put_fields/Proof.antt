@@ -1,4 +1,4 @@
-use Rattle.unpack.proofs.WriteLaws.{stored}
+use Rattle.unpack_rules.proofs.WriteLaws.{stored}
 use borrow.Author.Needs.{needs}
 use Rattle.unpack.proofs.write.put_fields.Statement.{statement}
 use Rattle.unpack.proofs.write.put_fields.Tie as tie

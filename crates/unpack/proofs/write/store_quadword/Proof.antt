@@ -1,4 +1,4 @@
-use Rattle.unpack.specs.Whole.{storeQuadword}
+use Rattle.unpack_rules.specs.Whole.{storeQuadword}
 use borrow.Author.Needs.{needs}
 use Rattle.unpack.proofs.write.store_quadword.Statement.{statement}
 use Rattle.unpack.proofs.write.store_quadword.Tie as tie

@@ -1,4 +1,4 @@
-use Rattle.unpack.specs.Whole.{storeQuadword}
+use Rattle.unpack_rules.specs.Whole.{storeQuadword}
 use mathlib.Core.Path.{refl}
 use native.Mathlib.Omega.{arith}
 use lib.ListN.{length-set}

@@ -1,6 +1,6 @@
 use native.Mathlib.Omega.{arith}
 use borrow.Author.Needs.{needs}
-use Rattle.unpack.proofs.WriteLaws.{position-inside, at-written}
+use Rattle.unpack_rules.proofs.WriteLaws.{position-inside, at-written}
 use Rattle.unpack.proofs.write.write_at.Statement.{statement}
 use Rattle.unpack.proofs.write.write_at.Tie as tie
 

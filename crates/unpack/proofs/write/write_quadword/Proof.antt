@@ -1,4 +1,4 @@
-use Rattle.unpack.proofs.WriteLaws.{plain-stored}
+use Rattle.unpack_rules.proofs.WriteLaws.{plain-stored}
 use mathlib.Core.Path.{sym, _∙_}
 use borrow.Author.Needs.{needs}
 use Rattle.unpack.proofs.write.write_quadword.Statement.{statement}

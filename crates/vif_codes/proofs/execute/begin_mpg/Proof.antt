@@ -1,5 +1,5 @@
 use Rattle.vif_codes.specs.Execute.{beginMpg}
-use Rattle.unpack.proofs.StepLaws.{count-few}
+use Rattle.unpack_rules.proofs.StepLaws.{count-few}
 use native.Mathlib.Omega.{arith}
 use borrow.Author.Needs.{needs}
 use Rattle.vif_codes.proofs.execute.begin_mpg.Statement.{statement}

@@ -1,0 +1,13 @@
+use mathlib.Core.Path.{sym, _∙_}
+use borrow.Author.Needs.{needs}
+use Rattle.chain_state.proofs.range.units_in_range.Statement.{statement}
+use Rattle.chain_state.proofs.range.units_in_range.Tie as tie
+
+returns : tie.Need-returns
+returns c = rw (sym (c .before .before .unit-in-range .ensures) ∙ c .before .if1 .taken) (c .unit-in-range2 .ensures)
+
+returns-2 : tie.Need-returns-2
+returns-2 c = rw (sym (c .before .unit-in-range .ensures) ∙ c .if1 .left)
+
+pub units-in-range-spec : {M : Type 1} → statement M
+units-in-range-spec = tie.close (tie.spec (λ c κs. search needs) (λ c κs. search needs) returns returns-2)

@@ -1,0 +1,10 @@
+use mathlib.Core.Path.{refl}
+use Rattle.chain_state.proofs.setters.with_pending.Statement.{statement}
+use Rattle.chain_state.proofs.setters.with_pending.Tie as tie
+
+-- src/setters.rt:30:1
+returns : tie.Need-returns
+returns c = refl
+
+pub with-pending-spec : {M : Type 1} → statement M
+with-pending-spec = tie.close (tie.spec returns)
