@@ -1,6 +1,6 @@
 # Nothing but calls of rt, cargo, cc, clang and the programs that they build. What is built here goes to build/ and target/.
 .POSIX:
-.PHONY: all test check second bench host built command host-test demo install uninstall fuzz fuzz-build fuzz-run fuzz-text clean
+.PHONY: all test compared check second bench host built command host-test host-built command-test sanitized-test demo install uninstall fuzz fuzz-build fuzz-run fuzz-text clean
 
 SECOND = build/second/release/second
 ARCHIVE = target/staticlib/libtejborun.a
@@ -31,7 +31,13 @@ test:
 	rt fmt --check
 	mkdir -p build
 	{ RT_JOBS=4 rt ci 2>&1; echo $$? > build/ci.status; } | tee build/ci.log; test "$$(cat build/ci.status)" = 0
-	$(MAKE) second
+	$(MAKE) -j 2 compared host-built
+	build/host-test
+	$(MAKE) -j 2 command-test sanitized-test
+	@tail -n 1 build/ci.log
+
+# The second program's own points, and the proved programs compared with it; rt ci has built them.
+compared: second
 	cargo test --quiet --release --offline --manifest-path second/Cargo.toml --target-dir build/second
 	$(SECOND) compare-gif target/bin/gif_replay 1,2,3 20000
 	$(SECOND) compare-vif target/bin/vif_replay 1,2,3 100000
@@ -40,8 +46,6 @@ test:
 	$(SECOND) compare-salvage target/bin/salvage_replay 1,2,3 2000
 	$(SECOND) compare-check target/bin/check_replay 1,2,3 2000
 	$(SECOND) compare-totals target/bin/totals_replay 1,2,3 2000
-	$(MAKE) host-test
-	@tail -n 1 build/ci.log
 
 # The proofs and the programs alone.
 check:
@@ -74,12 +78,19 @@ command: built
 	$(CC) $(CFLAGS) -o build/tejborun $(HOST) $(ARCHIVE)
 
 # The tests of the command and of the C interface; the programs of the proved crates and the second program have been built.
-host-test: host
+host-test: host-built
+	build/host-test
+	$(MAKE) command-test sanitized-test
+
+host-built: host
 	$(CC) $(CFLAGS) $(SANITIZE) -o build/tejborun-sanitized $(HOST) $(ARCHIVE)
 	$(CC) $(CFLAGS) $(SANITIZE) -o build/host-test host/test.c host/message.c host/sum.c host/libmd/sha2.c $(ARCHIVE)
 	$(CC) $(CFLAGS) -o build/test-forms host/test_forms.c host/json.c
-	build/host-test
+
+command-test:
 	sh host/test.sh build/tejborun $(SECOND) target/bin
+
+sanitized-test:
 	sh host/test.sh build/tejborun-sanitized $(SECOND) target/bin 40
 
 # The command, its manual and completion, and the library with its headers; tejborun_message is put into it.
