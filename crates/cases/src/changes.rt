@@ -101,7 +101,8 @@ fn emit_long_change(out: &mut [u8; 65536], at: usize, i: usize, x: u64, y: u64) 
 }
 
 fn emit_word_changes(out: &mut [u8; 65536], at: usize, memory: &[u32], before: &[u32]) -> usize
-    ensures { λ r. ⌜ sent (now (out .exit)) r ≡ sentAll (now (out .entry)) at (changed one (numberIn (now (memory .entry))) (numberIn (now (before .entry))) (length (now (before .entry)))) ⌝ }
+    ensures { λ r. ⌜ sent (now (out .exit)) r
+        ≡ sentAll (now (out .entry)) at (changed one (numberIn (now (memory .entry))) (numberIn (now (before .entry))) (length (now (before .entry)))) ⌝ }
 {
     let mut n = at;
     let mut i = 0;
@@ -113,7 +114,8 @@ fn emit_word_changes(out: &mut [u8; 65536], at: usize, memory: &[u32], before: &
 }
 
 fn emit_byte_changes(out: &mut [u8; 65536], at: usize, memory: &[u8], before: &[u8]) -> usize
-    ensures { λ r. ⌜ sent (now (out .exit)) r ≡ sentAll (now (out .entry)) at (changed one (byteWord (now (memory .entry))) (byteWord (now (before .entry))) (wordsIn (now (before .entry)))) ⌝ }
+    ensures { λ r. ⌜ sent (now (out .exit)) r
+        ≡ sentAll (now (out .entry)) at (changed one (byteWord (now (memory .entry))) (byteWord (now (before .entry))) (wordsIn (now (before .entry)))) ⌝ }
 {
     let words = (before.len() + 3) / 4;
     let mut n = at;
@@ -126,7 +128,8 @@ fn emit_byte_changes(out: &mut [u8; 65536], at: usize, memory: &[u8], before: &[
 }
 
 fn emit_long_changes(out: &mut [u8; 65536], at: usize, memory: &[u64], before: &[u64]) -> usize
-    ensures { λ r. ⌜ sent (now (out .exit)) r ≡ sentAll (now (out .entry)) at (changed two (numberIn (now (memory .entry))) (numberIn (now (before .entry))) (length (now (before .entry)))) ⌝ }
+    ensures { λ r. ⌜ sent (now (out .exit)) r
+        ≡ sentAll (now (out .entry)) at (changed two (numberIn (now (memory .entry))) (numberIn (now (before .entry))) (length (now (before .entry)))) ⌝ }
 {
     let mut n = at;
     let mut i = 0;
@@ -174,7 +177,8 @@ pub fn tell_long_changes(
     memory: &[u64],
     before: &mut [u64],
 ) -> usize
-    ensures { λ r. ⌜ (sent (now (out .exit)) r ≡ sentAll (now (out .entry)) at (longChanges (now (memory .entry)) (now (before .entry)))) × (now (before .exit) ≡ kept (now (memory .entry)) (now (before .entry))) ⌝ }
+    ensures { λ r. ⌜ (sent (now (out .exit)) r ≡ sentAll (now (out .entry)) at (longChanges (now (memory .entry)) (now (before .entry))))
+        × (now (before .exit) ≡ kept (now (memory .entry)) (now (before .entry))) ⌝ }
 {
     let first = emit(out, at, count_longs(memory, before));
     let n = emit_long_changes(out, first, memory, before);
@@ -193,8 +197,11 @@ pub fn tell_changes(
     code_before: &mut [u8],
     log_before: &mut [u64],
 ) -> usize
-    ensures { λ r. ⌜ sent (now (out .exit)) r ≡ sentAll (now (out .entry)) at (wordChanges (now («data» .entry)) (now («data_before» .entry)) ++ (byteChanges (now (code .entry)) (now («code_before» .entry)) ++ longChanges (now (log .entry)) (now («log_before» .entry)))) ⌝ }
-    ensures { λ _. ⌜ (now («data_before» .exit) ≡ kept (now («data» .entry)) (now («data_before» .entry))) × (now («code_before» .exit) ≡ kept (now (code .entry)) (now («code_before» .entry))) × (now («log_before» .exit) ≡ kept (now (log .entry)) (now («log_before» .entry))) ⌝ }
+    ensures { λ r. ⌜ sent (now (out .exit)) r
+        ≡ sentAll (now (out .entry)) at (wordChanges (now («data» .entry)) (now («data_before» .entry)) ++ (byteChanges (now (code .entry)) (now («code_before» .entry)) ++ longChanges (now (log .entry)) (now («log_before» .entry)))) ⌝ }
+    ensures { λ _. ⌜ (now («data_before» .exit) ≡ kept (now («data» .entry)) (now («data_before» .entry)))
+        × (now («code_before» .exit) ≡ kept (now (code .entry)) (now («code_before» .entry)))
+        × (now («log_before» .exit) ≡ kept (now (log .entry)) (now («log_before» .entry))) ⌝ }
 {
     let words = emit(out, at, count_words(data, data_before));
     let a = emit_word_changes(out, words, data, data_before);

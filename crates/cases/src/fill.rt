@@ -43,7 +43,9 @@ pub fn fill_longs(memory: &mut [u64], first: u64)
 
 // Data memory, code memory and log.
 pub fn fill_memories(data: &mut [u32], code: &mut [u8], log: &mut [u64], first: u64)
-    ensures { λ _. ⌜ (now («data» .exit) ≡ ruled (fillNumber (2 ^ 32) first) (length (now («data» .entry)))) × (now (code .exit) ≡ ruled (fillNumber (2 ^ 8) (first + 1)) (length (now (code .entry)))) × (now (log .exit) ≡ ruled (fillNumber (2 ^ 64) (first + 2)) (length (now (log .entry)))) ⌝ }
+    ensures { λ _. ⌜ (now («data» .exit) ≡ ruled (fillNumber (2 ^ 32) first) (length (now («data» .entry))))
+        × (now (code .exit) ≡ ruled (fillNumber (2 ^ 8) (first + 1)) (length (now (code .entry))))
+        × (now (log .exit) ≡ ruled (fillNumber (2 ^ 64) (first + 2)) (length (now (log .entry)))) ⌝ }
 {
     fill_words(data, first);
     fill_bytes(code, std::num::wrapping_add_u64(first, 1));

@@ -1,17 +1,15 @@
 -- One run's sums fit their 64 bits: each tag is a step, and so is each quadword of its payload at most, of which only the last tag's may be pending.
-use mathlib.Core.Path.{_≡_, refl, sym, ap, _∙_}
+use mathlib.Core.Path.{_≡_, refl}
 use mathlib.Core.Bool.{Bool, true, false}
 use mathlib.Core.List.{List}
 use Prim.Native.Nat.{ℕ, _+_, _*_, _-_, _^_, _<_, _≤_}
 use native.Mathlib.Omega.{arith}
 use borrow.Author.Tests.{eqb-true, eqb-false, leb-true, leb-false}
-use lib.ListN.{length}
 use lib.Dec.{eqb, leb}
 use Rattle.fields.specs.declared.Counts.{Counts}
 use Rattle.fields.specs.declared.UnitCounts.{UnitCounts}
-use Rattle.fields.specs.Counts.{Counted, qwcUnder, totalQwc, unitCounts, ofUnit, none, oneTag, plus, SumsFit}
+use Rattle.fields.specs.Counts.{Counted, totalQwc, unitCounts, ofUnit, none, oneTag, plus, SumsFit}
 use Rattle.fields.proofs.CountLaws.{total-none, total-plus, total-under, counted-none, counted-quadword, counted-plus}
-use Rattle.fields.specs.Fields.{if}
 use Rattle.fields.specs.Memory.{longAt, quadwordAt}
 use Rattle.fields.proofs.ChoiceLaws.{if-ind, if-ind-by}
 use Rattle.fields.proofs.FieldLaws.{bits-below}

@@ -2,14 +2,13 @@
 use mathlib.Core.Path.{_≡_, refl, sym, ap, _∙_}
 use mathlib.Core.Bool.{Bool, true, false}
 use mathlib.Core.List.{List}
-use Prim.Native.Nat.{ℕ, zero, suc, _+_, _-_, _<_, _≤_}
+use Prim.Native.Nat.{ℕ, _+_, _-_, _<_, _≤_}
 use native.Mathlib.Omega.{arith}
 use borrow.Author.Tests.{eqb-true, eqb-false}
 use lib.Dec.{eqb}
 use Rattle.fields.specs.declared.Counts.{Counts}
 use Rattle.fields.specs.Counts.{none, plus}
 use Rattle.fields.proofs.CountLaws.{plus-none}
-use Rattle.fields.specs.Fields.{if}
 use Rattle.fields.proofs.ChoiceLaws.{if-ind}
 use Rattle.memories.specs.Lengths.{Lent}
 use Rattle.chain.specs.declared.Answer.{Answer}
@@ -21,9 +20,9 @@ use Rattle.chain_state.specs.Range.{entryRefusal}
 use Rattle.chain.specs.Step.{Machine, machine}
 use Rattle.chain.specs.Run.{Ran, ran, leftBy, done, counted, stepsOf, runOf}
 use Rattle.chain.specs.Stops.{stepFrom, Reaches, Stops, at-end, at-allowance, at-interrupt, at-refusal}
-use Rattle.chain.specs.Resume.{resumed, ChangesNothing}
+use Rattle.chain.specs.Resume.{ChangesNothing}
 use Rattle.chain.proofs.AfterLaws.{step-one}
-use Rattle.chain.proofs.RunLaws.{run-done, run-out, run-interrupts, run-refuses, run-refused, run-entered}
+use Rattle.chain.proofs.RunLaws.{run-done, run-interrupts, run-refuses, run-refused, run-entered}
 use Rattle.chain.proofs.Theorems.{run-stops, run-from, run-accepted}
 
 abbrev from : List ℕ → ℕ → Machine → Ran

@@ -25,7 +25,6 @@ use Rattle.vif.proofs.StepLaws.{vif-tested}
 use Rattle.vif.proofs.KeepLaws.{step-kept}
 use Rattle.chain_state.specs.declared.TagWords.{TagWords}
 use Rattle.chain_state.specs.declared.Payload.{Payload}
-use Rattle.chain.specs.declared.StepAnswer.the-variants.{Refused}
 use Rattle.chain.specs.declared.StepResult.{StepResult}
 use Rattle.chain_state.specs.declared.State.{State}
 use Rattle.fields.specs.Memory.{longAt}

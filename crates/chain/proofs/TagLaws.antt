@@ -1,7 +1,7 @@
 -- A tag from its two low words.
-use mathlib.Core.Path.{_≡_, refl, sym, ap, _∙_}
-use mathlib.Core.Bool.{Bool, true, false}
-use Prim.Native.Nat.{ℕ, _+_, _*_, _-_, _/_, _%_, _^_, _<_, _≤_}
+use mathlib.Core.Path.{_≡_, _∙_}
+use mathlib.Core.Bool.{false}
+use Prim.Native.Nat.{ℕ, _+_, _*_, _-_, _/_, _%_, _^_, _<_}
 use native.Mathlib.Nat.{div-one, add-mul-div-right, div-eq-of-lt, zero-add, mod-eq-of-lt}
 use native.Mathlib.Omega.{arith}
 use borrow.Author.Tests.{eq-eqb, ne-eqb}
@@ -11,13 +11,9 @@ use Rattle.fields.specs.Counts.{oneTag}
 use Rattle.fields.specs.Fields.{if, bits}
 use Rattle.fields.proofs.ChoiceLaws.{if-ind}
 use Rattle.fields.proofs.FieldLaws.{field-low, field-up}
-use Rattle.chain_state.specs.declared.Payload.{Payload}
 use Rattle.chain_state.specs.declared.Stack.{Stack}
-use Rattle.chain_state.specs.declared.TagWords.{TagWords}
-use Rattle.chain.specs.declared.StepAnswer.the-variants.{Completed, Refused}
 use Rattle.chain.specs.declared.StepResult.{StepResult}
 use Rattle.chain_state.specs.declared.State.{State}
-use Rattle.chain_state.specs.Setters.{withTag}
 use Rattle.chain.specs.Tags.{payloadAt, pushed, popped, tagRefusal, tagState, completedResult, refusedResult, tagRead}
 
 pub by-push : {k j : Stack} → k ≡ j → (a : ℕ) {r : Stack} → r ≡ pushed j a → r ≡ pushed k a

@@ -29,7 +29,7 @@ use Rattle.chain.specs.Tags.{tagState, tagRead, tagStep}
 use Rattle.chain_state.specs.Range.{unitOf}
 use Rattle.chain_state.specs.Pending.{tagsAfter, payloadAfter}
 use Rattle.chain.specs.Inner.{Ready}
-use Rattle.chain.specs.Step.{Stepped, steppedBy, fedUnit, afterVif, vifTook, vifGiven, afterGif, gifGiven, payloadStep, payloadOrTag, pendingOrTag, stepOf}
+use Rattle.chain.specs.Step.{Stepped, steppedBy, afterVif, vifTook, vifGiven, afterGif, gifGiven, payloadStep, payloadOrTag, pendingOrTag, stepOf}
 use Rattle.chain.proofs.ReadyLaws.{facts-of}
 
 pub channel-vif0 : (channel : ℕ) → channel ≡ 0 → unitOf channel ≡ Vif0

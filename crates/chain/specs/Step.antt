@@ -14,7 +14,6 @@ use Rattle.gif.specs.Step.{Left as GifLeft, gifStep}
 use Rattle.memories.specs.declared.VifUnit.{VifUnit}
 use Rattle.memories.specs.Lengths.{Lent, lent}
 use Rattle.vif_codes.specs.declared.Incoming.{Incoming}
-use Rattle.vif_codes.specs.declared.Vif.{Vif}
 use Rattle.vif_codes.specs.declared.VifAnswer.{VifAnswer}
 use Rattle.vif_codes.specs.declared.VifAnswer.the-variants.{Word, Quadword, Refused as VifRefused}
 use Rattle.vif_codes.specs.Counting.{countsIn}

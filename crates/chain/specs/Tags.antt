@@ -14,7 +14,6 @@ use Rattle.chain_state.specs.declared.TagWords.{TagWords}
 use Rattle.chain_state.specs.declared.TagWords.the-variants.{Nothing as NoTagWords, From}
 use Rattle.chain_state.specs.declared.Payload.{Payload}
 use Rattle.chain_state.specs.declared.Payload.the-variants.{Nothing as NoPayload, Words}
-use Rattle.chain.specs.declared.StepAnswer.{StepAnswer}
 use Rattle.chain.specs.declared.StepAnswer.the-variants.{Completed, Refused}
 use Rattle.chain.specs.declared.StepResult.{StepResult}
 use Rattle.chain_state.specs.declared.State.{State}

@@ -3,7 +3,7 @@ use chain_state::Payload;
 use chain_state::State;
 use chain_state::TagWords;
 ghost use mathlib.Core.Path.{_≡_};
-ghost use Prim.Native.Nat.{_+_, _*_, _^_, _<_, _≤_};
+ghost use Prim.Native.Nat.{_+_, _*_, _^_, _<_};
 ghost use Rattle.chain_state.specs.Pending.{noTags, noPayload, nothingPending, tagsAfter, payloadAfter};
 ghost use Rattle.chain.specs.Run.{done};
 

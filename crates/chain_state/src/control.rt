@@ -16,7 +16,7 @@ use vif_codes::Waiting;
 ghost use mathlib.Core.Path.{_≡_};
 ghost use mathlib.Core.Bool.{_&&_};
 ghost use Rattle.chain_state.specs.Range.{startInRange, stateInRange};
-ghost use Rattle.chain_state.specs.Start.{resetPath, resetUnit, resetState, startResult, startedFrom, startOf};
+ghost use Rattle.chain_state.specs.Start.{resetPath, resetUnit, resetState, startedFrom, startOf};
 
 fn reset_path() -> Path
     ensures { λ r. ⌜ r ≡ resetPath ⌝ }

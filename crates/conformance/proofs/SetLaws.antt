@@ -1,6 +1,6 @@
 -- Request 7: "demand 3 is unaffected": its premises hold with a number of either unit set where they held without, and so does its conclusion.
 use Prim.Native.Nat.{ℕ}
-use mathlib.Core.Path.{_≡_, refl, ap, _∙_}
+use mathlib.Core.Path.{_≡_, ap, _∙_}
 use mathlib.Core.Bool.{false}
 use mathlib.Core.List.{List}
 use lib.ListN.{length}

@@ -1,7 +1,6 @@
 -- What setting a number leaves alone, for every block, number and value.
 use Prim.Native.Nat.{ℕ, _-_}
 use mathlib.Core.Path.{_≡_, refl}
-use mathlib.Core.Bool.{Bool}
 use lib.ListN.{length, set, length-set}
 use lib.Dec.{ltb}
 use Rattle.fields.proofs.ChoiceLaws.{if-ind}
@@ -9,8 +8,7 @@ use Rattle.memories.specs.declared.VifUnit.{VifUnit}
 use Rattle.vif_codes.specs.declared.Vif.{Vif}
 use Rattle.vif_codes.specs.Setters.{withRow, withCol}
 use Rattle.vif_codes.specs.Range.{registersInRange, unitInRange}
-use Rattle.console.specs.declared.SetResult.{SetResult}
-use Rattle.console.specs.Register.{isWaiting, numberSet, setOf}
+use Rattle.console.specs.Register.{numberSet}
 
 module _ (v : Vif) (number value : ℕ) where
   by-number : (P : Vif → Type 0) → P (withRow v (set (v .row) number value)) → P (withCol v (set (v .col) (number - 4) value)) → P (numberSet v number value)

@@ -8,7 +8,6 @@ use Rattle.fields.specs.Refusals.{outOfRange}
 use Rattle.memories.specs.declared.VifUnit.{VifUnit}
 use Rattle.memories.specs.declared.VifUnit.the-variants.{Vif0, Vif1}
 use Rattle.memories.specs.Lengths.{Lent}
-use Rattle.vif_codes.specs.Range.{unitInRange}
 use Rattle.chain_state.specs.declared.State.{State}
 use Rattle.chain_state.specs.declared.StartAnswer.the-variants.{Started, Refused}
 use Rattle.chain_state.specs.declared.StartResult.{StartResult}

@@ -1,6 +1,6 @@
 -- The same in a state block (docs/FORMATS.md), which has both units' registers. Request 10: "Request 7 takes either unit's block, 51 by that unit's waiting code."
 use Prim.Native.Nat.{ℕ, _+_}
-use mathlib.Core.Bool.{Bool, not, _||_}
+use mathlib.Core.Bool.{not, _||_}
 use mathlib.Core.List.{List}
 use lib.ListN.{set}
 use lib.Dec.{eqb, ltb}

@@ -1,6 +1,6 @@
 -- Data of a tag taken many quadwords at a time: one more of them.
-use mathlib.Core.Path.{_≡_, refl, sym, ap, _∙_}
-use mathlib.Core.Bool.{Bool, true, false, _||_, _&&_}
+use mathlib.Core.Path.{_≡_, refl, ap, _∙_}
+use mathlib.Core.Bool.{Bool, true, false, _&&_}
 use mathlib.Core.List.{List, _++_}
 use Prim.Native.Nat.{ℕ, _+_, _*_, _-_, _/_, _%_, _^_, _<_, _≤_}
 use native.Mathlib.Nat.{zero-add, sub-zero}
@@ -19,12 +19,10 @@ use Rattle.gif.specs.declared.Write.{Write}
 use Rattle.gif.specs.declared.Writes.{Writes}
 use Rattle.gif.specs.declared.TagFormat.the-variants.{Packed, Reglist, Image}
 use Rattle.gif.specs.declared.HeldTag.{HeldTag}
-use Rattle.gif.specs.declared.Place.{Place}
 use Rattle.gif.specs.declared.Place.the-variants.{Idle, Data}
 use Rattle.gif.specs.declared.Path.{Path}
 use Rattle.gif.specs.declared.QuadwordsResult.{QuadwordsResult}
-use Rattle.gif.specs.declared.GifAnswer.the-variants.{Taken}
-use Rattle.gif.specs.Log.{entrySize, HasRoom, entriesBy, logged, LogFits}
+use Rattle.gif.specs.Log.{entrySize, HasRoom, entriesBy, logged}
 use Rattle.gif.specs.Tag.{pathOf, withDue, takenOf, descriptorAt, placeAfter, placeAtTag, tagCloses, dataCloses, tagQ, tagWrites}
 use Rattle.gif.specs.Packed.{packedWrites, packedQ}
 use Rattle.gif.specs.Reglist.{reglistWrite}

@@ -1,9 +1,8 @@
 -- The data steps from what their parts give.
-use mathlib.Core.Path.{_≡_, refl, sym, ap, _∙_}
+use mathlib.Core.Path.{_≡_, refl}
 use mathlib.Core.Bool.{Bool, true, false, _||_, _&&_}
-use mathlib.Core.List.{List, [], _∷_, _++_, append-nil}
-use Prim.Native.Nat.{ℕ, _+_, _*_, _<_, _≤_, _^_}
-use native.Mathlib.Omega.{arith}
+use mathlib.Core.List.{List, [], _++_}
+use Prim.Native.Nat.{ℕ, _+_, _*_, _<_, _^_}
 use borrow.Author.Tests.{eq-eqb, ne-eqb}
 use lib.Dec.{eqb, ltb}
 use Rattle.gif.specs.declared.TagFormat.{TagFormat}
@@ -13,11 +12,11 @@ use Rattle.gif.specs.declared.Path.{Path}
 use Rattle.gif.specs.declared.GifPath.{GifPath}
 use Rattle.gif.specs.declared.Write.{Write}
 use Rattle.gif.specs.declared.GifResult.{GifResult}
-use Rattle.fields.specs.Fields.{if, bits, quadword}
+use Rattle.fields.specs.Fields.{if, quadword}
 use Rattle.gif.specs.Tag.{pathOf, placeAfter, takenOf, descriptorAt, dataCloses}
 use Rattle.gif.specs.Packed.{packedWrites, packedQ}
 use Rattle.gif.specs.Reglist.{reglistWrite, reglistWrites, reglistRefused}
-use Rattle.gif.specs.Step.{Left, left, refused, refusedResult, commit, packedWith, packedStep, reglistStep, dataStep, stepAt}
+use Rattle.gif.specs.Step.{Left, left, refusedResult, commit, packedWith, packedStep, reglistStep, dataStep, stepAt}
 use Rattle.fields.proofs.FieldLaws.{whole-low, whole-high}
 
 module _ (which : GifPath) (p : Path) (t : HeldTag) (quad used : ℕ) (log : List ℕ) {k d : ℕ} (ek : k ≡ takenOf t) (ed : d ≡ descriptorAt t k) where

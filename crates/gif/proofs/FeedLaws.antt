@@ -22,7 +22,7 @@ use Rattle.gif.specs.declared.GifAnswer.the-variants.{Taken, Refused}
 use Rattle.gif.specs.declared.GifResult.{GifResult}
 use Rattle.gif.specs.Log.{entrySize, logRefused, LogFits}
 use Rattle.gif.specs.Range.{pathInRange, PlaceFits}
-use Rattle.gif.specs.Step.{Left, left, refused, gifStep}
+use Rattle.gif.specs.Step.{Left, left, gifStep}
 use Rattle.gif.specs.Feed.{Fed, fed, oneMore, afterQuadword, onQuadword, feedsOf, feedRefusal, feedOf}
 use Rattle.gif.specs.Inner.{plus, Leads, QuadwordsInside}
 use Rattle.gif.proofs.LogLaws.{logged-length}

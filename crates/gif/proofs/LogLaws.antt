@@ -7,7 +7,7 @@ use native.Mathlib.Omega.{arith}
 use borrow.Author.Tests.{lt-ltb, le-ltb, ltb-true, ltb-false}
 use lib.ListN.{length, set, take, drop, length-append}
 use lib.Seq.{sets, length-sets, sets-eq, length-take-le, take-at, drop-at}
-use lib.Dec.{eqb, ltb}
+use lib.Dec.{ltb}
 use Rattle.gif.specs.declared.GifPath.{GifPath}
 use Rattle.gif.specs.declared.Write.{Write}
 use Rattle.gif.specs.declared.Entry.{Entry}

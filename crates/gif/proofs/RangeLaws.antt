@@ -1,19 +1,16 @@
 -- Tests as facts.
-use mathlib.Core.Path.{_≡_, refl}
-use mathlib.Core.Bool.{Bool, true, false, not, _&&_, _||_}
+use mathlib.Core.Path.{_≡_}
+use mathlib.Core.Bool.{true, false, not}
 use mathlib.Core.List.{List}
-use Prim.Native.Nat.{ℕ, _+_, _*_, _%_, _<_, _≤_}
-use native.Mathlib.Omega.{arith}
+use Prim.Native.Nat.{ℕ, _%_, _≤_}
 use Rattle.fields.proofs.ChoiceLaws.{and-left, and-right, or-left, or-right}
 use borrow.Author.Tests.{ltb-false, leb-true, le-leb}
 use lib.ListN.{length}
 use lib.Dec.{eqb, ltb, leb}
 use Rattle.gif.specs.declared.HeldTag.{HeldTag}
-use Rattle.gif.specs.declared.Place.{Place}
-use Rattle.gif.specs.declared.Place.the-variants.{Idle, Data}
 use Rattle.gif.specs.Log.{entrySize, logMost, logRefused, LogFits}
 use Rattle.gif.specs.Tag.{quadwordsOf}
-use Rattle.gif.specs.Range.{within, tagInRange, placeInRange, TagFits, PlaceFits}
+use Rattle.gif.specs.Range.{within, tagInRange, TagFits}
 
 pub within-fits : (a b n : ℕ) → within a b n ≡ true → (a ≤ n) × (n ≤ b)
 within-fits a b n h = (leb-true _ _ (and-left _ _ h), leb-true _ _ (and-right (leb a n) _ h))

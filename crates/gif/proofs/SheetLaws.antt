@@ -1,26 +1,26 @@
 -- A test sheet's GIF tag and its A+D quadwords, over their number.
-use mathlib.Core.Path.{_≡_, refl, sym, ap, _∙_}
+use mathlib.Core.Path.{_≡_, refl, _∙_}
 use mathlib.Core.Bool.{Bool, true, false}
-use mathlib.Core.List.{List, [], _∷_, _++_}
+use mathlib.Core.List.{List, [], _∷_}
 use Prim.Native.Nat.{ℕ, zero, suc, _+_, _*_, _-_, _/_, _%_, _^_, _<_, _≤_}
 use native.Mathlib.Nat.{add-zero, mul-one, mod-one}
 use native.Mathlib.Omega.{arith}
-use borrow.Author.Tests.{le-ltb, ne-eqb, eq-eqb}
+use borrow.Author.Tests.{le-ltb, ne-eqb}
 use lib.ListN.{length}
-use lib.Dec.{eqb, ltb}
+use lib.Dec.{eqb}
 use Rattle.gif.specs.declared.GifPath.{GifPath}
 use Rattle.gif.specs.declared.Write.{Write}
-use Rattle.gif.specs.declared.TagFormat.the-variants.{Packed, Reglist, Image}
+use Rattle.gif.specs.declared.TagFormat.the-variants.{Packed}
 use Rattle.gif.specs.declared.HeldTag.{HeldTag}
 use Rattle.gif.specs.declared.Place.{Place}
 use Rattle.gif.specs.declared.Place.the-variants.{Idle, Data}
 use Rattle.gif.specs.declared.Path.{Path}
-use Rattle.gif.specs.declared.GifAnswer.the-variants.{Taken, Refused}
+use Rattle.gif.specs.declared.GifAnswer.the-variants.{Taken}
 use Rattle.fields.specs.Fields.{if, bits, quadword}
 use Rattle.gif.specs.Log.{entrySize, HasRoom, entriesBy, logged, lacksRoom}
 use Rattle.gif.specs.Tag.{pathOf, formatOf, nregOf, quadwordsOf, tagOf, tagQ, tagWrites, takenOf, descriptorAt, placeAfter, placeAtTag, eopOf, tagCloses, dataCloses}
 use Rattle.gif.specs.Packed.{packedWrites, packedQ}
-use Rattle.gif.specs.Step.{Left, commit, tagStep, packedWith, packedStep, stepAt, gifStep}
+use Rattle.gif.specs.Step.{Left, commit, tagStep, packedWith, gifStep}
 use Rattle.gif.specs.Run.{sheetTag, addressData}
 use Rattle.fields.proofs.FieldLaws.{whole-high}
 use Rattle.gif.proofs.TagLaws.{flg-at, nreg-at, nloop-at, pre-at, eop-at}

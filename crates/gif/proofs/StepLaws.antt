@@ -1,13 +1,12 @@
 -- The laws of a step that the crates above cite.
-use mathlib.Core.Path.{_≡_, refl, sym, ap, _∙_}
-use mathlib.Core.Bool.{Bool, true, false, _&&_}
-use mathlib.Core.List.{List, [], _∷_, _++_, append-assoc}
-use Prim.Native.Nat.{ℕ, zero, suc, _+_, _*_, _-_, _/_, _%_, _^_, _<_, _≤_}
+use mathlib.Core.Path.{_≡_, refl, sym, ap}
+use mathlib.Core.Bool.{Bool, true, false}
+use mathlib.Core.List.{List, []}
+use Prim.Native.Nat.{ℕ, _+_, _*_, _-_, _<_, _≤_}
 use native.Mathlib.Nat.{add-zero, le-refl, mul-pos}
 use native.Mathlib.Omega.{arith}
-use borrow.Author.Tests.{ltb-true, ltb-false, le-ltb, eqb-false, ne-eqb, eq-eqb}
-use lib.ListN.{length, take, drop, length-append}
-use lib.Seq.{sets, sets-eq, length-sets, take-at, drop-at, length-take-le}
+use borrow.Author.Tests.{ltb-false, eqb-false}
+use lib.ListN.{length}
 use lib.Dec.{eqb, ltb}
 use Rattle.gif.specs.declared.GifPath.{GifPath}
 use Rattle.gif.specs.declared.Write.{Write}
@@ -18,12 +17,11 @@ use Rattle.gif.specs.declared.HeldTag.{HeldTag}
 use Rattle.gif.specs.declared.Place.{Place}
 use Rattle.gif.specs.declared.Place.the-variants.{Idle, Data}
 use Rattle.gif.specs.declared.Path.{Path}
-use Rattle.gif.specs.declared.GifAnswer.{GifAnswer}
-use Rattle.gif.specs.declared.GifAnswer.the-variants.{Taken, Refused}
-use Rattle.fields.specs.Fields.{if, bits, quadword}
+use Rattle.gif.specs.declared.GifAnswer.the-variants.{Refused}
+use Rattle.fields.specs.Fields.{if, bits}
 use Rattle.gif.specs.Log.{entrySize, entriesBy, logged, lacksRoom, logRefused}
-use Rattle.gif.specs.Tag.{pathOf, formatOf, nregOf, quadwordsOf, tagOf, placeAfter, placeAtTag, withDue, nloopOf}
-use Rattle.gif.specs.Range.{within, tagInRange, placeInRange, pathInRange, TagFits}
+use Rattle.gif.specs.Tag.{formatOf, nregOf, quadwordsOf, tagOf, placeAfter, placeAtTag, withDue, nloopOf}
+use Rattle.gif.specs.Range.{placeInRange, pathInRange, TagFits}
 use Rattle.gif.specs.Step.{Left, refused, commit, tagStep, packedWith, reglistStep, imageStep, dataStep, stepAt, gifStep, takeOf}
 use Rattle.fields.proofs.ChoiceLaws.{if-ind, if-ind-by}
 use Rattle.gif.proofs.LogLaws.{entries-length}

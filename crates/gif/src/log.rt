@@ -11,7 +11,7 @@ use super::Writes;
 use fields::refusals;
 ghost use mathlib.Core.Path.{_≡_};
 ghost use mathlib.Core.List.{[], _∷_};
-ghost use Prim.Native.Nat.{_+_, _*_, _≤_};
+ghost use Prim.Native.Nat.{_+_, _*_};
 ghost use lib.ListN.{length};
 ghost use Rattle.gif.specs.Log.{HasRoom, entry, pathNumber, entryBy, entriesBy, logged, logRefused, LogFits, entered, entryOf};
 ghost use Rattle.gif.specs.Step.{left, commit};

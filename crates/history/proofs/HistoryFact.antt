@@ -25,9 +25,9 @@ use Rattle.chain.specs.Inner.{Ready}
 use Rattle.chain_state.specs.Pending.{payloadPending}
 use Rattle.chain_state.specs.Start.{startOf}
 use Rattle.chain.specs.Step.{Stepped, stepOf}
-use Rattle.chain.specs.Run.{Ran, ran, leftBy, done, counted, afterStep, onStep, stepsOf, runOf}
+use Rattle.chain.specs.Run.{Ran, ran, leftBy, done, counted, afterStep, stepsOf, runOf}
 use Rattle.chain.proofs.AfterLaws.{step-stays, step-one}
-use Rattle.history.specs.Trace.{Event, tracedBy, traced, eventOf, stepsTrace, traceOf, sumOf, qwcIn, payloadIn, qwcWith, qwcRead, payloadTaken, qwcsIn, qwcsRead}
+use Rattle.history.specs.Trace.{Event, tracedBy, eventOf, stepsTrace, traceOf, sumOf, qwcIn, payloadIn, qwcWith, qwcRead, payloadTaken, qwcsIn, qwcsRead}
 use Rattle.history.specs.History.{History, begins, runs, Balanced}
 use Rattle.history.proofs.StepBalance.{Balances, step-balances}
 

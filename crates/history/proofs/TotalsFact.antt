@@ -1,19 +1,15 @@
 -- The totals and the history.
 use mathlib.Core.Path.{_≡_, refl, sym, ap, _∙_}
 use mathlib.Core.List.{List, [], _∷_, _++_}
-use Prim.Native.Nat.{ℕ, _+_, _*_, _<_}
+use Prim.Native.Nat.{ℕ, _+_}
 use native.Mathlib.Omega.{arith}
-use Rattle.fields.specs.declared.Counts.{Counts}
-use Rattle.fields.specs.declared.Qwc.{Qwc}
 use Rattle.fields.specs.Counts.{qwcUnder, plusQwc, totalQwc}
-use Rattle.fields.specs.Fields.{bits}
 use Rattle.fields.proofs.CountLaws.{plus-qwc-none, plus-plus-qwc, total-none, total-plus, total-under}
 use Rattle.fields.proofs.FieldLaws.{bits-below}
 use Rattle.chain_state.specs.declared.State.{State}
 use Rattle.chain.specs.Tags.{qwcOf, idOf}
 use Rattle.chain.specs.Run.{runOf}
 use Rattle.totals.specs.declared.Totals.{Totals}
-use Rattle.totals.specs.Totals.{added}
 use Rattle.totals.proofs.AddLaws.{added-exact}
 use Rattle.history.specs.Trace.{Event, tag, payload, tagWord, traceOf, sumOf, qwcIn, qwcWith, qwcRead, qwcsIn, qwcsRead}
 use Rattle.history.specs.History.{History, begins, runs}

@@ -149,7 +149,9 @@ fn put_record(
     at: usize,
 ) -> usize
     requires { ⌜ RecordRoom (now sheet) body kind n a (now output) at ⌝ }
-    ensures { λ r. ⌜ (r ≡ at + 16 * quadwordsOf kind n) × (now (output .exit) ≡ sets (now (output .entry)) at (laidOut (recordOf kind n a (bytesAt (now (sheet .entry)) body (bodyLength kind n))))) ⌝ }
+    ensures { λ r. ⌜ (r ≡ at + 16 * quadwordsOf kind n)
+        × (now (output .exit)
+        ≡ sets (now (output .entry)) at (laidOut (recordOf kind n a (bytesAt (now (sheet .entry)) body (bodyLength kind n))))) ⌝ }
 {
     let size = body_length(kind, n);
     let to = put_lead(kind, n, a, output, at);
@@ -280,7 +282,8 @@ pub fn build(sheet: &[u8], output: &mut [u8]) -> BuildAnswer
 
 // The same with one number for its answer: the chain's length in bytes, or the refusal without its offset.
 pub fn build_number(sheet: &[u8], output: &mut [u8]) -> usize
-    ensures { λ r. ⌜ (r ≡ exportedNumber (buildOf (now (sheet .entry)) (now (output .entry)) .answer)) × (now (output .exit) ≡ buildOf (now (sheet .entry)) (now (output .entry)) .output) ⌝ }
+    ensures { λ r. ⌜ (r ≡ exportedNumber (buildOf (now (sheet .entry)) (now (output .entry)) .answer))
+        × (now (output .exit) ≡ buildOf (now (sheet .entry)) (now (output .entry)) .output) ⌝ }
 {
     match build(sheet, output) {
         BuildAnswer::Built(n) => n,

@@ -206,7 +206,8 @@ fn match_group(
     used: u64,
     front: Front,
 ) -> Met
-    requires { ⌜ (0 < repetitions) × TurnsFit (MatchRoom (now log) used) repetitions (membersAt (now sheet) depth members at) (matching (now «data») (now code) front) ⌝ }
+    requires { ⌜ (0 < repetitions)
+        × TurnsFit (MatchRoom (now log) used) repetitions (membersAt (now sheet) depth members at) (matching (now «data») (now code) front) ⌝ }
     ensures { λ r. ⌜ done (r .next) (matching (now («data» .exit)) (now (code .exit)) (r .front))
         ≡ turnsDone (matchedAll (now (log .entry)) used) repetitions (membersAt (now (sheet .entry)) depth members at) (matching (now («data» .entry)) (now (code .entry)) front) ⌝ }
 {

@@ -53,7 +53,8 @@ pub extern "C" fn tejborun_build_and_run(
     allowance: u64,
     result: &mut [u64],
 ) -> u32
-    ensures { λ r. ⌜ left r (now (main .exit)) (lent (now («data» .exit)) (now (code .exit)) (now (log .exit))) (now (block .exit)) (now (result .exit)) ≡ playCall (now (sheet .entry)) (now (main .entry)) address (lent (now («data» .entry)) (now (code .entry)) (now (log .entry))) (now (block .entry)) allowance (now (result .entry)) ⌝ }
+    ensures { λ r. ⌜ left r (now (main .exit)) (lent (now («data» .exit)) (now (code .exit)) (now (log .exit))) (now (block .exit)) (now (result .exit))
+        ≡ playCall (now (sheet .entry)) (now (main .entry)) address (lent (now («data» .entry)) (now (code .entry)) (now (log .entry))) (now (block .entry)) allowance (now (result .entry)) ⌝ }
 {
     if block.len() != STATE_WORDS {
         return 60;

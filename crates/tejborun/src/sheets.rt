@@ -12,7 +12,8 @@ ghost use Rattle.tejborun.specs.Sheets.{stepsCall, meant, meaningCall, r
 // What the bench host calls.
 #[no_mangle]
 pub extern "C" fn tejborun_build(sheet: &[u8], output: &mut [u8]) -> usize
-    ensures { λ r. ⌜ (r ≡ exportedNumber (buildOf (now (sheet .entry)) (now (output .entry)) .answer)) × (now (output .exit) ≡ buildOf (now (sheet .entry)) (now (output .entry)) .output) ⌝ }
+    ensures { λ r. ⌜ (r ≡ exportedNumber (buildOf (now (sheet .entry)) (now (output .entry)) .answer))
+        × (now (output .exit) ≡ buildOf (now (sheet .entry)) (now (output .entry)) .output) ⌝ }
 {
     sheet_builder::build_number(sheet, output)
 }
@@ -45,7 +46,8 @@ pub extern "C" fn tejborun_meaning(
     used: u64,
     result: &mut [u64],
 ) -> u32
-    ensures { λ r. ⌜ meant r (lent (now («data» .exit)) (now (code .exit)) (now (log .exit))) (now (result .exit)) ≡ meaningCall (now (sheet .entry)) (lent (now («data» .entry)) (now (code .entry)) (now (log .entry))) used (now (result .entry)) ⌝ }
+    ensures { λ r. ⌜ meant r (lent (now («data» .exit)) (now (code .exit)) (now (log .exit))) (now (result .exit))
+        ≡ meaningCall (now (sheet .entry)) (lent (now («data» .entry)) (now (code .entry)) (now (log .entry))) used (now (result .entry)) ⌝ }
 {
     if result.len() < 2 {
         return 60;

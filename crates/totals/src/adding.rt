@@ -7,7 +7,6 @@ use fields::refusals;
 ghost use mathlib.Core.Path.{_≡_};
 ghost use mathlib.Core.Bool.{_||_};
 ghost use Prim.Native.Nat.{_+_};
-ghost use Rattle.fields.specs.Counts.{plusModulo};
 ghost use Rattle.totals.specs.Totals.{numbersOf, countsOf, totalsIn, passes, anyPasses, added, addOf};
 
 const MOST: u64 = 18446744073709551615;

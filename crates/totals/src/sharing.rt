@@ -1,7 +1,6 @@
 // The NOP share.
 use super::Share;
 use super::Totals;
-ghost use mathlib.Core.Path.{_≡_};
 ghost use Rattle.totals.specs.Share.{NopShare};
 ghost use Rattle.totals.specs.Inner.{Greatest};
 

@@ -2,13 +2,12 @@
 use mathlib.Core.Path.{_≡_, refl, sym, ap, _∙_}
 use mathlib.Core.Bool.{Bool, true, false}
 use mathlib.Core.List.{List}
-use Prim.Native.Nat.{ℕ, zero, suc, _+_, _*_, _-_, _/_, _%_, _<_, _≤_}
-use native.Mathlib.Nat.{add-zero, sub-zero}
+use Prim.Native.Nat.{ℕ, suc, _+_, _*_, _-_, _/_, _%_, _<_}
+use native.Mathlib.Nat.{sub-zero}
 use native.Mathlib.Numerals.{one-add}
 use native.Mathlib.Omega.{arith}
-use borrow.Author.Tests.{ne-eqb, le-leb, lt-ltb}
-use lib.ListN.{length}
-use lib.Dec.{eqb, leb, ltb}
+use borrow.Author.Tests.{ne-eqb}
+use lib.Dec.{eqb}
 use Rattle.fields.specs.Fields.{if}
 use Rattle.fields.specs.Memory.{wordAt, longAt, quadwordAt}
 use Rattle.fields.proofs.ChoiceLaws.{if-ind}
@@ -19,36 +18,22 @@ use Rattle.gif.specs.declared.QuadwordsResult.{QuadwordsResult}
 use Rattle.gif.specs.Step.{gifStep}
 use Rattle.gif.specs.Feed.{Fed as GifFed, fedBy, feedOf as gifFeedOf}
 use Rattle.fields.specs.declared.UnitCounts.{UnitCounts}
-use Rattle.fields.specs.Counts.{noUnits, oneWord, wordsAlone, quadwordsAlone, plusUnits, Counted}
-use Rattle.fields.proofs.CountLaws.{one-quiet, counted-quadwords, counted-plus}
+use Rattle.fields.specs.Counts.{quadwordsAlone, plusUnits, Counted}
+use Rattle.fields.proofs.CountLaws.{counted-quadwords, counted-plus}
 use Rattle.gif.proofs.FeedLaws.{Takes, none, more, feed-quadwords, feed-few, takes-packets}
 use Rattle.memories.specs.declared.VifUnit.{VifUnit}
-use Rattle.memories.specs.Units.{quadwords, instructions}
 use Rattle.memories.specs.Lengths.{Lent, lent}
-use Rattle.unpack_rules.specs.declared.Format.{Format}
-use Rattle.unpack_rules.specs.declared.Unpacking.{Unpacking}
-use Rattle.unpack_rules.specs.declared.Registers.{Registers}
-use Rattle.unpack_rules.specs.declared.WordsTaken.{WordsTaken}
-use Rattle.unpack_rules.specs.Write.{Written, written}
-use Rattle.unpack_rules.specs.Step.{holds, unpackWord, acceptable}
-use Rattle.unpack_rules.specs.Whole.{takeWords, heldAfter, wordsFrom, WordsLeft, wordsLeft, takenBy, wordsAcceptable, takeWordsOf}
-use Rattle.unpack_rules.proofs.StepLaws.{acceptable-fits, fits-cycle, fits-unpacking}
-use Rattle.unpack_rules.proofs.LengthLaws.{word-length}
-use Rattle.unpack_rules.proofs.WordsLaws.{unpacking-on}
 use Rattle.vif_codes.specs.declared.Incoming.{Incoming}
 use Rattle.vif_codes.specs.declared.Incoming.the-variants.{Word0}
 use Rattle.vif_codes.specs.declared.Waiting.{Waiting}
-use Rattle.vif_codes.specs.declared.Waiting.the-variants.{MpgDue, UnpackDue}
 use Rattle.vif_codes.specs.declared.Vif.{Vif}
-use Rattle.vif_codes.specs.Setters.{withRow, withWaiting}
-use Rattle.vif_codes.specs.Payload.{completes, orNothing, mpgStored, writeRegisters}
+use Rattle.vif_codes.specs.Setters.{withWaiting}
+use Rattle.vif_codes.specs.Payload.{completes, orNothing}
 use Rattle.vif_codes.specs.Words.{incomingAt, wordIn}
-use Rattle.vif_codes.specs.Counting.{nopIn}
 use Rattle.vif.specs.declared.WordsResult.{WordsResult}
-use Rattle.vif.specs.Step.{leaves, giveQuadword, directStep, mpgRefused, mpgStep, unpackStep, stepBy, vifStep}
-use Rattle.vif.specs.Feeds.{Fed, fed, aWord, aQuadword}
-use Rattle.vif.specs.Inner.{UnpackReady, MpgReady, Leads, directs, Quadwords, fedIn, Going, Bursts, takenWith}
-use Rattle.vif.proofs.ReadyLaws.{memory-accepted}
+use Rattle.vif.specs.Step.{leaves, giveQuadword, directStep, stepBy, vifStep}
+use Rattle.vif.specs.Feeds.{Fed, fed, aQuadword}
+use Rattle.vif.specs.Inner.{Leads, directs, Quadwords, fedIn, Going, Bursts, takenWith}
 use Rattle.vif.proofs.FeedLaws.{leads-none, leads-one, leads-then, rest-leads}
 
 -- the word at an address is the one that comes

@@ -12,8 +12,7 @@ use lib.ListN.{length}
 use lib.Dec.{eqb}
 use Rattle.fields.specs.Fields.{if, bits}
 use Rattle.fields.specs.Memory.{wordAt}
-use Rattle.fields.specs.declared.UnitCounts.{UnitCounts}
-use Rattle.fields.specs.Counts.{noUnits, oneIf, oneWord, wordsAlone, plusUnits, Counted}
+use Rattle.fields.specs.Counts.{oneIf, wordsAlone, plusUnits, Counted}
 use Rattle.fields.proofs.ChoiceLaws.{if-ind}
 use Rattle.fields.proofs.CountLaws.{one-quiet, counted-plus}
 use Rattle.gif.specs.Log.{lacksRoom}
@@ -44,7 +43,7 @@ use Rattle.vif_codes.specs.declared.Waiting.{Waiting}
 use Rattle.vif_codes.specs.declared.Waiting.the-variants.{Nothing, MaskDue, RowDue, ColDue, MpgDue, DirectDue, DirecthlDue, UnpackDue}
 use Rattle.vif_codes.specs.declared.Vif.{Vif}
 use Rattle.vif_codes.specs.Setters.{withRow, withWaiting}
-use Rattle.vif_codes.specs.Codes.{cmdOf, interruptOf, missingCode, plainCode, codeOf, decodeOf}
+use Rattle.vif_codes.specs.Codes.{interruptOf, missingCode, plainCode, codeOf, decodeOf}
 use Rattle.vif_codes.specs.Execute.{Executed, resultWith, setMode, startProgram, beginMpg, unpackRefusal, beginUnpack, executeOf, decodedStep}
 use Rattle.vif_codes.specs.Payload.{completes, orNothing, rowWord, colWord, maskWord, mpgStored, writeRegisters}
 use Rattle.vif_codes.specs.Range.{unitInRange}
@@ -53,7 +52,7 @@ use Rattle.vif_codes.specs.Counting.{nopIn}
 use Rattle.vif_codes.proofs.CodeLaws.{listed-both}
 use Rattle.vif_codes.proofs.RangeLaws.{row-due, col-due, mpg-due, unpack-some}
 use Rattle.vif.specs.declared.WordsResult.{WordsResult}
-use Rattle.vif.specs.Step.{Left, leaves, codeStep, mpgRefused, mpgStep, unpackStep, stepBy, vifStep}
+use Rattle.vif.specs.Step.{Left, leaves, codeStep, mpgRefused, mpgStep, unpackStep, vifStep}
 use Rattle.vif.specs.Feeds.{Fed, fed, aWord}
 use Rattle.vif.specs.Inner.{UnpackReady, MpgReady, FedReady, Leads, fedIn, Going, Takes, wordsWith, Some, Ahead, WaitingFits, storedWords, StoreFits, takenWith}
 use Rattle.vif.proofs.ReadyLaws.{memory-accepted}

@@ -13,21 +13,16 @@ use vif_codes::Vif;
 use vif_codes::Waiting;
 use vif_codes::with_waiting;
 ghost use mathlib.Core.Path.{_≡_};
-ghost use mathlib.Core.Bool.{true, false};
+ghost use mathlib.Core.Bool.{true};
 ghost use mathlib.Core.List.{List};
 ghost use Prim.Native.Nat.{ℕ, _+_, _*_, _-_, _%_, _^_, _<_, _≤_};
-ghost use lib.ListN.{length};
-ghost use Rattle.fields.specs.Counts.{wordsAlone, quadwordsAlone, plusUnits, Counted};
-ghost use Rattle.gif.specs.declared.Path.{Path as PathT};
-ghost use Rattle.memories.specs.Units.{quadwords, instructions, dataWords, codeBytes};
+ghost use Rattle.fields.specs.Counts.{quadwordsAlone, plusUnits, Counted};
+ghost use Rattle.memories.specs.Units.{quadwords};
 ghost use Rattle.memories.specs.Lengths.{lent};
 ghost use Rattle.vif_codes.specs.declared.Waiting.the-variants.{MpgDue, UnpackDue};
 ghost use Rattle.vif_codes.specs.Setters.{withWaiting};
-ghost use Rattle.vif_codes.specs.Words.{incomingAt};
 ghost use Rattle.vif_codes.specs.Range.{unitInRange};
-ghost use Rattle.vif.specs.Step.{mpgRefused};
-ghost use Rattle.vif.specs.Feeds.{fed};
-ghost use Rattle.vif.specs.Inner.{UnpackReady, MpgReady, Leads, Quadwords, Going, Bursts, takenWith};
+ghost use Rattle.vif.specs.Inner.{Quadwords, Going, Bursts, takenWith};
 
 pub(crate) fn taken(
     unit: Vif,

@@ -1,5 +1,4 @@
 // A code's own step.
-use fields::refusals;
 use memories::VifUnit;
 use unpack_rules::Format;
 use unpack_rules::Unpacking;

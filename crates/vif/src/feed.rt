@@ -51,7 +51,10 @@ fn give_word(
     code: &mut [u8],
     log: &mut [u64],
 ) -> WordsResult
-    requires { ⌜ FedReady which (fedIn s (lent (now «data») (now code) (now log))) × (a + 4 * s .words ≤ 1048576) × (s .counts .steps + 1 < 2 ^ 64) × Counted (s .counts) ⌝ }
+    requires { ⌜ FedReady which (fedIn s (lent (now «data») (now code) (now log)))
+        × (a + 4 * s .words ≤ 1048576)
+        × (s .counts .steps + 1 < 2 ^ 64)
+        × Counted (s .counts) ⌝ }
     ensures { λ r. ⌜ Gives which (now (main .entry)) a s (lent (now («data» .entry)) (now (code .entry)) (now (log .entry)))
         r (lent (now («data» .exit)) (now (code .exit)) (now (log .exit))) ⌝ }
 {

@@ -35,7 +35,6 @@ ghost use Rattle.gif.specs.Range.{pathInRange};
 ghost use Rattle.memories.specs.Units.{quadwords, instructions};
 ghost use Rattle.memories.specs.Lengths.{lent};
 ghost use Rattle.vif_codes.specs.Range.{unitInRange};
-ghost use Rattle.unpack_rules.specs.Step.{holds};
 ghost use Rattle.vif_codes.specs.declared.VifAnswer.the-variants.{Word};
 ghost use Rattle.vif_codes.specs.declared.Waiting.the-variants.{DirectDue, DirecthlDue};
 ghost use Rattle.vif_codes.specs.Payload.{completes, rowWord, colWord, mpgWord, unpackUnit};

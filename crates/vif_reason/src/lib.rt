@@ -1,5 +1,4 @@
 // What a refusal of a VIF unit shows: request 6's contents of the field at fault. What each function means is said by the definitions of specs/.
-use fields::refusals;
 use gif::Path;
 use gif_reason::Numbers;
 use gif_reason::free_entries;

@@ -3,7 +3,7 @@ ghost use mathlib.Core.Path.{_≡_};
 ghost use Prim.Native.Nat.{_+_, _*_, _/_, _%_, _<_, _≤_, _^_};
 ghost use lib.ListN.{length};
 ghost use mathlib.Core.List.{[], _∷_};
-ghost use Rattle.wire.specs.Words.{wholeAt, storedAt, wordAt, withWord, nextPlace, emitted, sent, sentAll};
+ghost use Rattle.wire.specs.Words.{wholeAt, storedAt, wordAt, withWord, sent, sentAll};
 
 fn wide(x: u8) -> u32
     ensures { λ r. ⌜ (r ≡ x) × (r < 256) ⌝ }

@@ -9,35 +9,11 @@ Inv-loop out₀ header₀ calls₀ main₀ data₀ code₀ log₀ data-before₀
 abbrev μ-loop : tie.MeasureT-loop
 μ-loop out₀ header₀ calls₀ main₀ data₀ code₀ log₀ data-before₀ code-before₀ log-before₀ data0₀ code0₀ data0-before₀ code0-before₀ at₀ number₀ out header calls main «data» code log data-before code-before log-before data0 code0 data0-before code0-before at number = 18446744073709551615 - number
 
-loop-holds : tie.Need-loop-holds Inv-loop μ-loop
-loop-holds c = search needs
-
-read-header-requires : tie.Need-read-header-requires Inv-loop μ-loop
-read-header-requires c κs = search needs
-
-returns : tie.Need-returns Inv-loop μ-loop
-returns c = search needs
-
-next-case-requires : tie.Need-next-case-requires Inv-loop μ-loop
-next-case-requires c κs = search needs
-
-tell-damaged-requires : tie.Need-tell-damaged-requires Inv-loop μ-loop
-tell-damaged-requires c κs = search needs
-
-returns-2 : tie.Need-returns-2 Inv-loop μ-loop
-returns-2 c = search needs
-
 add-number : tie.Need-add-number Inv-loop μ-loop
 add-number c = let t = c .before .before .before .before .before .before .before .before .before .before .before .before .before .before .before .before .before .before .before .before .before .before .loop-test .taken in search needs
 
 loop-less : tie.Need-loop-less Inv-loop μ-loop
 loop-less c = let t = c .before .before .before .before .before .before .before .before .before .before .before .before .before .before .before .before .before .before .before .before .before .before .loop-test .taken in search needs
-
-loop-again : tie.Need-loop-again Inv-loop μ-loop
-loop-again c = search needs
-
-returns-3 : tie.Need-returns-3 Inv-loop μ-loop
-returns-3 c = search needs
 
 pub run-all-spec : {M : Type 1} → statement M
 run-all-spec =
@@ -45,13 +21,13 @@ run-all-spec =
     (tie.spec
     Inv-loop
     μ-loop
-    loop-holds
-    read-header-requires
-    returns
-    next-case-requires
-    tell-damaged-requires
-    returns-2
+    (λ c. search needs)
+    (λ c κs. search needs)
+    (λ c. search needs)
+    (λ c κs. search needs)
+    (λ c κs. search needs)
+    (λ c. search needs)
     add-number
     loop-less
-    loop-again
-    returns-3)
+    (λ c. search needs)
+    (λ c. search needs))

@@ -3,26 +3,10 @@ use mathlib.Core.Path.{sym}
 use borrow.Author.Needs.{needs}
 use Rattle.wire.proofs.write_out.Statement.{statement}
 use Rattle.wire.proofs.write_out.Tie as tie
-use Rattle.wire.proofs.write_out.Reads as reads
-use Rattle.wire.proofs.write_out.Lts as lts
-use Rattle.io.proofs.write_all.Reads as write-all-reads
 
--- src/lib.rt:83:26
 slice-aggregate-write-all : tie.Need-slice-aggregate-write-all
 slice-aggregate-write-all c = sym (length-take-le (c .before .before .before .args .at) (c .before .before .before .args .out .now) (c .before .if1 .taken))
 
--- src/lib.rt:83:9
-write-all-requires : tie.Need-write-all-requires
-write-all-requires c κs = search needs
-
--- src/lib.rt:79:1
-returns : tie.Need-returns
-returns c = search needs
-
--- src/lib.rt:79:1
-returns-2 : tie.Need-returns-2
-returns-2 c = search needs
-
 pub write-out-spec : {M : Type 1} → statement M
 write-out-spec =
-    tie.close (tie.spec slice-aggregate-write-all write-all-requires returns returns-2)
+    tie.close (tie.spec slice-aggregate-write-all (λ c κs. search needs) (λ c. search needs) (λ c. search needs))

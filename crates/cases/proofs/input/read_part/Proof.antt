@@ -5,31 +5,13 @@ use lib.Seq.{length-take-le, drop-at}
 use borrow.Author.Needs.{needs}
 use Rattle.cases.proofs.input.read_part.Statement.{statement}
 use Rattle.cases.proofs.input.read_part.Tie as tie
-use Rattle.cases.proofs.input.read_part.Reads as reads
-use Rattle.cases.proofs.input.read_part.Lts as lts
-use Rattle.io.proofs.read_full.Reads as read-full-reads
 
--- src/input.rt:13:9
 returns : tie.Need-returns
 returns c = record { fits = λ h. let z : _≡_ {A = ℕ} 0 1 = cc in omega arith; rest = refl }
 
--- src/input.rt:15:32
-slice-relend-prefix-read-full : tie.Need-slice-relend-prefix-read-full
-slice-relend-prefix-read-full c = search needs
-
--- src/input.rt:15:32
 slice-aggregate-read-full : tie.Need-slice-aggregate-read-full
 slice-aggregate-read-full c = sym (length-take-le _ _ (c .before .if1 .left))
 
--- src/input.rt:15:9
-read-full-requires : tie.Need-read-full-requires
-read-full-requires c κs = search needs
-
--- src/input.rt:9:1
-same-length : tie.Need-same-length
-same-length c = search needs
-
--- src/input.rt:9:1
 returns-2 : tie.Need-returns-2
 returns-2 c =
     let h = c .before .before .before .before .if1 .left in
@@ -43,8 +25,8 @@ read-part-spec =
     tie.close
     (tie.spec
     returns
-    slice-relend-prefix-read-full
+    (λ c. search needs)
     slice-aggregate-read-full
-    read-full-requires
-    same-length
+    (λ c κs. search needs)
+    (λ c. search needs)
     returns-2)

@@ -1,4 +1,3 @@
-use mathlib.Core.Path.{_∙_}
 use borrow.Author.Needs.{needs}
 use Rattle.fields.specs.Fields.{if}
 use Rattle.chain.specs.Inner.{byTaken}

@@ -2,57 +2,27 @@ use Rattle.chain.proofs.StepLaws.{by-payload}
 use Rattle.chain.proofs.ReadyLaws.{tadr-below, main-most, payload-ready}
 use Rattle.fields.specs.Fields.{if}
 use borrow.Author.Tests.{eq-eqb, ne-eqb}
-use mathlib.Core.Path.{_∙_, sym}
+use mathlib.Core.Path.{_∙_}
 use borrow.Author.Needs.{needs}
 use Rattle.chain.proofs.step.take_payload_or_tag.Statement.{statement}
 use Rattle.chain.proofs.step.take_payload_or_tag.Tie as tie
-use Rattle.chain.proofs.step.take_payload_or_tag.Reads as reads
-use Rattle.chain.proofs.step.take_payload_or_tag.Lts as lts
-use Rattle.chain.proofs.step.take_payload.Reads as take-payload-reads
-use Rattle.chain.proofs.tags.take_tag.Reads as take-tag-reads
 
--- src/step.rt:122:29
-enum-told : tie.Need-enum-told
-enum-told c = search needs
-
--- src/step.rt:122:29
 take-tag-requires : tie.Need-take-tag-requires
 take-tag-requires c κs = (tadr-below (c .before .before .before .before .before .before .pre .0), main-most (c .before .before .before .before .before .before .pre .0))
 
--- src/step.rt:123:26
-enum-known-payload : tie.Need-enum-known-payload
-enum-known-payload c = search needs
-
--- src/step.rt:125:17
 take-tag-requires-2 : tie.Need-take-tag-requires-2
 take-tag-requires-2 c κs = (tadr-below (c .before .before .before .before .before .before .before .before .pre .0), main-most (c .before .before .before .before .before .before .before .before .pre .0))
 
--- src/step.rt:127:17
 take-payload-requires : tie.Need-take-payload-requires
 take-payload-requires c κs = (c .before .before .before .before .before .before .before .before .before .before .before .pre .0, payload-ready (c .before .before .before .before .before .before .before .before .before .before .before .pre .0) (c .before .before .before .before .before .before .before .before .before .before .before .pre .1 ∙ c .before .before .before .before .before .payload .given .1) (c .before .before .before .if1 .left))
 
--- src/step.rt:110:1
 returns : tie.Need-returns
 returns c = by-payload (c .before .enum-told .given .1) _ _ _ (rw (c .take-tag .ensures))
 
--- src/step.rt:110:1
 returns-2 : tie.Need-returns-2
 unfolding if
 returns-2 c = by-payload (c .before .before .before .payload .given .1) _ _ _ (rw (eq-eqb _ _ (c .before .if1 .taken), c .take-tag2 .ensures))
 
--- src/step.rt:110:1
-same-length : tie.Need-same-length
-same-length c = search needs
-
--- src/step.rt:110:1
-same-length-2 : tie.Need-same-length-2
-same-length-2 c = search needs
-
--- src/step.rt:110:1
-same-length-3 : tie.Need-same-length-3
-same-length-3 c = search needs
-
--- src/step.rt:110:1
 returns-3 : tie.Need-returns-3
 unfolding if
 returns-3 c = by-payload (c .before .before .before .before .before .before .before .before .before .before .before .before .payload .given .1) _ _ _ (rw (ne-eqb _ _ (c .before .before .before .before .before .before .before .before .before .before .if1 .left)) (c .before .before .before .before .before .before .take-payload .ensures))
@@ -61,14 +31,14 @@ pub take-payload-or-tag-spec : {M : Type 1} → statement M
 take-payload-or-tag-spec =
     tie.close
     (tie.spec
-    enum-told
+    (λ c. search needs)
     take-tag-requires
-    enum-known-payload
+    (λ c. search needs)
     take-tag-requires-2
     take-payload-requires
     returns
     returns-2
-    same-length
-    same-length-2
-    same-length-3
+    (λ c. search needs)
+    (λ c. search needs)
+    (λ c. search needs)
     returns-3)

@@ -1,18 +1,13 @@
 use borrow.Author.Tests.{eq-eqb, ne-eqb}
 use Rattle.chain.proofs.tags.at_addr.Statement.{statement}
 use Rattle.chain.proofs.tags.at_addr.Tie as tie
-use Rattle.chain.proofs.tags.at_addr.Reads as reads
-use Rattle.chain.proofs.tags.at_addr.Lts as lts
 
--- src/tags.rt:33:9
 returns : tie.Need-returns
 returns c = rw (eq-eqb _ _ (c .if1 .taken))
 
--- src/tags.rt:36:9
 returns-2 : tie.Need-returns-2
 returns-2 c = rw (ne-eqb _ _ (c .before .if1 .left), eq-eqb _ _ (c .if2 .taken))
 
--- src/tags.rt:29:1
 returns-3 : tie.Need-returns-3
 returns-3 c = rw (ne-eqb _ _ (c .before .if1 .left), ne-eqb _ _ (c .if2 .left))
 

@@ -4,49 +4,27 @@ use borrow.Author.Tests.{ne-eqb}
 use borrow.Author.Needs.{needs}
 use Rattle.chain.proofs.tags.next_tadr.Statement.{statement}
 use Rattle.chain.proofs.tags.next_tadr.Tie as tie
-use Rattle.chain.proofs.tags.next_tadr.Reads as reads
-use Rattle.chain.proofs.tags.next_tadr.Lts as lts
-use Rattle.chain.proofs.tags.after_payload.Reads as after-payload-reads
-use Rattle.chain.proofs.tags.return_to.Reads as return-to-reads
 
--- src/tags.rt:70:14
-after-payload-requires : tie.Need-after-payload-requires
-after-payload-requires c κs = search needs
-
--- src/tags.rt:73:14
-return-to-requires : tie.Need-return-to-requires
-return-to-requires c κs = search needs
-
--- src/tags.rt:75:14
-add-result : tie.Need-add-result
-add-result c = search needs
-
--- src/tags.rt:65:1
 returns : tie.Need-returns
 unfolding nextTadr if
 returns c = rw (c .before .match .keys1) (c .after-payload .ensures)
 
--- src/tags.rt:65:1
 returns-2 : tie.Need-returns-2
 unfolding nextTadr if
 returns-2 c = rw (c .match .keys2)
 
--- src/tags.rt:65:1
 returns-3 : tie.Need-returns-3
 unfolding nextTadr if
 returns-3 c = rw (c .match .keys3)
 
--- src/tags.rt:65:1
 returns-4 : tie.Need-returns-4
 unfolding nextTadr if
 returns-4 c = rw (c .before .match .keys4) (c .return-to .ensures)
 
--- src/tags.rt:65:1
 returns-5 : tie.Need-returns-5
 unfolding nextTadr if
 returns-5 c = rw (c .match .keys5)
 
--- src/tags.rt:65:1
 returns-6 : tie.Need-returns-6
 unfolding nextTadr if
 returns-6 c = let n = c .match .rest in rw (ne-eqb _ 1 (n .0 .0 .0 .0 .1), ne-eqb _ 2 (n .0 .0 .0 .1), ne-eqb _ 5 (n .0 .0 .1), ne-eqb _ 6 (n .0 .1), ne-eqb _ 7 (n .1))
@@ -55,9 +33,9 @@ pub next-tadr-spec : {M : Type 1} → statement M
 next-tadr-spec =
     tie.close
     (tie.spec
-    after-payload-requires
-    return-to-requires
-    add-result
+    (λ c κs. search needs)
+    (λ c κs. search needs)
+    (λ c. search needs)
     returns
     returns-2
     returns-3

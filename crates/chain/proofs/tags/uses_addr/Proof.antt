@@ -2,20 +2,15 @@ use Rattle.chain.specs.Tags.{usesAddr}
 use borrow.Author.Tests.{eq-eqb, ne-eqb, le-leb, lt-leb}
 use Rattle.chain.proofs.tags.uses_addr.Statement.{statement}
 use Rattle.chain.proofs.tags.uses_addr.Tie as tie
-use Rattle.chain.proofs.tags.uses_addr.Reads as reads
-use Rattle.chain.proofs.tags.uses_addr.Lts as lts
 
--- src/tags.rt:21:9
 returns : tie.Need-returns
 unfolding usesAddr
 returns c = rw (eq-eqb _ _ (c .if1 .taken))
 
--- src/tags.rt:24:9
 returns-2 : tie.Need-returns-2
 unfolding usesAddr
 returns-2 c = rw (ne-eqb _ _ (c .before .if1 .left), lt-leb _ _ (c .if2 .taken))
 
--- src/tags.rt:17:1
 returns-3 : tie.Need-returns-3
 unfolding usesAddr
 returns-3 c = rw (ne-eqb _ _ (c .before .if1 .left), le-leb _ _ (c .if2 .left))

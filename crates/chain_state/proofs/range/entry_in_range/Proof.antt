@@ -2,15 +2,11 @@ use Rattle.chain_state.specs.Range.{entryInRange}
 use borrow.Author.Tests.{eq-eqb, ne-eqb}
 use Rattle.chain_state.proofs.range.entry_in_range.Statement.{statement}
 use Rattle.chain_state.proofs.range.entry_in_range.Tie as tie
-use Rattle.chain_state.proofs.range.entry_in_range.Reads as reads
-use Rattle.chain_state.proofs.range.entry_in_range.Lts as lts
 
--- src/range.rt:43:9
 returns : tie.Need-returns
 unfolding entryInRange
 returns c = rw (eq-eqb _ _ (c .if1 .taken))
 
--- src/range.rt:39:1
 returns-2 : tie.Need-returns-2
 unfolding entryInRange
 returns-2 c = rw (ne-eqb _ _ (c .if1 .left))

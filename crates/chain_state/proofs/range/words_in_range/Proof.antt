@@ -4,39 +4,23 @@ use mathlib.Core.Path.{sym, _∙_}
 use borrow.Author.Needs.{needs}
 use Rattle.chain_state.proofs.range.words_in_range.Statement.{statement}
 use Rattle.chain_state.proofs.range.words_in_range.Tie as tie
-use Rattle.chain_state.proofs.range.words_in_range.Reads as reads
-use Rattle.chain_state.proofs.range.words_in_range.Lts as lts
-use Rattle.chain_state.proofs.range.aligned.Reads as aligned-reads
 
--- src/range.rt:100:9
 returns : tie.Need-returns
 unfolding wordsInRange
 returns c = rw (eq-eqb _ _ (c .if1 .taken))
 
--- src/range.rt:103:9
 returns-2 : tie.Need-returns-2
 unfolding wordsInRange
 returns-2 c = rw (ne-eqb _ _ (c .before .if1 .left), ne-eqb _ _ (c .if2 .taken))
 
--- src/range.rt:105:8
-aligned-requires : tie.Need-aligned-requires
-aligned-requires c κs = search needs
-
--- src/range.rt:107:21
-add-result : tie.Need-add-result
-add-result c = search needs
-
--- src/range.rt:107:13
 returns-3 : tie.Need-returns-3
 unfolding wordsInRange
 returns-3 c = rw (ne-eqb _ _ (c .before .before .before .before .if1 .left), eq-eqb _ _ (c .before .before .before .if2 .left), sym (c .before .before .aligned .ensures) ∙ c .before .if3 .taken, le-leb _ _ (c .if4 .taken))
 
--- src/range.rt:96:1
 returns-4 : tie.Need-returns-4
 unfolding wordsInRange
 returns-4 c = rw (ne-eqb _ _ (c .before .before .before .before .if1 .left), eq-eqb _ _ (c .before .before .before .if2 .left), sym (c .before .before .aligned .ensures) ∙ c .before .if3 .taken, lt-leb _ _ (c .if4 .left))
 
--- src/range.rt:96:1
 returns-5 : tie.Need-returns-5
 unfolding wordsInRange
 returns-5 c = rw (ne-eqb _ _ (c .before .before .before .if1 .left), eq-eqb _ _ (c .before .before .if2 .left), sym (c .before .aligned .ensures) ∙ c .if3 .left)
@@ -44,4 +28,4 @@ returns-5 c = rw (ne-eqb _ _ (c .before .before .before .if1 .left), eq-eqb _ _ 
 pub words-in-range-spec : {M : Type 1} → statement M
 words-in-range-spec =
     tie.close
-    (tie.spec returns returns-2 aligned-requires add-result returns-3 returns-4 returns-5)
+    (tie.spec returns returns-2 (λ c κs. search needs) (λ c. search needs) returns-3 returns-4 returns-5)

@@ -2,7 +2,6 @@ use mathlib.Core.Path.{refl}
 use Rattle.chain_state.proofs.setters.with_pending.Statement.{statement}
 use Rattle.chain_state.proofs.setters.with_pending.Tie as tie
 
--- src/setters.rt:30:1
 returns : tie.Need-returns
 returns c = refl
 

@@ -5,9 +5,6 @@ use borrow.Author.Needs.{needs}
 use Rattle.compare.proofs.elements.after.Statement.{statement}
 use Rattle.compare.proofs.elements.after.Tie as tie
 
-add-t5 : tie.Need-add-t5
-add-t5 c = search needs
-
 returns : tie.Need-returns
 unfolding foundAfter if
 returns c = simp (c .before .if1 .taken)
@@ -16,12 +13,9 @@ returns-2 : tie.Need-returns-2
 unfolding foundAfter if
 returns-2 c = simp (c .before .before .if1 .left, lt-ltb _ _ (c .if2 .taken))
 
-add-t6 : tie.Need-add-t6
-add-t6 c = search needs
-
 returns-3 : tie.Need-returns-3
 unfolding foundAfter if
 returns-3 c = simp (c .before .before .if1 .left, le-ltb _ _ (c .if2 .left))
 
 pub after-spec : {M : Type 1} → statement M
-after-spec = tie.close (tie.spec add-t5 returns returns-2 add-t6 returns-3)
+after-spec = tie.close (tie.spec (λ c. search needs) returns returns-2 (λ c. search needs) returns-3)

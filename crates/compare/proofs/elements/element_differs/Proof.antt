@@ -22,9 +22,6 @@ loop-holds c = (omega arith, none-zero _)
 add-number-differs : tie.Need-add-number-differs Inv-loop μ-loop
 add-number-differs c = omega arith
 
-number-differs-requires : tie.Need-number-differs-requires Inv-loop μ-loop
-number-differs-requires c κs = search needs
-
 returns : tie.Need-returns Inv-loop μ-loop
 returns c =
     sym (number-found _ _ _ _ _ (c .before .before .loop-test .taken) (sym (c .before .number-differs .ensures) ∙ c .if1 .taken))
@@ -50,7 +47,7 @@ element-differs-spec =
     μ-loop
     loop-holds
     add-number-differs
-    number-differs-requires
+    (λ c κs. search needs)
     returns
     add-j
     loop-less

@@ -2,22 +2,13 @@ use borrow.Author.Needs.{needs}
 use Rattle.compare.proofs.elements.number_differs.Statement.{statement}
 use Rattle.compare.proofs.elements.number_differs.Tie as tie
 
-enum-told : tie.Need-enum-told
-enum-told c = search needs
-
 words-differ-requires : tie.Need-words-differ-requires
 words-differ-requires c κs =
     rw (c .enum-told .given .1) at (c .before .before .before .before .before .before .before .before .pre)
 
-enum-told-2 : tie.Need-enum-told-2
-enum-told-2 c = search needs
-
 bytes-differ-requires : tie.Need-bytes-differ-requires
 bytes-differ-requires c κs =
     rw (c .enum-told2 .given .1) at (c .before .before .before .before .before .before .before .before .pre)
-
-enum-told-3 : tie.Need-enum-told-3
-enum-told-3 c = search needs
 
 longs-differ-requires : tie.Need-longs-differ-requires
 longs-differ-requires c κs =
@@ -36,11 +27,11 @@ pub number-differs-spec : {M : Type 1} → statement M
 number-differs-spec =
     tie.close
     (tie.spec
-    enum-told
+    (λ c. search needs)
     words-differ-requires
-    enum-told-2
+    (λ c. search needs)
     bytes-differ-requires
-    enum-told-3
+    (λ c. search needs)
     longs-differ-requires
     returns
     returns-2

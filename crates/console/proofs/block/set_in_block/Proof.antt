@@ -3,7 +3,6 @@ use borrow.Author.Needs.{needs}
 use Rattle.console.proofs.BlockLaws.{known-length, number-inside, number-refused, unit-refused, none-refused, waiting-refused, number-set}
 use Rattle.console.proofs.block.set_in_block.Statement.{statement}
 use Rattle.console.proofs.block.set_in_block.Tie as tie
-use Rattle.console.proofs.block.set_in_block.Lts as lts
 
 returns : tie.Need-returns
 returns c = number-refused _ _ _ _ (c .if1 .taken)

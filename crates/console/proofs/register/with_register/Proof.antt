@@ -5,24 +5,14 @@ use Rattle.fields.specs.Fields.{if}
 use Rattle.console.specs.Register.{setOf}
 use Rattle.console.proofs.register.with_register.Statement.{statement}
 use Rattle.console.proofs.register.with_register.Tie as tie
-use Rattle.console.proofs.register.with_register.Reads as reads
-use Rattle.console.proofs.register.with_register.Lts as lts
-use Rattle.console.proofs.register.is_waiting.Reads as is-waiting-reads
-use Rattle.console.proofs.register.with_number.Reads as with-number-reads
 
 returns : tie.Need-returns
 unfolding setOf if
 returns c = rw (lt-ltb _ _ (c .if1 .taken))
 
-is-waiting-requires : tie.Need-is-waiting-requires
-is-waiting-requires c κs = search needs
-
 returns-2 : tie.Need-returns-2
 unfolding setOf if
 returns-2 c = rw (le-ltb _ _ (c .before .before .if1 .left), sym (c .before .is-waiting .ensures) ∙ c .if2 .taken)
-
-with-number-requires : tie.Need-with-number-requires
-with-number-requires c κs = search needs
 
 returns-3 : tie.Need-returns-3
 unfolding setOf if
@@ -30,4 +20,4 @@ returns-3 c = rw (le-ltb _ _ (c .before .before .before .if1 .left), sym (c .bef
 
 pub with-register-spec : {M : Type 1} → statement M
 with-register-spec =
-    tie.close (tie.spec returns is-waiting-requires returns-2 with-number-requires returns-3)
+    tie.close (tie.spec returns (λ c κs. search needs) returns-2 (λ c κs. search needs) returns-3)

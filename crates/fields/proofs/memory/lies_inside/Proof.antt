@@ -6,15 +6,11 @@ use Rattle.fields.specs.Memory.{inside}
 use borrow.Author.Needs.{needs}
 use Rattle.fields.proofs.memory.lies_inside.Statement.{statement}
 use Rattle.fields.proofs.memory.lies_inside.Tie as tie
-use Rattle.fields.proofs.memory.lies_inside.Reads as reads
-use Rattle.fields.proofs.memory.lies_inside.Lts as lts
 
--- src/memory.rt:66:9
 returns : tie.Need-returns
 unfolding inside
 returns c = rw (lt-leb _ _ (c .if1 .taken))
 
--- src/memory.rt:69:9
 returns-2 : tie.Need-returns-2
 unfolding inside
 returns-2 c =
@@ -22,14 +18,9 @@ returns-2 c =
     let h : length (a .main .now) < a .a + a .n = omega arith in
     rw (le-leb _ _ (c .before .if1 .left), lt-leb _ _ h)
 
--- src/memory.rt:71:5
-add-result : tie.Need-add-result
-add-result c = search needs
-
--- src/memory.rt:62:1
 returns-3 : tie.Need-returns-3
 unfolding inside
 returns-3 c = rw (le-leb _ _ (c .before .if1 .left))
 
 pub lies-inside-spec : {M : Type 1} → statement M
-lies-inside-spec = tie.close (tie.spec returns returns-2 add-result returns-3)
+lies-inside-spec = tie.close (tie.spec returns returns-2 (λ c. search needs) returns-3)

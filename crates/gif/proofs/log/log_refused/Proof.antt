@@ -4,8 +4,6 @@ use Rattle.gif.specs.Log.{logRefused}
 use borrow.Author.Tests.{eq-eqb, ne-eqb, lt-ltb, le-ltb}
 use Rattle.gif.proofs.log.log_refused.Statement.{statement}
 use Rattle.gif.proofs.log.log_refused.Tie as tie
-use Rattle.gif.proofs.log.log_refused.Reads as reads
-use Rattle.gif.proofs.log.log_refused.Lts as lts
 
 returns : tie.Need-returns
 unfolding logRefused

@@ -4,22 +4,11 @@ use native.Mathlib.Omega.{arith}
 use borrow.Author.Needs.{needs}
 use Rattle.gif.proofs.packed.uv_value.Statement.{statement}
 use Rattle.gif.proofs.packed.uv_value.Tie as tie
-use Rattle.gif.proofs.packed.uv_value.Reads as reads
-use Rattle.gif.proofs.packed.uv_value.Lts as lts
 
--- src/packed.rt:28:19
-mul-result : tie.Need-mul-result
-mul-result c = search needs
-
--- src/packed.rt:28:5
-add-result : tie.Need-add-result
-add-result c = search needs
-
--- src/packed.rt:25:1
 returns : tie.Need-returns
 unfolding uv
 returns c = let l = c .args .low in let h = c .args .high in
     simp (bits-first l h 13 (omega arith), bits-low l h 32 45 (omega arith) (omega arith))
 
 pub uv-value-spec : {M : Type 1} → statement M
-uv-value-spec = tie.close (tie.spec mul-result add-result returns)
+uv-value-spec = tie.close (tie.spec (λ c. search needs) (λ c. search needs) returns)

@@ -1,6 +1,5 @@
 use native.Mathlib.Omega.{arith}
 use borrow.Author.Tests.{lt-ltb, le-ltb}
-use borrow.Author.Needs.{needs}
 use Rattle.fields.specs.Fields.{if}
 use Rattle.gif.proofs.TagLaws.{product-most, nibble-fits, nibble-descriptor}
 use Rattle.gif.proofs.reglist.second_descriptor.Statement.{statement}

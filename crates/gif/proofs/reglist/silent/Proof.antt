@@ -1,14 +1,10 @@
 use borrow.Author.Tests.{eq-eqb, ne-eqb}
 use Rattle.gif.proofs.reglist.silent.Statement.{statement}
 use Rattle.gif.proofs.reglist.silent.Tie as tie
-use Rattle.gif.proofs.reglist.silent.Reads as reads
-use Rattle.gif.proofs.reglist.silent.Lts as lts
 
--- src/reglist.rt:21:9
 returns : tie.Need-returns
 returns c = simp (eq-eqb _ _ (c .if1 .taken))
 
--- src/reglist.rt:17:1
 returns-2 : tie.Need-returns-2
 returns-2 c = simp (ne-eqb _ _ (c .if1 .left))
 

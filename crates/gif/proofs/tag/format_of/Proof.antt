@@ -3,20 +3,15 @@ use Rattle.fields.specs.Fields.{if}
 use borrow.Author.Tests.{ne-eqb}
 use Rattle.gif.proofs.tag.format_of.Statement.{statement}
 use Rattle.gif.proofs.tag.format_of.Tie as tie
-use Rattle.gif.proofs.tag.format_of.Reads as reads
-use Rattle.gif.proofs.tag.format_of.Lts as lts
 
--- src/tag.rt:14:1
 returns : tie.Need-returns
 unfolding formatOf if
 returns c = simp (c .match .keys1)
 
--- src/tag.rt:14:1
 returns-2 : tie.Need-returns-2
 unfolding formatOf if
 returns-2 c = simp (c .match .keys2)
 
--- src/tag.rt:14:1
 returns-3 : tie.Need-returns-3
 unfolding formatOf if
 returns-3 c = simp (ne-eqb _ _ (c .match .rest .1), ne-eqb _ _ (c .match .rest .0 .1))

@@ -3,15 +3,11 @@ use Rattle.fields.specs.Fields.{if}
 use borrow.Author.Tests.{eq-eqb, ne-eqb}
 use Rattle.gif.proofs.tag.nreg_of.Statement.{statement}
 use Rattle.gif.proofs.tag.nreg_of.Tie as tie
-use Rattle.gif.proofs.tag.nreg_of.Reads as reads
-use Rattle.gif.proofs.tag.nreg_of.Lts as lts
 
--- src/tag.rt:24:1
 returns : tie.Need-returns
 unfolding nregOf if
 returns c = simp (eq-eqb _ _ (c .if1 .taken))
 
--- src/tag.rt:24:1
 returns-2 : tie.Need-returns-2
 unfolding nregOf if
 returns-2 c = simp (ne-eqb _ _ (c .if1 .left))

@@ -4,44 +4,24 @@ use native.Mathlib.Omega.{arith}
 use borrow.Author.Needs.{needs}
 use Rattle.gif.proofs.tag.quadwords.Statement.{statement}
 use Rattle.gif.proofs.tag.quadwords.Tie as tie
-use Rattle.gif.proofs.tag.quadwords.Reads as reads
-use Rattle.gif.proofs.tag.quadwords.Lts as lts
 
--- src/tag.rt:35:30
-enum-told : tie.Need-enum-told
-enum-told c = search needs
-
--- src/tag.rt:35:30
 mul-result : tie.Need-mul-result
 mul-result c = let m = product-most (c .before .before .pre .0) (c .before .before .pre .1) in omega arith
 
--- src/tag.rt:36:32
-enum-told-2 : tie.Need-enum-told-2
-enum-told-2 c = search needs
-
--- src/tag.rt:36:32
 mul-result-2 : tie.Need-mul-result-2
 mul-result-2 c = let m = product-most (c .before .before .pre .0) (c .before .before .pre .1) in omega arith
 
--- src/tag.rt:36:32
 add-result : tie.Need-add-result
 add-result c = let m = product-most (c .before .before .pre .0) (c .before .before .pre .1) in omega arith
 
--- src/tag.rt:37:29
-enum-told-3 : tie.Need-enum-told-3
-enum-told-3 c = search needs
-
--- src/tag.rt:30:1
 returns : tie.Need-returns
 unfolding quadwordsOf
 returns c = simp (c .enum-told .given .1)
 
--- src/tag.rt:30:1
 returns-2 : tie.Need-returns-2
 unfolding quadwordsOf
 returns-2 c = simp (c .enum-told2 .given .1)
 
--- src/tag.rt:30:1
 returns-3 : tie.Need-returns-3
 unfolding quadwordsOf
 returns-3 c = simp (c .enum-told3 .given .1)
@@ -50,12 +30,12 @@ pub quadwords-spec : {M : Type 1} → statement M
 quadwords-spec =
     tie.close
     (tie.spec
-    enum-told
+    (λ c. search needs)
     mul-result
-    enum-told-2
+    (λ c. search needs)
     mul-result-2
     add-result
-    enum-told-3
+    (λ c. search needs)
     returns
     returns-2
     returns-3)

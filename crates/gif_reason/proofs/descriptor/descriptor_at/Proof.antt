@@ -4,11 +4,6 @@ use native.Mathlib.Omega.{arith}
 use borrow.Author.Needs.{needs}
 use Rattle.gif_reason.proofs.descriptor.descriptor_at.Statement.{statement}
 use Rattle.gif_reason.proofs.descriptor.descriptor_at.Tie as tie
-use Rattle.gif_reason.proofs.descriptor.descriptor_at.Reads as reads
-use Rattle.gif_reason.proofs.descriptor.descriptor_at.Lts as lts
-
-rem-nibble : tie.Need-rem-nibble
-rem-nibble c = search needs
 
 mul-nibble : tie.Need-mul-nibble
 mul-nibble c = let m = mod-lt (c .before .args .item) (c .before .pre .some) in omega arith
@@ -24,4 +19,4 @@ unfolding descriptorAt
 returns c = search needs
 
 pub descriptor-at-spec : {M : Type 1} → statement M
-descriptor-at-spec = tie.close (tie.spec rem-nibble mul-nibble cast-result shr-result returns)
+descriptor-at-spec = tie.close (tie.spec (λ c. search needs) mul-nibble cast-result shr-result returns)

@@ -4,26 +4,15 @@ use native.Mathlib.Omega.{arith}
 use borrow.Author.Needs.{needs}
 use Rattle.gif_reason.proofs.descriptor.quadwords.Statement.{statement}
 use Rattle.gif_reason.proofs.descriptor.quadwords.Tie as tie
-use Rattle.gif_reason.proofs.descriptor.quadwords.Reads as reads
-use Rattle.gif_reason.proofs.descriptor.quadwords.Lts as lts
-
-enum-told : tie.Need-enum-told
-enum-told c = search needs
 
 mul-result : tie.Need-mul-result
 mul-result c = let m = product-most (c .before .before .pre .0) (c .before .before .pre .1) in omega arith
-
-enum-told-2 : tie.Need-enum-told-2
-enum-told-2 c = search needs
 
 mul-result-2 : tie.Need-mul-result-2
 mul-result-2 c = let m = product-most (c .before .before .pre .0) (c .before .before .pre .1) in omega arith
 
 add-result : tie.Need-add-result
 add-result c = let m = product-most (c .before .before .pre .0) (c .before .before .pre .1) in omega arith
-
-enum-told-3 : tie.Need-enum-told-3
-enum-told-3 c = search needs
 
 returns : tie.Need-returns
 unfolding quadwordsOf
@@ -41,12 +30,12 @@ pub quadwords-spec : {M : Type 1} → statement M
 quadwords-spec =
     tie.close
     (tie.spec
-    enum-told
+    (λ c. search needs)
     mul-result
-    enum-told-2
+    (λ c. search needs)
     mul-result-2
     add-result
-    enum-told-3
+    (λ c. search needs)
     returns
     returns-2
     returns-3)

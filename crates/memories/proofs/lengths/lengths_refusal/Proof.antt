@@ -3,11 +3,6 @@ use borrow.Author.Needs.{needs}
 use Rattle.memories.specs.Lengths.{lengthsRefusal}
 use Rattle.memories.proofs.lengths.lengths_refusal.Statement.{statement}
 use Rattle.memories.proofs.lengths.lengths_refusal.Tie as tie
-use Rattle.memories.proofs.lengths.lengths_refusal.Reads as reads
-use Rattle.memories.proofs.lengths.lengths_refusal.Lts as lts
-use Rattle.gif.proofs.log_refused.Reads as log-refused-reads
-use Rattle.memories.proofs.units.instructions.Reads as instructions-reads
-use Rattle.memories.proofs.units.quadwords.Reads as quadwords-reads
 use borrow.Author.Tests.{eq-eqb, ne-eqb}
 use Rattle.fields.specs.Fields.{if}
 

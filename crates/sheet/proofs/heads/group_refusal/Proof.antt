@@ -4,20 +4,10 @@ use Rattle.sheet.specs.Groups.{groupRefusal}
 use borrow.Author.Needs.{needs}
 use Rattle.sheet.proofs.heads.group_refusal.Statement.{statement}
 use Rattle.sheet.proofs.heads.group_refusal.Tie as tie
-use Rattle.sheet.proofs.heads.group_refusal.Reads as reads
-use Rattle.sheet.proofs.heads.group_refusal.Lts as lts
-use Rattle.sheet.proofs.reader.address_at.Reads as address-at-reads
-use Rattle.sheet.proofs.reader.count_at.Reads as count-at-reads
-
-count-at-requires : tie.Need-count-at-requires
-count-at-requires c κs = search needs
 
 returns : tie.Need-returns
 unfolding groupRefusal if
 returns c = rw (← c .before .count-at .ensures, eq-eqb _ _ (c .if1 .taken))
-
-address-at-requires : tie.Need-address-at-requires
-address-at-requires c κs = search needs
 
 returns-2 : tie.Need-returns-2
 unfolding groupRefusal if
@@ -34,4 +24,4 @@ returns-4 c = rw (← c .before .before .before .before .count-at .ensures, ne-e
 pub group-refusal-spec : {M : Type 1} → statement M
 group-refusal-spec =
     tie.close
-    (tie.spec count-at-requires returns address-at-requires returns-2 returns-3 returns-4)
+    (tie.spec (λ c κs. search needs) returns (λ c κs. search needs) returns-2 returns-3 returns-4)

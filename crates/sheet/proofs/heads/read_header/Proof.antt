@@ -3,16 +3,6 @@ use Rattle.sheet.proofs.HeaderLaws.{opens-inside, header-refused, heade
 use borrow.Author.Needs.{needs}
 use Rattle.sheet.proofs.heads.read_header.Statement.{statement}
 use Rattle.sheet.proofs.heads.read_header.Tie as tie
-use Rattle.sheet.proofs.heads.read_header.Reads as reads
-use Rattle.sheet.proofs.heads.read_header.Lts as lts
-use Rattle.sheet.proofs.reader.address_at.Reads as address-at-reads
-use Rattle.sheet.proofs.reader.count_at.Reads as count-at-reads
-use Rattle.sheet.proofs.heads.group_refusal.Reads as group-refusal-reads
-use Rattle.sheet.proofs.heads.opens_group.Reads as opens-group-reads
-use Rattle.sheet.proofs.reader.read_record.Reads as read-record-reads
-
-opens-group-requires : tie.Need-opens-group-requires
-opens-group-requires c κs = search needs
 
 group-refusal-requires : tie.Need-group-refusal-requires
 group-refusal-requires c κs = opens-inside _ _ (sym (c .before .opens-group .ensures) ∙ c .if1 .taken)
@@ -29,18 +19,6 @@ address-at-requires c κs = opens-inside _ _ (sym (c .before .before .before .be
 returns-2 : tie.Need-returns-2
 returns-2 c = header-group _ _ _ (sym (c .before .before .before .before .before .opens-group .ensures) ∙ c .before .before .before .before .if1 .taken) (c .before .before .before .group-refusal .ensures) (c .before .before .if2 .left) (c .before .count-at .ensures) (c .address-at .ensures)
 
-read-record-requires : tie.Need-read-record-requires
-read-record-requires c κs = search needs
-
-enum-told : tie.Need-enum-told
-enum-told c = search needs
-
-enum-known-kind : tie.Need-enum-known-kind
-enum-known-kind c = search needs
-
-enum-known-number : tie.Need-enum-known-number
-enum-known-number c = search needs
-
 returns-3 : tie.Need-returns-3
 returns-3 c = header-plain _ _ _ (sym (c .before .before .before .before .opens-group .ensures) ∙ c .before .before .before .if1 .left) (c .before .before .read-record .ensures) (c .enum-told .given .1)
 
@@ -54,16 +32,16 @@ pub read-header-spec : {M : Type 1} → statement M
 read-header-spec =
     tie.close
     (tie.spec
-    opens-group-requires
+    (λ c κs. search needs)
     group-refusal-requires
     returns
     count-at-requires
     address-at-requires
     returns-2
-    read-record-requires
-    enum-told
-    enum-known-kind
-    enum-known-number
+    (λ c κs. search needs)
+    (λ c. search needs)
+    (λ c. search needs)
+    (λ c. search needs)
     returns-3
     returns-4
     returns-5)

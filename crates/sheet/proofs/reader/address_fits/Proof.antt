@@ -1,20 +1,6 @@
 use borrow.Author.Needs.{needs}
 use Rattle.sheet.proofs.reader.address_fits.Statement.{statement}
 use Rattle.sheet.proofs.reader.address_fits.Tie as tie
-use Rattle.sheet.proofs.reader.address_fits.Reads as reads
-use Rattle.sheet.proofs.reader.address_fits.Lts as lts
-
-enum-told : tie.Need-enum-told
-enum-told c = search needs
-
-enum-told-2 : tie.Need-enum-told-2
-enum-told-2 c = search needs
-
-enum-told-3 : tie.Need-enum-told-3
-enum-told-3 c = search needs
-
-enum-told-4 : tie.Need-enum-told-4
-enum-told-4 c = search needs
 
 returns : tie.Need-returns
 returns c = rw (c .enum-told .given .1)
@@ -31,4 +17,4 @@ returns-4 c = rw (c .enum-told4 .given .1)
 pub address-fits-spec : {M : Type 1} → statement M
 address-fits-spec =
     tie.close
-    (tie.spec enum-told enum-told-2 enum-told-3 enum-told-4 returns returns-2 returns-3 returns-4)
+    (tie.spec (λ c. search needs) (λ c. search needs) (λ c. search needs) (λ c. search needs) returns returns-2 returns-3 returns-4)

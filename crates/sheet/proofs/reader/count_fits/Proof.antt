@@ -1,30 +1,6 @@
 use borrow.Author.Needs.{needs}
 use Rattle.sheet.proofs.reader.count_fits.Statement.{statement}
 use Rattle.sheet.proofs.reader.count_fits.Tie as tie
-use Rattle.sheet.proofs.reader.count_fits.Reads as reads
-use Rattle.sheet.proofs.reader.count_fits.Lts as lts
-use Rattle.sheet.proofs.reader.some_count.Reads as some-count-reads
-
-enum-told : tie.Need-enum-told
-enum-told c = search needs
-
-some-count-requires : tie.Need-some-count-requires
-some-count-requires c κs = search needs
-
-enum-told-2 : tie.Need-enum-told-2
-enum-told-2 c = search needs
-
-some-count-requires-2 : tie.Need-some-count-requires-2
-some-count-requires-2 c κs = search needs
-
-enum-told-3 : tie.Need-enum-told-3
-enum-told-3 c = search needs
-
-some-count-requires-3 : tie.Need-some-count-requires-3
-some-count-requires-3 c κs = search needs
-
-enum-told-4 : tie.Need-enum-told-4
-enum-told-4 c = search needs
 
 returns : tie.Need-returns
 returns c = rw (c .before .enum-told .given .1, c .some-count .ensures)
@@ -42,13 +18,13 @@ pub count-fits-spec : {M : Type 1} → statement M
 count-fits-spec =
     tie.close
     (tie.spec
-    enum-told
-    some-count-requires
-    enum-told-2
-    some-count-requires-2
-    enum-told-3
-    some-count-requires-3
-    enum-told-4
+    (λ c. search needs)
+    (λ c κs. search needs)
+    (λ c. search needs)
+    (λ c κs. search needs)
+    (λ c. search needs)
+    (λ c κs. search needs)
+    (λ c. search needs)
     returns
     returns-2
     returns-3

@@ -3,8 +3,6 @@ use Rattle.fields.specs.Fields.{if}
 use Rattle.sheet.specs.Reader.{kindOf}
 use Rattle.sheet.proofs.reader.kind_of.Statement.{statement}
 use Rattle.sheet.proofs.reader.kind_of.Tie as tie
-use Rattle.sheet.proofs.reader.kind_of.Reads as reads
-use Rattle.sheet.proofs.reader.kind_of.Lts as lts
 
 returns : tie.Need-returns
 unfolding kindOf if

@@ -7,9 +7,6 @@ use Rattle.sheet.specs.Records.{padsZero}
 use Rattle.sheet.proofs.PadLaws.{pads-more, pads-not, pads-end}
 use Rattle.sheet.proofs.reader.pads_zero.Statement.{statement}
 use Rattle.sheet.proofs.reader.pads_zero.Tie as tie
-use Rattle.sheet.proofs.reader.pads_zero.Reads as reads
-use Rattle.sheet.proofs.reader.pads_zero.Lts as lts
-use Rattle.sheet.proofs.reader.zeros_at.Reads as zeros-at-reads
 
 abbrev Inv-loop : tie.InvT-loop
 Inv-loop sheet at n j₀ j = (j ≤ n) × (padsZero sheet (at + 16 * j) (n - j) ≡ padsZero sheet at n)

@@ -6,17 +6,10 @@ use Rattle.sheet.proofs.ReaderLaws.{stands}
 use borrow.Author.Needs.{needs}
 use Rattle.sheet.proofs.reader.read_record.Statement.{statement}
 use Rattle.sheet.proofs.reader.read_record.Tie as tie
-use Rattle.sheet.proofs.reader.read_record.Reads as reads
-use Rattle.sheet.proofs.reader.read_record.Lts as lts
-use Rattle.sheet.proofs.reader.found.Reads as found-reads
-use Rattle.sheet.proofs.reader.record_refusal.Reads as record-refusal-reads
 
 returns : tie.Need-returns
 unfolding readingAt if
 returns c = rw (le-leb _ _ (c .if1 .taken))
-
-record-refusal-requires : tie.Need-record-refusal-requires
-record-refusal-requires c κs = search needs
 
 returns-2 : tie.Need-returns-2
 unfolding readingAt if
@@ -31,4 +24,4 @@ returns-3 c = rw (lt-leb _ _ (c .before .before .before .if1 .left), eq-eqb _ _ 
 
 pub read-record-spec : {M : Type 1} → statement M
 read-record-spec =
-    tie.close (tie.spec returns record-refusal-requires returns-2 found-requires returns-3)
+    tie.close (tie.spec returns (λ c κs. search needs) returns-2 found-requires returns-3)

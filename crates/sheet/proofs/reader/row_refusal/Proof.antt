@@ -5,42 +5,18 @@ use Rattle.sheet.proofs.ReaderLaws.{passed, failed, cut, not-cut}
 use borrow.Author.Needs.{needs}
 use Rattle.sheet.proofs.reader.row_refusal.Statement.{statement}
 use Rattle.sheet.proofs.reader.row_refusal.Tie as tie
-use Rattle.sheet.proofs.reader.row_refusal.Reads as reads
-use Rattle.sheet.proofs.reader.row_refusal.Lts as lts
-use Rattle.sheet.proofs.reader.body_at.Reads as body-at-reads
-use Rattle.sheet.proofs.reader.has_address.Reads as has-address-reads
-use Rattle.sheet.proofs.reader.has_count.Reads as has-count-reads
-use Rattle.sheet.proofs.reader.has_pads.Reads as has-pads-reads
-
-has-count-requires : tie.Need-has-count-requires
-has-count-requires c κs = search needs
 
 returns : tie.Need-returns
 unfolding rowRefusal if
 returns c = rw (failed (c .before .has-count .ensures) (c .if1 .taken))
 
-has-address-requires : tie.Need-has-address-requires
-has-address-requires c κs = search needs
-
 returns-2 : tie.Need-returns-2
 unfolding rowRefusal if
 returns-2 c = rw (passed (c .before .before .before .has-count .ensures) (c .before .before .if1 .left), failed (c .before .has-address .ensures) (c .if2 .taken))
 
-add-if3 : tie.Need-add-if3
-add-if3 c = search needs
-
-sub-if3 : tie.Need-sub-if3
-sub-if3 c = search needs
-
-body-at-requires : tie.Need-body-at-requires
-body-at-requires c κs = search needs
-
 returns-3 : tie.Need-returns-3
 unfolding rowRefusal if
 returns-3 c = rw (passed (c .before .before .before .before .before .has-count .ensures) (c .before .before .before .before .if1 .left), passed (c .before .before .before .has-address .ensures) (c .before .before .if2 .left), cut _ _ _ (c .before .body-at .ensures) (c .if3 .taken))
-
-has-pads-requires : tie.Need-has-pads-requires
-has-pads-requires c κs = search needs
 
 returns-4 : tie.Need-returns-4
 unfolding rowRefusal if
@@ -54,14 +30,14 @@ pub row-refusal-spec : {M : Type 1} → statement M
 row-refusal-spec =
     tie.close
     (tie.spec
-    has-count-requires
+    (λ c κs. search needs)
     returns
-    has-address-requires
+    (λ c κs. search needs)
     returns-2
-    add-if3
-    sub-if3
-    body-at-requires
+    (λ c. search needs)
+    (λ c. search needs)
+    (λ c κs. search needs)
     returns-3
-    has-pads-requires
+    (λ c κs. search needs)
     returns-4
     returns-5)

@@ -1,8 +1,6 @@
 use borrow.Author.Tests.{le-leb, lt-leb}
 use Rattle.sheet.proofs.reader.some_count.Statement.{statement}
 use Rattle.sheet.proofs.reader.some_count.Tie as tie
-use Rattle.sheet.proofs.reader.some_count.Reads as reads
-use Rattle.sheet.proofs.reader.some_count.Lts as lts
 
 returns : tie.Need-returns
 returns c = rw (le-leb _ _ (c .if1 .taken))

@@ -6,9 +6,6 @@ use Rattle.sheet.specs.Records.{zerosAt}
 use Rattle.sheet.proofs.PadLaws.{zeros-more, zeros-not, zeros-end}
 use Rattle.sheet.proofs.reader.zeros_at.Statement.{statement}
 use Rattle.sheet.proofs.reader.zeros_at.Tie as tie
-use Rattle.sheet.proofs.reader.zeros_at.Reads as reads
-use Rattle.sheet.proofs.reader.zeros_at.Lts as lts
-use Rattle.sheet.proofs.reader.byte_at.Reads as byte-at-reads
 
 abbrev Inv-loop : tie.InvT-loop
 Inv-loop sheet at n i₀ i = (i ≤ n) × (zerosAt sheet (at + i) (n - i) ≡ zerosAt sheet at n)

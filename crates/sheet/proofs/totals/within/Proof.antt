@@ -3,8 +3,6 @@ use Rattle.fields.specs.Fields.{if}
 use Rattle.sheet.specs.Sums.{within}
 use Rattle.sheet.proofs.totals.within.Statement.{statement}
 use Rattle.sheet.proofs.totals.within.Tie as tie
-use Rattle.sheet.proofs.totals.within.Reads as reads
-use Rattle.sheet.proofs.totals.within.Lts as lts
 
 returns : tie.Need-returns
 unfolding within if

@@ -6,9 +6,6 @@ use Rattle.sheet_builder.proofs.StoreLaws.{odd-padding}
 use borrow.Author.Needs.{needs}
 use Rattle.sheet_builder.proofs.writer.put_odd_padding.Statement.{statement}
 use Rattle.sheet_builder.proofs.writer.put_odd_padding.Tie as tie
-use Rattle.sheet_builder.proofs.writer.put_odd_padding.Reads as reads
-use Rattle.sheet_builder.proofs.writer.put_odd_padding.Lts as lts
-use Rattle.sheet_builder.proofs.writer.put_word.Reads as put-word-reads
 
 returns : tie.Need-returns
 returns c = rw (c .if1 .taken) (omega arith, refl)
@@ -16,17 +13,8 @@ returns c = rw (c .if1 .taken) (omega arith, refl)
 put-word-requires : tie.Need-put-word-requires
 put-word-requires c κs = let p = rw (odd-padding _ (c .before .if1 .left)) at (c .before .before .before .pre) in omega arith
 
-add-put-word : tie.Need-add-put-word
-add-put-word c = search needs
-
 put-word-requires-2 : tie.Need-put-word-requires-2
 put-word-requires-2 c κs = let p = rw (odd-padding _ (c .before .before .before .before .before .if1 .left)) at (c .before .before .before .before .before .before .before .pre) in search needs
-
-add-result : tie.Need-add-result
-add-result c = search needs
-
-same-length : tie.Need-same-length
-same-length c = search needs
 
 returns-2 : tie.Need-returns-2
 returns-2 c =
@@ -40,8 +28,8 @@ put-odd-padding-spec =
     (tie.spec
     returns
     put-word-requires
-    add-put-word
+    (λ c. search needs)
     put-word-requires-2
-    add-result
-    same-length
+    (λ c. search needs)
+    (λ c. search needs)
     returns-2)

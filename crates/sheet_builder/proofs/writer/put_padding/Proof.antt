@@ -3,30 +3,12 @@ use mathlib.Core.Path.{refl}
 use borrow.Author.Needs.{needs}
 use Rattle.sheet_builder.proofs.writer.put_padding.Statement.{statement}
 use Rattle.sheet_builder.proofs.writer.put_padding.Tie as tie
-use Rattle.sheet_builder.proofs.writer.put_padding.Reads as reads
-use Rattle.sheet_builder.proofs.writer.put_padding.Lts as lts
-use Rattle.sheet_builder.proofs.writer.put_odd_padding.Reads as put-odd-padding-reads
-
-enum-told : tie.Need-enum-told
-enum-told c = search needs
-
-enum-told-2 : tie.Need-enum-told-2
-enum-told-2 c = search needs
 
 put-odd-padding-requires : tie.Need-put-odd-padding-requires
 put-odd-padding-requires c κs = rw (c .before .enum-told2 .given .1) at (c .before .before .before .before .pre)
 
-enum-told-3 : tie.Need-enum-told-3
-enum-told-3 c = search needs
-
-enum-told-4 : tie.Need-enum-told-4
-enum-told-4 c = search needs
-
 returns : tie.Need-returns
 returns c = rw (c .enum-told .given .1) (omega arith, refl)
-
-same-length : tie.Need-same-length
-same-length c = search needs
 
 returns-2 : tie.Need-returns-2
 returns-2 c = rw (c .before .before .before .before .enum-told2 .given .1) (c .before .before .put-odd-padding .ensures)
@@ -41,13 +23,13 @@ pub put-padding-spec : {M : Type 1} → statement M
 put-padding-spec =
     tie.close
     (tie.spec
-    enum-told
-    enum-told-2
+    (λ c. search needs)
+    (λ c. search needs)
     put-odd-padding-requires
-    enum-told-3
-    enum-told-4
+    (λ c. search needs)
+    (λ c. search needs)
     returns
-    same-length
+    (λ c. search needs)
     returns-2
     returns-3
     returns-4)

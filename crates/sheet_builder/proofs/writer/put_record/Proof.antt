@@ -5,15 +5,6 @@ use native.Mathlib.Omega.{arith}
 use borrow.Author.Needs.{needs}
 use Rattle.sheet_builder.proofs.writer.put_record.Statement.{statement}
 use Rattle.sheet_builder.proofs.writer.put_record.Tie as tie
-use Rattle.sheet_builder.proofs.writer.put_record.Reads as reads
-use Rattle.sheet_builder.proofs.writer.put_record.Lts as lts
-use Rattle.sheet.proofs.body_length.Reads as body-length-reads
-use Rattle.sheet_builder.proofs.writer.copy_bytes.Reads as copy-bytes-reads
-use Rattle.sheet_builder.proofs.writer.put_lead.Reads as put-lead-reads
-use Rattle.sheet_builder.proofs.writer.put_padding.Reads as put-padding-reads
-
-body-length-requires : tie.Need-body-length-requires
-body-length-requires c κs = search needs
 
 put-lead-requires : tie.Need-put-lead-requires
 put-lead-requires c κs = let s = c .before .before .before .before .args in let h = lead-length (s .kind) (s .n) (s .a) in let q = record-quadwords (s .kind) (s .n) in search needs
@@ -26,9 +17,6 @@ add-put-padding c = let s = c .before .before .before .before .before .before .b
 
 put-padding-requires : tie.Need-put-padding-requires
 put-padding-requires c κs = let s = c .before .before .before .before .before .before .before .before .before .before .before .before .args in let h = lead-length (s .kind) (s .n) (s .a) in let q = record-quadwords (s .kind) (s .n) in search needs
-
-same-length : tie.Need-same-length
-same-length c = search needs
 
 returns : tie.Need-returns
 returns c =
@@ -45,10 +33,10 @@ pub put-record-spec : {M : Type 1} → statement M
 put-record-spec =
     tie.close
     (tie.spec
-    body-length-requires
+    (λ c κs. search needs)
     put-lead-requires
     copy-bytes-requires
     add-put-padding
     put-padding-requires
-    same-length
+    (λ c. search needs)
     returns)

@@ -1,5 +1,3 @@
-use mathlib.Core.Path.{_≡_, sym, _∙_}
-use native.Mathlib.Omega.{arith}
 use borrow.Author.Needs.{needs}
 use Rattle.vif_codes.proofs.RangeLaws.{row-due, col-due}
 use Rattle.vif.proofs.ReadyLaws.{mpg-ready, unpack-due}

@@ -1,7 +1,6 @@
-use mathlib.Core.Path.{_≡_, refl, sym}
+use mathlib.Core.Path.{refl}
 use native.Mathlib.Omega.{arith}
 use borrow.Author.Needs.{needs}
-use Rattle.vif.specs.Inner.{Ahead, WaitingFits}
 use Rattle.vif.proofs.CodesLaws.{fits-by, ahead-by}
 use Rattle.vif.proofs.codes.words_ahead.Statement.{statement}
 use Rattle.vif.proofs.codes.words_ahead.Tie as tie

@@ -4,9 +4,6 @@ use lib.ListN.{length}
 use borrow.Author.Needs.{needs}
 use Rattle.vif_replay.proofs.run.run_groups.Statement.{statement}
 use Rattle.vif_replay.proofs.run.run_groups.Tie as tie
-use Rattle.vif_replay.proofs.run.run_groups.Reads as reads
-use Rattle.vif_replay.proofs.run.run_groups.Lts as lts
-use Rattle.vif_replay.proofs.run.group.Reads as group-reads
 
 abbrev Inv-loop : tie.InvT-loop
 Inv-loop out₀ case input data₀ code₀ log₀ data-before₀ code-before₀ log-before₀ s₀ k₀ out «data» code log data-before code-before log-before s k =
@@ -16,53 +13,11 @@ abbrev μ-loop : tie.MeasureT-loop
 μ-loop out₀ case input data₀ code₀ log₀ data-before₀ code-before₀ log-before₀ s₀ k₀ out «data» code log data-before code-before log-before s k =
     case .groups - k
 
--- src/run.rt:202:5
-loop-holds : tie.Need-loop-holds Inv-loop μ-loop
-loop-holds c = search needs
-
--- src/run.rt:203:9
-group-requires : tie.Need-group-requires Inv-loop μ-loop
-group-requires c κs = search needs
-
--- src/run.rt:216:9
 add-k : tie.Need-add-k Inv-loop μ-loop
 add-k c = let t = c .before .before .before .before .before .before .before .before .before .before .before .before .before .before .before .before .before .before .before .before .if1 .taken in let g = c .before .before .before .before .before .before .before .before .before .before .before .before .before .before .before .before .before .before .before .before .before .before .before .before .before .before .before .before .before .before .good in search needs
 
--- src/run.rt:202:5
 loop-less : tie.Need-loop-less Inv-loop μ-loop
 loop-less c = let t = c .before .before .before .before .before .before .before .before .before .before .before .before .before .before .before .before .before .before .before .before .if1 .taken in search needs
-
--- src/run.rt:202:5
-loop-again : tie.Need-loop-again Inv-loop μ-loop
-loop-again c = search needs
-
--- src/run.rt:188:1
-same-length : tie.Need-same-length Inv-loop μ-loop
-same-length c = search needs
-
--- src/run.rt:188:1
-same-length-2 : tie.Need-same-length-2 Inv-loop μ-loop
-same-length-2 c = search needs
-
--- src/run.rt:188:1
-same-length-3 : tie.Need-same-length-3 Inv-loop μ-loop
-same-length-3 c = search needs
-
--- src/run.rt:188:1
-same-length-4 : tie.Need-same-length-4 Inv-loop μ-loop
-same-length-4 c = search needs
-
--- src/run.rt:188:1
-same-length-5 : tie.Need-same-length-5 Inv-loop μ-loop
-same-length-5 c = search needs
-
--- src/run.rt:188:1
-same-length-6 : tie.Need-same-length-6 Inv-loop μ-loop
-same-length-6 c = search needs
-
--- src/run.rt:188:1
-returns : tie.Need-returns Inv-loop μ-loop
-returns c = search needs
 
 pub run-groups-spec : {M : Type 1} → statement M
 run-groups-spec =
@@ -70,15 +25,15 @@ run-groups-spec =
     (tie.spec
     Inv-loop
     μ-loop
-    loop-holds
-    group-requires
+    (λ c. search needs)
+    (λ c κs. search needs)
     add-k
     loop-less
-    loop-again
-    same-length
-    same-length-2
-    same-length-3
-    same-length-4
-    same-length-5
-    same-length-6
-    returns)
+    (λ c. search needs)
+    (λ c. search needs)
+    (λ c. search needs)
+    (λ c. search needs)
+    (λ c. search needs)
+    (λ c. search needs)
+    (λ c. search needs)
+    (λ c. search needs))
