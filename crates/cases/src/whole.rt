@@ -38,7 +38,7 @@ pub(crate) fn byte_word(memory: &[u8], k: usize) -> u32
     byte_at(memory, 4 * k)
         + byte_at(memory, 4 * k + 1) * 256
         + byte_at(memory, 4 * k + 2) * 65536
-        + byte_at(memory, 4 * k + 3) * 16777216
+        + byte_at(memory, 4 * k + 3) * 0x0100_0000
 }
 
 // A byte memory as words, the last one filled up with zero bytes.

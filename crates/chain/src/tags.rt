@@ -270,9 +270,9 @@ fn read_tag(size: usize, low: u32, high: u32, s: State) -> StepResult
     ensures { λ r. ⌜ r ≡ tagRead size (low + high * 2 ^ 32) s ⌝ }
 {
     let qwc = low % 65536;
-    let id = low / 268435456 % 8;
-    let addr = high % 2147483648;
-    let spr = high / 2147483648 == 1;
+    let id = low / 0x1000_0000 % 8;
+    let addr = high % 0x8000_0000;
+    let spr = high / 0x8000_0000 == 1;
     let stack = s.stack;
     let refusal = tag_refusal(size, s.tadr, id, addr, spr, qwc, stack);
     if refusal == 0 {

@@ -45,8 +45,8 @@ fn at_addr(id: u64) -> bool
 fn payload_at(tag: u64, tadr: u32) -> u64
     ensures { λ r. ⌜ r ≡ payloadAt (idOf tag) (addrOf tag) tadr ⌝ }
 {
-    if at_addr(tag / 268435456 % 8) {
-        tag / 4294967296 % 2147483648
+    if at_addr(tag / 0x1000_0000 % 8) {
+        tag / 0x1_0000_0000 % 0x8000_0000
     } else {
         tadr as u64 + 16
     }
@@ -68,8 +68,8 @@ fn read_numbers(refusal: u32, size: u64, tag: u64, s: State) -> Numbers
     let stack = s.stack;
     match refusal {
         10 => one(s.tadr as u64),
-        11 => one(tag / 4294967296 % 2147483648),
-        12 => one(tag / 9223372036854775808 % 2),
+        11 => one(tag / 0x1_0000_0000 % 0x8000_0000),
+        12 => one(tag / 0x8000_0000_0000_0000 % 2),
         13 => one(stack_depth(stack)),
         14 => Numbers {
             first: tag % 65536,

@@ -47,7 +47,7 @@ pub(crate) fn start_in_range(channel: u32, tadr: u32, tte: bool) -> bool
 {
     if channel_in_range(channel, tte) {
         if tadr % 16 == 0 {
-            return tadr < 2147483648;
+            return tadr < 0x8000_0000;
         }
     }
     false

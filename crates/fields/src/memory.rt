@@ -28,7 +28,7 @@ fn word_inside(main: &[u8], at: usize) -> u32
     wide(main[at])
         + wide(main[at + 1]) * 256
         + wide(main[at + 2]) * 65536
-        + wide(main[at + 3]) * 16777216
+        + wide(main[at + 3]) * 0x0100_0000
 }
 
 fn word_from(main: &[u8], at: usize) -> u32
@@ -41,7 +41,7 @@ fn word_from(main: &[u8], at: usize) -> u32
     byte_at(main, at)
         + byte_at(main, at + 1) * 256
         + byte_at(main, at + 2) * 65536
-        + byte_at(main, at + 3) * 16777216
+        + byte_at(main, at + 3) * 0x0100_0000
 }
 
 // The word at an address; bytes past the end count as 0.
@@ -55,7 +55,7 @@ pub fn word_at(main: &[u8], a: u32) -> u32
 pub fn long_at(main: &[u8], a: u32) -> u64
     ensures { λ r. ⌜ r ≡ longAt (now (main .entry)) a ⌝ }
 {
-    word_from(main, a as usize) as u64 + word_from(main, a as usize + 4) as u64 * 4294967296
+    word_from(main, a as usize) as u64 + word_from(main, a as usize + 4) as u64 * 0x1_0000_0000
 }
 
 // So many bytes from an address on lie inside.

@@ -27,17 +27,26 @@ xyz quad = bits quad 0 15 + bits quad 32 47 * 2 ^ 16 + bits quad 64 95 * 2 ^ 32
 unfoldable pub redirected : ℕ → ℕ → ℕ
 redirected d quad = if (eqb (bits quad 111 111) 1) (d + 8) d
 
--- the writes of a data quadword under a descriptor; 2, 6-9, C, D "low 64 bits", F "nothing", and B is refused before it comes here
+-- the writes of a data quadword under a descriptor; B is refused before it comes here
 unfoldable pub packedWrites : ℕ → ℕ → ℕ → List Write
 packedWrites d q quad =
-    if (eqb d 0) (write 0 (bits quad 0 10) ∷ [])
-    (if (eqb d 1) (write 1 (rgbaq q quad) ∷ [])
-    (if (eqb d 3) (write 3 (uv quad) ∷ [])
-    (if (eqb d 4) (write (redirected 4 quad) (xyzf quad) ∷ [])
-    (if (eqb d 5) (write (redirected 5 quad) (xyz quad) ∷ [])
-    (if (eqb d 10) (write 10 (bits quad 100 107 * 2 ^ 56) ∷ [])
-    (if (eqb d 14) (write (bits quad 64 71) (bits quad 0 63) ∷ [])
-    (if (eqb d 15) []
+    -- "0 PRIM bits 0-10"
+    if (eqb d 0x0) (write 0x0 (bits quad 0 10) ∷ [])
+    -- "1 RGBAQ"
+    (if (eqb d 0x1) (write 0x1 (rgbaq q quad) ∷ [])
+    -- "3 UV"
+    (if (eqb d 0x3) (write 0x3 (uv quad) ∷ [])
+    -- "4 XYZF2"
+    (if (eqb d 0x4) (write (redirected 0x4 quad) (xyzf quad) ∷ [])
+    -- "5 XYZ2"
+    (if (eqb d 0x5) (write (redirected 0x5 quad) (xyz quad) ∷ [])
+    -- "A FOG bits 100-107 to bit 56"
+    (if (eqb d 0xA) (write 0xA (bits quad 100 107 * 2 ^ 56) ∷ [])
+    -- "E writes the low 64 bits to the register in bits 64-71"
+    (if (eqb d 0xE) (write (bits quad 64 71) (bits quad 0 63) ∷ [])
+    -- "F nothing"
+    (if (eqb d 0xF) []
+    -- "2 ST low 64 bits"; "6-9, C, D low 64 bits"
     (write d (bits quad 0 63) ∷ []))))))))
 
 -- "2 ST low 64 bits, Q = bits 64-95"

@@ -95,7 +95,7 @@ dataCloses t = t .eop && eqb (t .due) 1
 
 -- "Each tag sets Q to 3F800000h."
 abbrev pub tagQ : ℕ
-tagQ = 1065353216
+tagQ = 0x3F80_0000
 
 abbrev pub isPacked : TagFormat → Bool
 isPacked Packed = true

@@ -17,7 +17,7 @@ fn word_inside(main: &[u8], at: usize) -> u32
     wide(main[at])
         + wide(main[at + 1]) * 256
         + wide(main[at + 2]) * 65536
-        + wide(main[at + 3]) * 16777216
+        + wide(main[at + 3]) * 0x0100_0000
 }
 
 // The 64 bits at an address.
@@ -26,5 +26,5 @@ pub(crate) fn long_inside(main: &[u8], a: u32) -> u64
     ensures { λ r. ⌜ r ≡ longAt (now (main .entry)) a ⌝ }
 {
     let at = a as usize;
-    word_inside(main, at) as u64 + word_inside(main, at + 4) as u64 * 4294967296
+    word_inside(main, at) as u64 + word_inside(main, at + 4) as u64 * 0x1_0000_0000
 }

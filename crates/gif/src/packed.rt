@@ -18,38 +18,38 @@ fn rgbaq_value(q: u32, low: u64, high: u64) -> u64
     ensures { λ r. ⌜ r ≡ rgbaq q (quadword low high) ⌝ }
 {
     low % 256
-        + low / 4294967296 % 256 * 256
+        + low / 0x1_0000_0000 % 256 * 256
         + high % 256 * 65536
-        + high / 4294967296 % 256 * 16777216
-        + q as u64 * 4294967296
+        + high / 0x1_0000_0000 % 256 * 0x0100_0000
+        + q as u64 * 0x1_0000_0000
 }
 
 fn uv_value(low: u64, high: u64) -> u64
     ensures { λ r. ⌜ r ≡ uv (quadword low high) ⌝ }
 {
-    low % 16384 + low / 4294967296 % 16384 * 65536
+    low % 16384 + low / 0x1_0000_0000 % 16384 * 65536
 }
 
 fn xyzf_value(low: u64, high: u64) -> u64
     ensures { λ r. ⌜ r ≡ xyzf (quadword low high) ⌝ }
 {
     low % 65536
-        + low / 4294967296 % 65536 * 65536
-        + high / 16 % 16777216 * 4294967296
-        + high / 68719476736 % 256 * 72057594037927936
+        + low / 0x1_0000_0000 % 65536 * 65536
+        + high / 16 % 0x0100_0000 * 0x1_0000_0000
+        + high / 0x10_0000_0000 % 256 * 0x100_0000_0000_0000
 }
 
 fn xyz_value(low: u64, high: u64) -> u64
     ensures { λ r. ⌜ r ≡ xyz (quadword low high) ⌝ }
 {
-    low % 65536 + low / 4294967296 % 65536 * 65536 + high % 4294967296 * 4294967296
+    low % 65536 + low / 0x1_0000_0000 % 65536 * 65536 + high % 0x1_0000_0000 * 0x1_0000_0000
 }
 
 fn redirect(register: u64, low: u64, high: u64) -> u64
     requires { ⌜ register < 16 ⌝ }
     ensures { λ r. ⌜ r ≡ redirected register (quadword low high) ⌝ }
 {
-    if high / 140737488355328 % 2 == 1 {
+    if high / 0x8000_0000_0000 % 2 == 1 {
         register + 8
     } else {
         register
@@ -60,14 +60,14 @@ pub(crate) fn packed_writes(descriptor: u64, q: u32, low: u64, high: u64) -> Wri
     ensures { λ r. ⌜ listed r ≡ packedWrites descriptor q (quadword low high) ⌝ }
 {
     match descriptor {
-        0 => one(0, low % 2048),
-        1 => one(1, rgbaq_value(q, low, high)),
-        3 => one(3, uv_value(low, high)),
-        4 => one(redirect(4, low, high), xyzf_value(low, high)),
-        5 => one(redirect(5, low, high), xyz_value(low, high)),
-        10 => one(10, high / 68719476736 % 256 * 72057594037927936),
-        14 => one(high % 256, low),
-        15 => Writes::Nothing,
+        0x0 => one(0x0, low % 2048),
+        0x1 => one(0x1, rgbaq_value(q, low, high)),
+        0x3 => one(0x3, uv_value(low, high)),
+        0x4 => one(redirect(0x4, low, high), xyzf_value(low, high)),
+        0x5 => one(redirect(0x5, low, high), xyz_value(low, high)),
+        0xa => one(0xa, high / 0x10_0000_0000 % 256 * 0x100_0000_0000_0000),
+        0xe => one(high % 256, low),
+        0xf => Writes::Nothing,
         _ => one(descriptor, low),
     }
 }
@@ -76,7 +76,7 @@ pub(crate) fn packed_writes(descriptor: u64, q: u32, low: u64, high: u64) -> Wri
 pub(crate) fn often_writes(descriptor: u64, q: u32, low: u64, high: u64) -> Writes
     ensures { λ r. ⌜ listed r ≡ packedWrites descriptor q (quadword low high) ⌝ }
 {
-    if descriptor == 14 {
+    if descriptor == 0xe {
         return one(high % 256, low);
     }
     packed_writes(descriptor, q, low, high)
@@ -86,7 +86,7 @@ pub(crate) fn packed_q(descriptor: u64, q: u32, low: u64, high: u64) -> u32
     ensures { λ r. ⌜ r ≡ packedQ descriptor q (quadword low high) ⌝ }
 {
     if descriptor == 2 {
-        (high % 4294967296) as u32
+        (high % 0x1_0000_0000) as u32
     } else {
         q
     }

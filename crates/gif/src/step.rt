@@ -45,7 +45,7 @@ pub(crate) fn path_at_tag(low: u64, high: u64) -> Path
 {
     let place = place_at_tag(low, high);
     Path {
-        q: 1065353216,
+        q: 0x3f80_0000,
         place,
     }
 }

@@ -42,8 +42,8 @@ fn tag_of(low: u64, high: u64) -> HeldTag
     ensures { λ r. ⌜ r ≡ tagOf (quadword low high) ⌝ }
 {
     let nloop = (low % 32768) as u32;
-    let format = format_of(low / 288230376151711744 % 4);
-    let nreg = nreg_of((low / 1152921504606846976) as u32);
+    let format = format_of(low / 0x400_0000_0000_0000 % 4);
+    let nreg = nreg_of((low / 0x1000_0000_0000_0000) as u32);
     let due = quadwords(format, nloop, nreg);
     HeldTag {
         nloop,
@@ -151,13 +151,13 @@ pub(crate) fn tag_writes(low: u64, high: u64) -> Writes
     if low % 32768 == 0 {
         return Writes::Nothing;
     }
-    if low / 70368744177664 % 2 == 0 {
+    if low / 0x4000_0000_0000 % 2 == 0 {
         return Writes::Nothing;
     }
-    if low / 288230376151711744 % 4 == 0 {
+    if low / 0x400_0000_0000_0000 % 4 == 0 {
         Writes::One(Write {
             register: 0,
-            value: low / 140737488355328 % 2048,
+            value: low / 0x8000_0000_0000 % 2048,
         })
     } else {
         Writes::Nothing

@@ -278,7 +278,7 @@ fn run_all(
 ) {
     let mut at = 0;
     let mut number: u64 = 0;
-    while number < 18446744073709551615 {
+    while number < 0xffff_ffff_ffff_ffff {
         if !read_header(out, at, number, header) {
             return;
         }

@@ -34,7 +34,7 @@ fn put_word(output: &mut [u8], at: usize, w: u32)
     output[at] = (w % 256) as u8;
     output[at + 1] = (w / 256 % 256) as u8;
     output[at + 2] = (w / 65536 % 256) as u8;
-    output[at + 3] = (w / 16777216) as u8;
+    output[at + 3] = (w / 0x0100_0000) as u8;
 }
 
 fn put_quadword(output: &mut [u8], at: usize, words: [u32; 4])
@@ -76,10 +76,10 @@ fn code_words(kind: Kind, n: u32, a: u32) -> [u32; 4]
     ensures { λ r. ⌜ r ≡ codeWords kind n a ⌝ }
 {
     match kind {
-        Kind::Data => [0, 16777473, 83886080, 1811939328 + n * 65536 + a],
-        Kind::Code => [0, 0, 0, 1241513984 + n * 65536 + a],
-        Kind::Gs => [0, 0, 0, 1342177280 + (n + 1)],
-        Kind::Start => [0, 0, 0, 335544320 + a],
+        Kind::Data => [0, 0x0100_0101, 0x0500_0000, 0x6c00_0000 + n * 65536 + a],
+        Kind::Code => [0, 0, 0, 0x4a00_0000 + n * 65536 + a],
+        Kind::Gs => [0, 0, 0, 0x5000_0000 + (n + 1)],
+        Kind::Start => [0, 0, 0, 0x1400_0000 + a],
     }
 }
 
@@ -92,7 +92,7 @@ fn put_gif_tag(kind: Kind, n: u32, output: &mut [u8], at: usize) -> usize
         Kind::Data => at,
         Kind::Code => at,
         Kind::Gs => {
-            put_quadword(output, at, [n + 32768, 268435456, 14, 0]);
+            put_quadword(output, at, [n + 32768, 0x1000_0000, 14, 0]);
             at + 16
         }
         Kind::Start => at,
@@ -107,7 +107,7 @@ fn put_lead(kind: Kind, n: u32, a: u32, output: &mut [u8], at: usize) -> usize
     put_quadword(
         output,
         at,
-        [268435456 + quadwords_after_tag(kind, n), 0, 0, 0],
+        [0x1000_0000 + quadwords_after_tag(kind, n), 0, 0, 0],
     );
     put_quadword(output, at + 16, code_words(kind, n, a));
     put_gif_tag(kind, n, output, at + 32)
@@ -251,7 +251,7 @@ fn put_chain(sheet: &[u8], output: &mut [u8])
         at = w.next;
         to = w.to;
     }
-    put_quadword(output, to, [1879048192, 0, 0, 0]);
+    put_quadword(output, to, [0x7000_0000, 0, 0, 0]);
 }
 
 // Builds the chain of an accepted sheet, which has so many quadwords.

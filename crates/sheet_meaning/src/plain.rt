@@ -51,14 +51,14 @@ fn word_at(sheet: &[u8], at: usize) -> u64
     wide(sheet[at])
         + wide(sheet[at + 1]) * 256
         + wide(sheet[at + 2]) * 65536
-        + wide(sheet[at + 3]) * 16777216
+        + wide(sheet[at + 3]) * 0x0100_0000
 }
 
 pub(crate) fn long_at(sheet: &[u8], at: usize) -> u64
     requires { ⌜ at + 8 ≤ length (now sheet) ⌝ }
     ensures { λ r. ⌜ r ≡ number (bytesAt (now (sheet .entry)) at 8) ⌝ }
 {
-    word_at(sheet, at) + word_at(sheet, at + 4) * 4294967296
+    word_at(sheet, at) + word_at(sheet, at + 4) * 0x1_0000_0000
 }
 
 // The vector at a place of the sheet, to quadword q.

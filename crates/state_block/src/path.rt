@@ -46,8 +46,8 @@ fn tag_block(q: u32, tag: HeldTag) -> [u32; PATH_WORDS]
         tag.nloop,
         bit(tag.eop),
         tag.nreg,
-        (tag.descriptors % 4294967296) as u32,
-        (tag.descriptors / 4294967296) as u32,
+        (tag.descriptors % 0x1_0000_0000) as u32,
+        (tag.descriptors / 0x1_0000_0000) as u32,
         tag.due,
     ]
 }

@@ -85,8 +85,8 @@ fn chain_words(state: State) -> [u32; CHAIN_WORDS]
         t[1],
         p[0],
         p[1],
-        (state.used % 4294967296) as u32,
-        (state.used / 4294967296) as u32,
+        (state.used % 0x1_0000_0000) as u32,
+        (state.used / 0x1_0000_0000) as u32,
     ]
 }
 

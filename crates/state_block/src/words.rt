@@ -13,7 +13,7 @@ pub(crate) fn bit(b: bool) -> u32
 pub(crate) fn joined(low: u32, high: u32) -> u64
     ensures { λ r. ⌜ r ≡ longOf low high ⌝ }
 {
-    low as u64 + high as u64 * 4294967296
+    low as u64 + high as u64 * 0x1_0000_0000
 }
 
 pub(crate) fn both(a: bool, b: bool) -> bool

@@ -9,7 +9,7 @@ ghost use mathlib.Core.Bool.{_||_};
 ghost use Prim.Native.Nat.{_+_};
 ghost use Rattle.totals.specs.Totals.{numbersOf, countsOf, totalsIn, passes, anyPasses, added, addOf};
 
-const MOST: u64 = 18446744073709551615;
+const MOST: u64 = 0xffff_ffff_ffff_ffff;
 
 // Whether a sum would pass 2^64 - 1, or another does.
 fn sum_passes(a: u64, b: u64, another: bool) -> bool

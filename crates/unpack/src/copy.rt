@@ -28,7 +28,7 @@ pub(crate) fn word_inside(main: &[u8], at: usize) -> u32
     wide(main[at])
         + wide(main[at + 1]) * 256
         + wide(main[at + 2]) * 65536
-        + wide(main[at + 3]) * 16777216
+        + wide(main[at + 3]) * 0x0100_0000
 }
 
 // The four words at a place that lies inside.

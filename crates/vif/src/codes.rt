@@ -53,7 +53,7 @@ fn nops_ahead(main: &[u8], a: u32, n: u32) -> u32
     let mut k: u32 = 0;
     while k < n {
         let word = word_at(main, a + 4 * k);
-        if word / 16777216 != 0 {
+        if word / 0x0100_0000 != 0 {
             return k;
         }
         k += 1;
@@ -86,7 +86,7 @@ fn one_unless(interrupt: bool) -> u32
 fn code_ahead(main: &[u8], a: u32) -> u32
     ensures { λ r. ⌜ (r ≤ 1) × ((r ≡ 0 → ⊥) → (r ≡ 1) × (wordAt (now (main .entry)) a < 2147483648)) ⌝ }
 {
-    if word_at(main, a) < 2147483648 { 1 } else { 0 }
+    if word_at(main, a) < 0x8000_0000 { 1 } else { 0 }
 }
 
 // The payload words of MPG, none where the first of them is refused.

@@ -23,7 +23,7 @@ ghost use Rattle.vif.specs.Inner.{GifReady};
 fn joined(low: u32, high: u32) -> u64
     ensures { λ r. ⌜ r ≡ low + high * 2 ^ 32 ⌝ }
 {
-    low as u64 + high as u64 * 4294967296
+    low as u64 + high as u64 * 0x1_0000_0000
 }
 
 // A quadword to path 2; `rest` is what waits if more is due. The other memories, `mem` and `code`, are any.

@@ -137,7 +137,15 @@ pub(crate) fn take_code(
         ≡ decodedStep which (decodeOf which word) unit (interruptOf word) used (now («data» .entry)) (now (log .entry)) ⌝ }
 {
     match decode(which, word) {
-        Decoded::Known(code) => execute(which, code, unit, word / 2147483648 == 1, data, log, used),
+        Decoded::Known(code) => execute(
+            which,
+            code,
+            unit,
+            word / 0x8000_0000 == 1,
+            data,
+            log,
+            used,
+        ),
         Decoded::Unknown(n) => answered(VifAnswer::Refused(n), unit, used),
     }
 }

@@ -28,7 +28,7 @@ fn store_word(code: &mut [u8], at: usize, word: u32)
     code[at] = (word % 256) as u8;
     code[at + 1] = (word / 256 % 256) as u8;
     code[at + 2] = (word / 65536 % 256) as u8;
-    code[at + 3] = (word / 16777216) as u8;
+    code[at + 3] = (word / 0x0100_0000) as u8;
 }
 
 // A place modulo the memory's size.

@@ -15,7 +15,7 @@ fn nop_in(waiting: Waiting, word: u32) -> bool
     ensures { λ r. ⌜ r ≡ nopIn waiting word ⌝ }
 {
     match waiting {
-        Waiting::Nothing => word / 16777216 % 128 == 0,
+        Waiting::Nothing => word / 0x0100_0000 % 128 == 0,
         Waiting::MaskDue(_) => false,
         Waiting::RowDue { .. } => false,
         Waiting::ColDue { .. } => false,

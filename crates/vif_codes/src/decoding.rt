@@ -119,7 +119,7 @@ pub fn decode(which: VifUnit, word: u32) -> Decoded
 {
     code_of(
         which,
-        word / 16777216 % 128,
+        word / 0x0100_0000 % 128,
         word / 65536 % 256,
         word % 65536,
     )

@@ -20,18 +20,21 @@ ghost use Rattle.unpack_rules.specs.Position.{addresses};
 ghost use Rattle.vif_codes.specs.Setters.{withWaiting};
 ghost use Rattle.vif_codes.specs.Execute.{codeResult, resultWith, nextTops, started, startProgram, setMode, addressOf, beginMpg, begunUnpack, topsRefused, unpackRefusal};
 
+// What a code leaves.
 pub fn answered(answer: VifAnswer, unit: Vif, used: u64) -> CodeResult
     ensures { λ r. ⌜ r ≡ codeResult answer unit used ⌝ }
 {
     CodeResult { answer, unit, used }
 }
 
+// A code without payload, taken.
 pub fn done(unit: Vif, interrupt: bool, used: u64) -> CodeResult
     ensures { λ r. ⌜ r ≡ codeResult (VifAnswer.Word interrupt) unit used ⌝ }
 {
     answered(VifAnswer::Word(interrupt), unit, used)
 }
 
+// A code that waits for payload.
 pub fn waits(unit: Vif, waiting: Waiting, used: u64) -> CodeResult
     ensures { λ r. ⌜ r ≡ codeResult (VifAnswer.Word false) (withWaiting unit waiting) used ⌝ }
 {
@@ -62,7 +65,7 @@ fn start(which: VifUnit, unit: Vif) -> Vif
     }
 }
 
-// Data memory is any.
+// A program start: its log entry, and the registers that it moves. Data memory stays, whatever it is.
 pub fn start_program(
     which: VifUnit,
     register: u64,
@@ -82,6 +85,7 @@ pub fn start_program(
     }
 }
 
+// STMOD.
 pub fn set_mode(mode: u32, unit: Vif, interrupt: bool, used: u64) -> CodeResult
     ensures { λ r. ⌜ r ≡ setMode mode unit interrupt used ⌝ }
 {
@@ -145,6 +149,7 @@ pub fn unpack_refusal(which: VifUnit, u: UnpackCode, unit: Vif) -> u32
     0
 }
 
+// MPG, all of whose payload is due.
 pub fn begin_mpg(address: u32, num: u32, unit: Vif, interrupt: bool, used: u64) -> CodeResult
     ensures { λ r. ⌜ r ≡ beginMpg address num unit interrupt used ⌝ }
 {

@@ -36,8 +36,8 @@ fn code_numbers(refusal: u32, word: u32, unit: Vif, needed: u64, log: &[u64], us
     ensures { λ r. ⌜ r ≡ codeNumbers refusal word unit needed used (now (log .entry)) ⌝ }
 {
     match refusal {
-        20 => one((word / 16777216 % 128) as u64),
-        21 => one((word / 16777216 % 128 / 4 % 4) as u64),
+        20 => one((word / 0x0100_0000 % 128) as u64),
+        21 => one((word / 0x0100_0000 % 128 / 4 % 4) as u64),
         22 => one(unit.wl as u64),
         23 => one((word % 4) as u64),
         26 => one((word / 32768 % 2) as u64),

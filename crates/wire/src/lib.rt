@@ -18,7 +18,7 @@ fn read_word(bytes: &[u8], at: usize) -> u32
     wide(bytes[at])
         + wide(bytes[at + 1]) * 256
         + wide(bytes[at + 2]) * 65536
-        + wide(bytes[at + 3]) * 16777216
+        + wide(bytes[at + 3]) * 0x0100_0000
 }
 
 fn store_word(bytes: &mut [u8], at: usize, x: u32)
@@ -28,7 +28,7 @@ fn store_word(bytes: &mut [u8], at: usize, x: u32)
     bytes[at] = (x % 256) as u8;
     bytes[at + 1] = (x / 256 % 256) as u8;
     bytes[at + 2] = (x / 65536 % 256) as u8;
-    bytes[at + 3] = (x / 16777216) as u8;
+    bytes[at + 3] = (x / 0x0100_0000) as u8;
 }
 
 // The word at a place, 0 where it is not whole.
@@ -61,19 +61,19 @@ pub fn put_word(bytes: &mut [u8], at: usize, x: u32)
 pub fn joined(low: u32, high: u32) -> u64
     ensures { λ r. ⌜ r ≡ low + high * 2 ^ 32 ⌝ }
 {
-    low as u64 + high as u64 * 4294967296
+    low as u64 + high as u64 * 0x1_0000_0000
 }
 
 pub fn low_word(x: u64) -> u32
     ensures { λ r. ⌜ r ≡ x % 2 ^ 32 ⌝ }
 {
-    (x % 4294967296) as u32
+    (x % 0x1_0000_0000) as u32
 }
 
 pub fn high_word(x: u64) -> u32
     ensures { λ r. ⌜ r ≡ x / 2 ^ 32 ⌝ }
 {
-    (x / 4294967296) as u32
+    (x / 0x1_0000_0000) as u32
 }
 
 fn write_out(out: &[u8], at: usize) -> usize
