@@ -17,7 +17,7 @@ use Rattle.unpack_rules.specs.Vector.{extended, element, fieldsOf, fiveFields, 
 use Rattle.unpack_rules.specs.Write.{added, rowOf, dataOf, fieldOf, rowsAfter, putField, writtenAt, writeVector, registersAt, writeAt, writesFrom}
 use Rattle.unpack_rules.specs.Step.{countOf, unpackingOf, takenWords, acting, heldVector, doneAfter, wordOf, unfedWrites, unpackWord}
 use Rattle.memories.specs.Lengths.{lengthsRefusal}
-use Rattle.vif_codes.specs.Codes.{quadwordsOf as directQuadwordsOf, missingCode, plainCode, unpackNumbers, codeOf, decodeOf}
+use Rattle.vif_codes.specs.Codes.{directQuadwords as directQuadwordsOf, missingCode, plainCode, unpackNumbers, codeOf, decodeOf}
 use Rattle.vif_codes.specs.Execute.{nextTops, startProgram, setMode, beginMpg, addressOf, unpackRefusal, beginUnpack}
 use Rattle.vif_codes.specs.Payload.{completes, orNothing, wordPlace, mpgStored}
 use Rattle.vif_codes.specs.Range.{registersInRange, waitingInRange, unitInRange, directInRange, upTo}
@@ -41,7 +41,7 @@ use Rattle.sheet.specs.Sizes.{sheetSteps}
 use Rattle.sheet.specs.Layout.{laidOut, chainOf}
 use Rattle.sheet.specs.Build.{buildOf}
 use Rattle.conformance.specs.Demand.{recordsOf}
-use Rattle.conformance.specs.Points.{AllHold, runIn, runOfWords, builtFrom, sizeOf, chainBytes, wordsAt, chainWords, runOfSheet, stepsFor, loggedIn, quadwordIn, instructionIn, allZero, partsWritten, quadwordsFrom, instructionsFrom, dueIn, rowIn, answerIn, runOfVif0, answersTo, programStart, startedIn, tagTransferred, runOn7, left0, left1, runFrom, second, third, playedFrom0, tagUpload, uploadAcrossTags, resumed, drawn, drawnBy, packetsIn, countedIn, sevenIds, refusedTag, stoppedAt, resumedAt, mixed1, mixed2, mixed0, logOf, overflowing, preset, masked, answerToSet, points, requestPoints}
+use Rattle.conformance.specs.Points.{AllHold, runIn, runOfWords, builtFresh, sizeOf, chainBytes, wordsAt, chainWords, runOfSheet, stepsFor, loggedIn, quadwordIn, instructionIn, allZero, partsWritten, quadwordsFrom, instructionsFrom, dueIn, rowIn, answerIn, runOfVif0, answersTo, programStart, startedIn, tagTransferred, runOn7, left0, left1, runFrom, second, third, playedFrom0, tagUpload, uploadAcrossTags, resumed, drawn, drawnBy, packetsIn, countedIn, sevenIds, refusedTag, stoppedAt, resumedAt, mixed1, mixed2, mixed0, logOf, overflowing, preset, masked, answerToSet, points, requestPoints}
 use Rattle.conformance.specs.Play.{playRefusal, playOf}
 
 -- ---- the definitions that the table computes through
@@ -71,7 +71,7 @@ unfolding secondOf editionRefusal limited expansionFrom itemsFrom itemAt groupFr
 groupsOpen = tt
 
 benchOpen : Unit {0}
-unfolding recordsOf runIn runOfWords builtFrom sizeOf chainBytes wordsAt chainWords runOfSheet stepsFor loggedIn quadwordIn instructionIn allZero partsWritten quadwordsFrom instructionsFrom dueIn rowIn answerIn runOfVif0 answersTo startedIn tagTransferred runOn7 runFrom second third playRefusal playOf playedFrom0 tagUpload uploadAcrossTags resumed drawn drawnBy packetsIn countedIn sevenIds refusedTag stoppedAt resumedAt mixed1 mixed2 mixed0 logOf overflowing preset masked answerToSet
+unfolding recordsOf runIn runOfWords builtFresh sizeOf chainBytes wordsAt chainWords runOfSheet stepsFor loggedIn quadwordIn instructionIn allZero partsWritten quadwordsFrom instructionsFrom dueIn rowIn answerIn runOfVif0 answersTo startedIn tagTransferred runOn7 runFrom second third playRefusal playOf playedFrom0 tagUpload uploadAcrossTags resumed drawn drawnBy packetsIn countedIn sevenIds refusedTag stoppedAt resumedAt mixed1 mixed2 mixed0 logOf overflowing preset masked answerToSet
 benchOpen = tt
 
 opened : Unit {0}

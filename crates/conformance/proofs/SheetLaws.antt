@@ -24,7 +24,7 @@ use Rattle.sheet.specs.declared.Kind.{Kind}
 use Rattle.sheet.specs.declared.Kind.the-variants.{Data, Code, Gs, Start}
 use Rattle.sheet.specs.Records.{Record, recordOf, countFits, addressFits, bodyLength}
 use Rattle.sheet.specs.Whole.{AllMeet, none, more, recordBytes, sheetBytes}
-use Rattle.sheet.specs.Sizes.{quadwordsOf, stepsOf, entriesOf, sheetSteps, sheetEntries}
+use Rattle.sheet.specs.Sizes.{recordQuadwords, recordSteps, entriesOf, sheetSteps, sheetEntries}
 use Rattle.sheet.specs.Layout.{laidOut, endTag, chainOf}
 use Rattle.sheet.specs.Meaning.{entriesBy, memBy, codeBy}
 use Rattle.sheet.specs.Fed.{Fed, fed, fedBy, fedAll}
@@ -44,7 +44,7 @@ some-count n h = (leb-true 1 n (and-left (leb 1 n) (leb n 255) h), leb-true n 25
 module _ (main : List ℕ) (a : ℕ) (s : State) (m : Lent) (i : IdleAt a s) (aligned : a % 16 ≡ 0) (rest : List ℕ) where
   kind-arrives : (k : Kind) (n b : ℕ) (body : List ℕ) → countFits k n ≡ true → addressFits k b ≡ true → length body ≡ bodyLength k n → Octets body
       → entrySize * (s .used + entriesOf k n) ≤ length (m .log) → drop a main ≡ laidOut (recordOf k n b body) ++ rest
-      → Arrived main (stepsOf k n) (a + 16 * quadwordsOf k n) s m (memBy k n b body (m .mem)) (codeBy k n b body (m .code)) (entriesBy k n b body)
+      → Arrived main (recordSteps k n) (a + 16 * recordQuadwords k n) s m (memBy k n b body (m .mem)) (codeBy k n b body (m .code)) (entriesBy k n b body)
   kind-arrives Data n b body c d l o room e =
       let h = some-count n c in
       data-record main a s m i n b body rest (h .0) (h .1) (ltb-true b (quadwords Vif1) d) o l e
@@ -118,7 +118,7 @@ sheet-ends main (more {r} {rs} f fs) o a s m i aligned room rest e =
     let c = row-count (r .kind) (r .count) (r .address) (r .body) in
     let u = x .used in
     let l : length (x .log) ≡ length (m .log) = ap length (x .logged) ∙ length-sets (m .log) (entrySize * s .used) (numbers (entriesBy (r .kind) (r .count) (r .address) (r .body))) in
-    let q = placed-next main a (16 * quadwordsOf (r .kind) (r .count)) (laidOut r) (chainOf rs ++ rest) (laid-length r (f .size)) p in
+    let q = placed-next main a (16 * recordQuadwords (r .kind) (r .count)) (laidOut r) (chainOf rs ++ rest) (laid-length r (f .size)) p in
     let m1 = lent (memBy (r .kind) (r .count) (r .address) (r .body) (m .mem)) (codeBy (r .kind) (r .count) (r .address) (r .body) (m .code)) (x .log) in
-    let y = sheet-ends main fs (octets-right (r .body) (sheetBytes rs) os) (a + 16 * quadwordsOf (r .kind) (r .count)) (x .state) m1 (x .idle) (omega arith) (omega arith) rest q in
+    let y = sheet-ends main fs (octets-right (r .body) (sheetBytes rs) os) (a + 16 * recordQuadwords (r .kind) (r .count)) (x .state) m1 (x .idle) (omega arith) (omega arith) rest q in
     ended-as (ended-after x y) refl (ap (fedAll rs) (same-fed s m r (x .logged) (u ∙ rw c)))

@@ -65,16 +65,16 @@ unfoldable pub runOfWords : ℕ → List ℕ → Ran
 runOfWords n words = runIn (wordsBytes (tagWords 1 n ++ words ++ tagWords 7 0))
 
 -- a sheet built into 128 bytes of FFh
-unfoldable pub builtFrom : List ℕ → Left
-builtFrom sheet = buildOf sheet (replicate 128 255)
+unfoldable pub builtFresh : List ℕ → Left
+builtFresh sheet = buildOf sheet (replicate 128 255)
 
 -- the number that the builder gives: the chain's length in bytes
 unfoldable pub sizeOf : List ℕ → ℕ
-sizeOf sheet = exportedNumber (builtFrom sheet .answer)
+sizeOf sheet = exportedNumber (builtFresh sheet .answer)
 
 -- so many bytes of the output are the chain
 unfoldable pub chainBytes : List ℕ → List ℕ
-chainBytes sheet = take (sizeOf sheet) (builtFrom sheet .output)
+chainBytes sheet = take (sizeOf sheet) (builtFresh sheet .output)
 
 -- n words from an address on
 unfoldable pub wordsAt : List ℕ → ℕ → ℕ → List ℕ
@@ -87,7 +87,7 @@ chainWords sheet = wordsAt (chainBytes sheet) 0 (sizeOf sheet / 4)
 
 -- the chain run where the builder left it
 unfoldable pub runOfSheet : List ℕ → Ran
-runOfSheet sheet = runIn (builtFrom sheet .output)
+runOfSheet sheet = runIn (builtFresh sheet .output)
 
 -- the number of the run's answer, the steps of the run, and the sheet's steps
 unfoldable pub stepsFor : List ℕ → List ℕ

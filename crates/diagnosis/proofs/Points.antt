@@ -11,7 +11,7 @@ use Rattle.gif.specs.Step.{commit, tagStep, packedWith, reglistStep, imageStep,
 use Rattle.unpack_rules.specs.Formats.{namedIn}
 use Rattle.unpack_rules.specs.Range.{cycleRefused}
 use Rattle.memories.specs.Lengths.{lengthsRefusal}
-use Rattle.vif_codes.specs.Codes.{quadwordsOf as directQuadwordsOf, missingCode, plainCode, unpackNumbers, codeOf, decodeOf}
+use Rattle.vif_codes.specs.Codes.{directQuadwords as directQuadwordsOf, missingCode, plainCode, unpackNumbers, codeOf, decodeOf}
 use Rattle.vif_codes.specs.Execute.{startProgram, setMode, unpackRefusal, beginUnpack}
 use Rattle.vif_codes.specs.Payload.{completes, orNothing}
 use Rattle.vif_codes.specs.Range.{registersInRange, waitingInRange, unitInRange, directInRange, upTo}

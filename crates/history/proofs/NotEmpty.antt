@@ -9,7 +9,7 @@ use Rattle.gif.specs.Log.{logged, lacksRoom, logRefused}
 use Rattle.gif.specs.Tag.{formatOf, nregOf, quadwordsOf as gifQuadwordsOf, tagOf, placeAtTag, tagCloses, tagWrites}
 use Rattle.gif.specs.Step.{commit, tagStep, gifStep}
 use Rattle.memories.specs.Lengths.{lent, lengthsRefusal}
-use Rattle.vif_codes.specs.Codes.{quadwordsOf, missingCode, plainCode, unpackNumbers, codeOf, decodeOf}
+use Rattle.vif_codes.specs.Codes.{directQuadwords, missingCode, plainCode, unpackNumbers, codeOf, decodeOf}
 use Rattle.vif_codes.specs.Range.{registersInRange, waitingInRange, unitInRange}
 use Rattle.vif_codes.specs.Words.{incomingAt}
 use Rattle.vif.specs.Step.{codeStep, vifStep}
@@ -26,7 +26,7 @@ use Rattle.history.specs.Totalled.{Totalled, begins as begins-total, run
 use Rattle.history.specs.Example.{bytes, blank, first, second, third, taken, totalsAfter, gifBytes, gifRun}
 
 vifOpen : Unit {0}
-unfolding quadwordsOf missingCode plainCode unpackNumbers codeOf decodeOf registersInRange waitingInRange unitInRange codeStep vifStep incomingAt
+unfolding directQuadwords missingCode plainCode unpackNumbers codeOf decodeOf registersInRange waitingInRange unitInRange codeStep vifStep incomingAt
 vifOpen = tt
 
 chainOpen : Unit {0}

@@ -16,7 +16,7 @@ use Rattle.sheet.specs.declared.Reading.the-variants.{End, Found, Refuse
 use Rattle.sheet.specs.Records.{Record, recordOf, longest, countFits, bodyLength, bytesAt}
 use Rattle.sheet.specs.Reader.{Contents, valid, refused, before, readingAt, recordsFrom, contentsFrom}
 use Rattle.sheet.specs.Whole.{AllMeet, Bytes, sheetBytes}
-use Rattle.sheet.specs.Sizes.{quadwordsOf, sheetQuadwords}
+use Rattle.sheet.specs.Sizes.{recordQuadwords, sheetQuadwords}
 use Rattle.sheet.specs.Layout.{chainOf}
 use Rattle.sheet.specs.Items.{expandedItem}
 use Rattle.sheet.specs.Groups.{startsSecond, plainHeader, headerAt}
@@ -58,7 +58,7 @@ module _ (sheet : List ℕ) (first : startsSecond sheet ≡ false) where
 
 -- ---- its chain is never too long
 
-row-quadwords : (k : Kind) (n : ℕ) → countFits k n ≡ true → 3 * quadwordsOf k n ≤ 6 + bodyLength k n
+row-quadwords : (k : Kind) (n : ℕ) → countFits k n ≡ true → 3 * recordQuadwords k n ≤ 6 + bodyLength k n
 row-quadwords Data n h = omega arith
 row-quadwords Code n h = omega arith
 row-quadwords Gs n h = let s = leb-true 1 n (and-left (leb 1 n) (leb n 255) h) in omega arith

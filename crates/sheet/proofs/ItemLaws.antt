@@ -6,7 +6,7 @@ use native.Mathlib.Omega.{arith}
 use lib.ListN.{length}
 use Rattle.sheet.specs.declared.Kind.{Kind}
 use Rattle.sheet.specs.Records.{recordOf, bodyLength, bytesAt}
-use Rattle.sheet.specs.Sizes.{quadwordsOf, stepsOf, entriesOf}
+use Rattle.sheet.specs.Sizes.{recordQuadwords, recordSteps, entriesOf}
 use Rattle.sheet.specs.declared.sums.Totals.{Totals}
 use Rattle.sheet.specs.declared.Header.{Header}
 use Rattle.sheet.specs.declared.Header.the-variants.{End, Single, Group, Refused}
@@ -52,7 +52,7 @@ module _ (sheet : List ℕ) (depth at : ℕ) {h : Header} (e : h ≡ headerAt sh
   answers-end q = rw (item-end sheet at depth (sym e ∙ q))
 
   pub answers-single : {k : Kind} {n a next : ℕ} {t : Totals} → h ≡ Single k n a next
-      → t ≡ cappedTotals (quadwordsOf k n) (stepsOf k n) (entriesOf k n) → Found next t ≡ answered (itemAt sheet depth at)
+      → t ≡ cappedTotals (recordQuadwords k n) (recordSteps k n) (entriesOf k n) → Found next t ≡ answered (itemAt sheet depth at)
   unfolding expandedItem answered
   answers-single q te = rw (item-single sheet at depth (sym e ∙ q), totals-one, te)
 

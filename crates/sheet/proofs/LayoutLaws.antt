@@ -8,7 +8,7 @@ use Rattle.sheet.specs.declared.Kind.{Kind}
 use Rattle.sheet.specs.declared.Kind.the-variants.{Data, Code, Gs, Start}
 use Rattle.sheet.specs.Records.{Record, bodyLength}
 use Rattle.sheet.specs.Whole.{AllMeet, none, more}
-use Rattle.sheet.specs.Sizes.{quadwordsOf, sheetQuadwords}
+use Rattle.sheet.specs.Sizes.{recordQuadwords, sheetQuadwords}
 use Rattle.sheet.specs.Layout.{wordsBytes, codeWords, gifTagWords, oddPadding, paddingWords, leadWords, laidOut, chainOf}
 
 -- ---- words
@@ -34,13 +34,13 @@ odd-length (suc zero) h = refl
 odd-length (suc (suc n)) h = absurd (omega arith)
 
 -- the parts of a record's part fill its quadwords
-pub record-quadwords : (k : Kind) (n : ℕ) → 32 + 4 * length (gifTagWords k n) + bodyLength k n + 4 * length (paddingWords k n) ≡ 16 * quadwordsOf k n
+pub record-quadwords : (k : Kind) (n : ℕ) → 32 + 4 * length (gifTagWords k n) + bodyLength k n + 4 * length (paddingWords k n) ≡ 16 * recordQuadwords k n
 record-quadwords Data n = omega arith
 record-quadwords Code n = let h = odd-length (n % 2) (omega arith) in omega arith
 record-quadwords Gs n = omega arith
 record-quadwords Start n = omega arith
 
-pub laid-length : (r : Record) → length (r .body) ≡ bodyLength (r .kind) (r .count) → length (laidOut r) ≡ 16 * quadwordsOf (r .kind) (r .count)
+pub laid-length : (r : Record) → length (r .body) ≡ bodyLength (r .kind) (r .count) → length (laidOut r) ≡ 16 * recordQuadwords (r .kind) (r .count)
 unfolding laidOut
 laid-length r b =
     let h = lead-length (r .kind) (r .count) (r .address) in

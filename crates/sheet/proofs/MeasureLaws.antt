@@ -13,7 +13,7 @@ use Rattle.sheet.specs.declared.Kind.the-variants.{Data, Code, Gs, Start
 use Rattle.sheet.specs.Records.{Record}
 use Rattle.sheet.specs.Reader.{Contents, valid, refused}
 use Rattle.sheet.specs.Whole.{AllMeet}
-use Rattle.sheet.specs.Sizes.{quadwordsOf, stepsOf, entriesOf, sheetQuadwords, sheetEntries}
+use Rattle.sheet.specs.Sizes.{recordQuadwords, recordSteps, entriesOf, sheetQuadwords, sheetEntries}
 use Rattle.sheet.specs.Layout.{chainOf}
 use Rattle.sheet.proofs.LayoutLaws.{chain-length}
 use Rattle.sheet.specs.declared.sums.Totals.{Totals}
@@ -73,13 +73,13 @@ module _ (sheet : List ℕ) (t : Totals) (at : ℕ) {r : ItemAnswer} {x : Measur
 
 -- ---- where the sums stop
 
-steps-few : (k : Kind) (n : ℕ) → stepsOf k n ≤ 4 * quadwordsOf k n
+steps-few : (k : Kind) (n : ℕ) → recordSteps k n ≤ 4 * recordQuadwords k n
 steps-few Data n = omega arith
 steps-few Code n = omega arith
 steps-few Gs n = omega arith
 steps-few Start n = omega arith
 
-row-entries : (k : Kind) (n : ℕ) → entriesOf k n ≤ quadwordsOf k n
+row-entries : (k : Kind) (n : ℕ) → entriesOf k n ≤ recordQuadwords k n
 row-entries Data n = omega arith
 row-entries Code n = omega arith
 row-entries Gs n = omega arith

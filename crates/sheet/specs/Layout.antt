@@ -7,7 +7,7 @@ use mathlib.Core.List.{List, [], _∷_, _++_}
 use Rattle.sheet.specs.declared.Kind.{Kind}
 use Rattle.sheet.specs.declared.Kind.the-variants.{Data, Code, Gs, Start}
 use Rattle.sheet.specs.Records.{Record}
-use Rattle.sheet.specs.Sizes.{quadwordsOf}
+use Rattle.sheet.specs.Sizes.{recordQuadwords}
 
 -- the four bytes of a word, lowest first
 abbrev pub wordBytes : ℕ → List ℕ
@@ -53,7 +53,7 @@ paddingWords Start n = []
 
 -- the words before the body; QWC counts the quadwords after the tag
 abbrev pub leadWords : Kind → ℕ → ℕ → List ℕ
-leadWords k n a = tagWords 1 (quadwordsOf k n - 1) ++ codeWords k n a ++ gifTagWords k n
+leadWords k n a = tagWords 1 (recordQuadwords k n - 1) ++ codeWords k n a ++ gifTagWords k n
 
 -- a record's part of the chain
 unfoldable pub laidOut : Record → List ℕ

@@ -11,17 +11,17 @@ abbrev pub halved : ℕ → ℕ
 halved n = (n + 1) / 2
 
 -- the quadwords of a record in the chain, its tag included
-abbrev pub quadwordsOf : Kind → ℕ → ℕ
-quadwordsOf Data n = 2 + n
-quadwordsOf Code n = 2 + halved n
-quadwordsOf Gs n = 3 + n
-quadwordsOf Start n = 2
+abbrev pub recordQuadwords : Kind → ℕ → ℕ
+recordQuadwords Data n = 2 + n
+recordQuadwords Code n = 2 + halved n
+recordQuadwords Gs n = 3 + n
+recordQuadwords Start n = 2
 
-abbrev pub stepsOf : Kind → ℕ → ℕ
-stepsOf Data n = 5 + 4 * n
-stepsOf Code n = 5 + 4 * halved n
-stepsOf Gs n = 6 + n
-stepsOf Start n = 5
+abbrev pub recordSteps : Kind → ℕ → ℕ
+recordSteps Data n = 5 + 4 * n
+recordSteps Code n = 5 + 4 * halved n
+recordSteps Gs n = 6 + n
+recordSteps Start n = 5
 
 -- the log entries of a record
 abbrev pub entriesOf : Kind → ℕ → ℕ
@@ -33,11 +33,11 @@ entriesOf Start n = 1
 -- the sums; the end tag is one quadword and one step
 unfoldable pub sheetQuadwords : List Record → ℕ
 sheetQuadwords [] = 1
-sheetQuadwords (r ∷ rs) = quadwordsOf (r .kind) (r .count) + sheetQuadwords rs
+sheetQuadwords (r ∷ rs) = recordQuadwords (r .kind) (r .count) + sheetQuadwords rs
 
 unfoldable pub sheetSteps : List Record → ℕ
 sheetSteps [] = 1
-sheetSteps (r ∷ rs) = stepsOf (r .kind) (r .count) + sheetSteps rs
+sheetSteps (r ∷ rs) = recordSteps (r .kind) (r .count) + sheetSteps rs
 
 unfoldable pub sheetEntries : List Record → ℕ
 sheetEntries [] = 0

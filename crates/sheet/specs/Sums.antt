@@ -12,7 +12,7 @@ use Rattle.sheet.specs.declared.Measured.{Measured}
 use Rattle.sheet.specs.declared.Measured.the-variants.{Whole, Refused as MeasureRefused}
 use Rattle.sheet.specs.Records.{Record}
 use Rattle.sheet.specs.Reader.{Contents, valid, refused}
-use Rattle.sheet.specs.Sizes.{quadwordsOf, stepsOf, entriesOf, sheetQuadwords, sheetSteps, sheetEntries}
+use Rattle.sheet.specs.Sizes.{recordQuadwords, recordSteps, entriesOf, sheetQuadwords, sheetSteps, sheetEntries}
 use Rattle.sheet.specs.Items.{Item, single, group, Items, none, then, expandedItem, expanded}
 use Rattle.sheet.specs.Groups.{ItemRead, ended, item, refused as itemRefused, MembersRead, members, broken}
 
@@ -22,10 +22,10 @@ sumOf f [] = 0
 sumOf f (r ∷ rs) = f r + sumOf f rs
 
 abbrev pub quadwords : Record → ℕ
-quadwords r = quadwordsOf (r .kind) (r .count)
+quadwords r = recordQuadwords (r .kind) (r .count)
 
 abbrev pub steps : Record → ℕ
-steps r = stepsOf (r .kind) (r .count)
+steps r = recordSteps (r .kind) (r .count)
 
 abbrev pub entries : Record → ℕ
 entries r = entriesOf (r .kind) (r .count)

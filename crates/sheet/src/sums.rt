@@ -2,7 +2,7 @@
 use super::Kind;
 ghost use mathlib.Core.Path.{_≡_};
 ghost use Prim.Native.Nat.{_+_, _*_};
-ghost use Rattle.sheet.specs.Sizes.{quadwordsOf, stepsOf, entriesOf};
+ghost use Rattle.sheet.specs.Sizes.{recordQuadwords, recordSteps, entriesOf};
 ghost use Rattle.sheet.specs.Sums.{capped, totals, cappedTotals, endTotals, joined, scaled};
 
 pub struct Totals {
@@ -76,7 +76,7 @@ pub(crate) fn scaled(n: u32, t: Totals) -> Totals
 }
 
 fn quadwords_of(kind: Kind, n: u32) -> u64
-    ensures { λ r. ⌜ r ≡ quadwordsOf kind n ⌝ }
+    ensures { λ r. ⌜ r ≡ recordQuadwords kind n ⌝ }
 {
     let count = n as u64;
     match kind {
@@ -88,7 +88,7 @@ fn quadwords_of(kind: Kind, n: u32) -> u64
 }
 
 fn steps_of(kind: Kind, n: u32) -> u64
-    ensures { λ r. ⌜ r ≡ stepsOf kind n ⌝ }
+    ensures { λ r. ⌜ r ≡ recordSteps kind n ⌝ }
 {
     let count = n as u64;
     match kind {
@@ -112,7 +112,7 @@ fn entries_of(kind: Kind, n: u32) -> u64
 
 // The sums of a record.
 pub(crate) fn record_totals(kind: Kind, n: u32) -> Totals
-    ensures { λ r. ⌜ r ≡ cappedTotals (quadwordsOf kind n) (stepsOf kind n) (entriesOf kind n) ⌝ }
+    ensures { λ r. ⌜ r ≡ cappedTotals (recordQuadwords kind n) (recordSteps kind n) (entriesOf kind n) ⌝ }
 {
     Totals {
         quadwords: least(quadwords_of(kind, n)),

@@ -8,7 +8,7 @@ use lib.Seq.{sets}
 use Rattle.sheet.specs.declared.Kind.{Kind}
 use Rattle.sheet.specs.declared.Kind.the-variants.{Data, Code, Gs, Start}
 use Rattle.sheet.specs.Records.{recordOf, bodyLength}
-use Rattle.sheet.specs.Sizes.{quadwordsOf}
+use Rattle.sheet.specs.Sizes.{recordQuadwords}
 use Rattle.sheet.specs.Layout.{wordBytes, wordsBytes, codeWords, gifTagWords, oddPadding, paddingWords, leadWords, laidOut}
 use Rattle.sheet.proofs.ListLaws.{sets-next}
 use Rattle.sheet.proofs.LayoutLaws.{words-length, code-length}
@@ -51,14 +51,14 @@ pub odd-padding : (odd : ℕ) → (odd ≡ 0 → ⊥) → oddPadding odd ≡ 0 �
 odd-padding zero h = absurd (h refl)
 odd-padding (suc n) h = refl
 
-pub quadwords-few : (k : Kind) (n : ℕ) → n ≤ 255 → (2 ≤ quadwordsOf k n) × (quadwordsOf k n ≤ 258)
+pub quadwords-few : (k : Kind) (n : ℕ) → n ≤ 255 → (2 ≤ recordQuadwords k n) × (recordQuadwords k n ≤ 258)
 quadwords-few Data n h = (omega arith, omega arith)
 quadwords-few Code n h = (omega arith, omega arith)
 quadwords-few Gs n h = (omega arith, omega arith)
 quadwords-few Start n h = (omega arith, omega arith)
 
 -- the tag, the codes and the GIF tag are the lead
-pub lead-stores : (k : Kind) (n a : ℕ) (l : List ℕ) (at q : ℕ) {ws x y z : List ℕ} → q + 1 ≡ quadwordsOf k n → ws ≡ codeWords k n a
+pub lead-stores : (k : Kind) (n a : ℕ) (l : List ℕ) (at q : ℕ) {ws x y z : List ℕ} → q + 1 ≡ recordQuadwords k n → ws ≡ codeWords k n a
     → x ≡ sets l at (wordsBytes ((268435456 + q) ∷ 0 ∷ 0 ∷ 0 ∷ []))
     → y ≡ sets x (at + 16) (wordsBytes ws)
     → z ≡ sets y (at + 32) (wordsBytes (gifTagWords k n))
@@ -67,7 +67,7 @@ lead-stores k n a l at q e w p r s =
     let tag : List ℕ = wordsBytes ((268435456 + q) ∷ 0 ∷ 0 ∷ 0 ∷ []) in
     let codes : List ℕ = wordsBytes (codeWords k n a) in
     let c : length (tag ++ codes) ≡ 32 = rw (words-length (codeWords k n a), code-length k n a) refl in
-    let d : quadwordsOf k n - 1 ≡ q = omega arith in
+    let d : recordQuadwords k n - 1 ≡ q = omega arith in
     rw (d, words-append ((268435456 + q) ∷ 0 ∷ 0 ∷ 0 ∷ codeWords k n a) (gifTagWords k n))
     (sets-next l at (tag ++ codes) (wordsBytes (gifTagWords k n)) (sets-next l at tag codes p refl (rw w at r)) (rw c refl) s)
 

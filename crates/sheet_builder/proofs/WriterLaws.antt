@@ -19,7 +19,7 @@ use Rattle.sheet.specs.declared.Header.{Header}
 use Rattle.sheet.specs.declared.Header.the-variants.{Single}
 use Rattle.sheet.specs.Records.{Record, countFits, addressFits, bodyLength}
 use Rattle.sheet.specs.Reader.{Contents, valid}
-use Rattle.sheet.specs.Sizes.{quadwordsOf}
+use Rattle.sheet.specs.Sizes.{recordQuadwords}
 use Rattle.sheet.specs.Layout.{endTag, laidOut, chainOf}
 use Rattle.sheet.specs.Groups.{headerAt}
 use Rattle.sheet.specs.Acts.{SheetFits, sheetDone}
@@ -93,10 +93,10 @@ address-few Gs a h = let e = eqb-true a 0 h in omega arith
 address-few Start a h = let e = ltb-true a (instructions Vif1) h in omega arith
 
 module _ (sheet : List ℕ) (depth at : ℕ) {h : Header} (e : h ≡ headerAt sheet depth at) {k : Kind} {n a next : ℕ} (q : h ≡ Single k n a next) where
-  single-length : length (laidOut (recordAt sheet at k n a)) ≡ 16 * quadwordsOf k n
+  single-length : length (laidOut (recordAt sheet at k n a)) ≡ 16 * recordQuadwords k n
   single-length = let i = single-inside sheet depth at e q in laid-length (recordAt sheet at k n a) (part-length sheet (at + 6) (bodyLength k n) i)
 
-  one-length : length (laidAll (recordAt sheet at k n a ∷ [])) ≡ 16 * quadwordsOf k n
+  one-length : length (laidAll (recordAt sheet at k n a ∷ [])) ≡ 16 * recordQuadwords k n
   unfolding laidAll
   one-length = rw (append-nil (laidOut (recordAt sheet at k n a))) single-length
 
@@ -109,7 +109,7 @@ module _ (sheet : List ℕ) (depth at : ℕ) {h : Header} (e : h ≡ headerAt sh
         let l = one-length in
         record { count = count-few k n (t .counted); address = address-few k a (t .addressed); inside = single-inside sheet depth at e q; room = omega arith }
 
-    pub write-one : {o : List ℕ} {to′ : ℕ} → (to′ ≡ to + 16 * quadwordsOf k n) × (o ≡ sets output to (laidOut (recordAt sheet at k n a)))
+    pub write-one : {o : List ℕ} {to′ : ℕ} → (to′ ≡ to + 16 * recordQuadwords k n) × (o ≡ sets output to (laidOut (recordAt sheet at k n a)))
         → out o to′ ≡ write (recordAt sheet at k n a ∷ []) (out output to)
     unfolding write laidAll
     write-one p = rw (p .0, p .1, append-nil (laidOut (recordAt sheet at k n a)), single-length)

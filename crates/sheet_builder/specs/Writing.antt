@@ -7,7 +7,7 @@ use lib.Seq.{sets}
 use Rattle.sheet.specs.declared.Kind.{Kind}
 use Rattle.sheet.specs.Records.{Record, bodyLength}
 use Rattle.sheet.specs.Reader.{Contents, valid, refused}
-use Rattle.sheet.specs.Sizes.{quadwordsOf, sheetQuadwords}
+use Rattle.sheet.specs.Sizes.{recordQuadwords, sheetQuadwords}
 use Rattle.sheet.specs.Layout.{laidOut, chainOf}
 use Rattle.sheet.specs.Editions.{contentsOf}
 
@@ -21,7 +21,7 @@ pub record RecordRoom (sheet : List ℕ) (body : ℕ) (k : Kind) (n a : ℕ) (ou
   pub count : n ≤ 255
   pub address : a < 65536
   pub inside : body + bodyLength k n ≤ length sheet
-  pub room : at + 16 * quadwordsOf k n ≤ length output
+  pub room : at + 16 * recordQuadwords k n ≤ length output
 
 -- the chain without its end tag
 unfoldable pub laidAll : List Record → List ℕ

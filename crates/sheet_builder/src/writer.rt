@@ -13,7 +13,7 @@ ghost use Prim.Native.Nat.{_+_, _*_, _<_, _≤_};
 ghost use lib.ListN.{length};
 ghost use lib.Seq.{sets};
 ghost use Rattle.sheet.specs.Records.{recordOf, bodyLength, bytesAt};
-ghost use Rattle.sheet.specs.Sizes.{quadwordsOf};
+ghost use Rattle.sheet.specs.Sizes.{recordQuadwords};
 ghost use Rattle.sheet.specs.Layout.{wordBytes, wordsBytes, codeWords, gifTagWords, oddPadding, paddingWords, leadWords, laidOut};
 ghost use Rattle.sheet.specs.Build.{left, buildOf, exportedNumber};
 ghost use Rattle.sheet.specs.Groups.{itemAt, membersAt};
@@ -61,7 +61,7 @@ fn copy_bytes(sheet: &[u8], from: usize, n: usize, output: &mut [u8], to: usize)
 
 fn quadwords_after_tag(kind: Kind, n: u32) -> u32
     requires { ⌜ n ≤ 255 ⌝ }
-    ensures { λ r. ⌜ r + 1 ≡ quadwordsOf kind n ⌝ }
+    ensures { λ r. ⌜ r + 1 ≡ recordQuadwords kind n ⌝ }
 {
     match kind {
         Kind::Data => 1 + n,
@@ -149,7 +149,7 @@ fn put_record(
     at: usize,
 ) -> usize
     requires { ⌜ RecordRoom (now sheet) body kind n a (now output) at ⌝ }
-    ensures { λ r. ⌜ (r ≡ at + 16 * quadwordsOf kind n)
+    ensures { λ r. ⌜ (r ≡ at + 16 * recordQuadwords kind n)
         × (now (output .exit)
         ≡ sets (now (output .entry)) at (laidOut (recordOf kind n a (bytesAt (now (sheet .entry)) body (bodyLength kind n))))) ⌝ }
 {

@@ -23,7 +23,7 @@ use Rattle.state_block.specs.declared.ReadState.{ReadState}
 use Rattle.state_block.specs.Sizes.{pathSize, unitSize, chainSize, vif1At, path2At, path3At, vif0At, stateSize, part}
 use Rattle.state_block.specs.PathBlock.{pathBlock, pathInBlock}
 use Rattle.state_block.specs.UnitBlock.{unitBlock, unitInBlock}
-use Rattle.state_block.specs.StateBlock.{stackWords, tagWords, payloadWords, chainWords, stateBlock, chainExists, stackInBlock, tagsInBlock, payloadInBlock, usedInBlock, heldState, noState, readState, stateWith, stateInBlock}
+use Rattle.state_block.specs.StateBlock.{stackWords, tagsBlock, payloadBlock, chainWords, stateBlock, chainExists, stackInBlock, tagsInBlock, payloadInBlock, usedInBlock, heldState, noState, readState, stateWith, stateInBlock}
 use Rattle.state_block.proofs.WordLaws.{bit-is, bit-back, long-back}
 use Rattle.state_block.proofs.PartLaws.{part-kept, part-last, begins-none, begins-more, begins-all}
 use Rattle.state_block.proofs.PathLaws.{path-length, path-back}
@@ -111,7 +111,7 @@ depth-is Empty = refl
 depth-is (One a) = refl
 depth-is (Two a b) = refl
 
-tags-is : (k : TagWords) → leb (getD (tagWords k) 0 0) 1 ≡ true
+tags-is : (k : TagWords) → leb (getD (tagsBlock k) 0 0) 1 ≡ true
 tags-is NoTagWords = refl
 tags-is (From at) = refl
 
@@ -126,15 +126,15 @@ stack-of b (One x) e f g = rw (e, f)
 stack-of b (Two x y) e f g = rw (e, f, g)
 
 tags-of : (b : List ℕ) (k : TagWords)
-    → getD b 7 0 ≡ getD (tagWords k) 0 0
-    → getD b 8 0 ≡ getD (tagWords k) 1 0
+    → getD b 7 0 ≡ getD (tagsBlock k) 0 0
+    → getD b 8 0 ≡ getD (tagsBlock k) 1 0
     → tagsInBlock b ≡ k
 unfolding tagsInBlock if
 tags-of b NoTagWords e f = rw e
 tags-of b (From at) e f = rw (e, f)
 
 -- a payload of no words is written as no payload, so the block does not tell them apart
-pub empty-written : (at : ℕ) → payloadWords (Words at 0) ≡ payloadWords NoPayload
+pub empty-written : (at : ℕ) → payloadBlock (Words at 0) ≡ payloadBlock NoPayload
 unfolding if
 empty-written at = refl
 
@@ -144,8 +144,8 @@ emptyWords (Words at count) = eqb count 0
 
 payload-of : (b : List ℕ) (k : Payload)
     → emptyWords k ≡ false
-    → getD b 9 0 ≡ getD (payloadWords k) 0 0
-    → getD b 10 0 ≡ getD (payloadWords k) 1 0
+    → getD b 9 0 ≡ getD (payloadBlock k) 0 0
+    → getD b 10 0 ≡ getD (payloadBlock k) 1 0
     → payloadInBlock b ≡ k
 unfolding payloadInBlock if
 payload-of b NoPayload h e f = rw e

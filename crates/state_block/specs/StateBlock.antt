@@ -32,14 +32,14 @@ stackWords (One a) = 1 ∷ a ∷ 0 ∷ []
 stackWords (Two a b) = 2 ∷ a ∷ b ∷ []
 
 -- words 7 and 8
-abbrev pub tagWords : TagWords → List ℕ
-tagWords NoTagWords = 0 ∷ 0 ∷ []
-tagWords (From at) = 1 ∷ at ∷ []
+abbrev pub tagsBlock : TagWords → List ℕ
+tagsBlock NoTagWords = 0 ∷ 0 ∷ []
+tagsBlock (From at) = 1 ∷ at ∷ []
 
 -- words 9 and 10: how many words, and the address of the next, 0 where none is pending
-abbrev pub payloadWords : Payload → List ℕ
-payloadWords NoPayload = 0 ∷ 0 ∷ []
-payloadWords (Words at count) = count ∷ if (eqb count 0) 0 at ∷ []
+abbrev pub payloadBlock : Payload → List ℕ
+payloadBlock NoPayload = 0 ∷ 0 ∷ []
+payloadBlock (Words at count) = count ∷ if (eqb count 0) 0 at ∷ []
 
 -- words 0 to 12
 unfoldable pub chainWords : State → List ℕ
@@ -51,10 +51,10 @@ chainWords s =
     ∷ getD (stackWords (s .stack)) 0 0
     ∷ getD (stackWords (s .stack)) 1 0
     ∷ getD (stackWords (s .stack)) 2 0
-    ∷ getD (tagWords (s .tags)) 0 0
-    ∷ getD (tagWords (s .tags)) 1 0
-    ∷ getD (payloadWords (s .payload)) 0 0
-    ∷ getD (payloadWords (s .payload)) 1 0
+    ∷ getD (tagsBlock (s .tags)) 0 0
+    ∷ getD (tagsBlock (s .tags)) 1 0
+    ∷ getD (payloadBlock (s .payload)) 0 0
+    ∷ getD (payloadBlock (s .payload)) 1 0
     ∷ s .used % 2 ^ 32
     ∷ s .used / 2 ^ 32
     ∷ []

@@ -25,7 +25,7 @@ ghost use mathlib.Core.Path.{_≡_};
 ghost use mathlib.Core.Bool.{false, _&&_};
 ghost use lib.ListN.{length};
 ghost use Rattle.state_block.specs.Sizes.{stateSize};
-ghost use Rattle.state_block.specs.StateBlock.{stackWords, tagWords, payloadWords, chainWords, stateBlock, chainExists, stackInBlock, tagsInBlock, payloadInBlock, usedInBlock, heldState, noState, readState, stateWith, stateInBlock};
+ghost use Rattle.state_block.specs.StateBlock.{stackWords, tagsBlock, payloadBlock, chainWords, stateBlock, chainExists, stackInBlock, tagsInBlock, payloadInBlock, usedInBlock, heldState, noState, readState, stateWith, stateInBlock};
 
 // Words 4 to 6.
 fn stack_words(stack: Stack) -> [u32; 3]
@@ -40,7 +40,7 @@ fn stack_words(stack: Stack) -> [u32; 3]
 
 // Words 7 and 8.
 fn tag_words(tags: TagWords) -> [u32; 2]
-    ensures { λ r. ⌜ r ≡ tagWords tags ⌝ }
+    ensures { λ r. ⌜ r ≡ tagsBlock tags ⌝ }
 {
     match tags {
         TagWords::Nothing => [0, 0],
@@ -50,7 +50,7 @@ fn tag_words(tags: TagWords) -> [u32; 2]
 
 // Words 9 and 10.
 fn payload_words(payload: Payload) -> [u32; 2]
-    ensures { λ r. ⌜ r ≡ payloadWords payload ⌝ }
+    ensures { λ r. ⌜ r ≡ payloadBlock payload ⌝ }
 {
     match payload {
         Payload::Nothing => [0, 0],

@@ -47,7 +47,7 @@ use Rattle.vif_codes.specs.declared.Waiting.{Waiting}
 use Rattle.vif_codes.specs.declared.Waiting.the-variants.{Nothing, MpgDue, DirectDue}
 use Rattle.vif_codes.specs.declared.Vif.{Vif}
 use Rattle.vif_codes.specs.Setters.{withCycle, withMode, withRow, withWaiting}
-use Rattle.vif_codes.specs.Codes.{interruptOf, quadwordsOf, mpgAddresses, missingCode, codeListed, plainCode, unpackNumbers, codeOf, decodeOf}
+use Rattle.vif_codes.specs.Codes.{interruptOf, directQuadwords, mpgAddresses, missingCode, codeListed, plainCode, unpackNumbers, codeOf, decodeOf}
 use Rattle.vif_codes.specs.Execute.{started, startProgram, setMode, beginMpg, addressOf}
 use Rattle.vif_codes.specs.Payload.{orNothing, bytesOf, wordPlace, mpgStored, writeRegisters}
 use Rattle.vif_codes.specs.Words.{wordIn, oddWord}
@@ -393,7 +393,7 @@ feeds-code which v p used m n a ws pad ns h some few inside q l z o =
 
 module _ (n : ℕ) (few : n ≤ 255) where
   direct-decoded : (which : VifUnit) → codeListed which 0x50 ≡ true → decodeOf which (1342177280 + n + 1) ≡ Known (Direct (n + 1))
-  unfolding decodeOf codeOf plainCode quadwordsOf bits if
+  unfolding decodeOf codeOf plainCode directQuadwords bits if
   direct-decoded which x =
       let c : (1342177280 + n + 1) / 16777216 % 128 ≡ 80 = omega arith in
       let e : (1342177280 + n + 1) / 1 % 65536 ≡ n + 1 = omega arith in

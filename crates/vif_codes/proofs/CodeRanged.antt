@@ -30,7 +30,7 @@ use Rattle.vif_codes.specs.declared.Waiting.{Waiting}
 use Rattle.vif_codes.specs.declared.Waiting.the-variants.{Nothing, MaskDue, RowDue, ColDue, MpgDue, DirectDue, DirecthlDue, UnpackDue}
 use Rattle.vif_codes.specs.declared.Vif.{Vif}
 use Rattle.vif_codes.specs.Setters.{withWaiting}
-use Rattle.vif_codes.specs.Codes.{immOf, numOf, cmdOf, quadwordsOf, mpgAddressMost, missingCode, codeListed, plainCode, unpackCode, unpackNumbers, codeOf, decodeOf}
+use Rattle.vif_codes.specs.Codes.{immOf, numOf, cmdOf, directQuadwords, mpgAddressMost, missingCode, codeListed, plainCode, unpackCode, unpackNumbers, codeOf, decodeOf}
 use Rattle.vif_codes.specs.Execute.{Executed, nextTops, started, startProgram, setMode, beginMpg, begunUnpack, unpackRefusal, beginUnpack, executeOf, decodedStep}
 use Rattle.vif_codes.specs.Range.{upTo, topsMost, bitInRange, directInRange, waitingInRange, unitInRange}
 use Rattle.vif_codes.proofs.RangeLaws.{fits-up-to, RegistersFit, both-fit, vif1-fit, unit-ranged}
@@ -75,8 +75,8 @@ module _ (which : VifUnit) where
   fine : (d : Decoded) → DecodedFits d → Fits d
   fine d h = record { fits = h }
 
-  direct-fits : (cmd k imm : ℕ) → imm < 65536 → codeListed which cmd ≡ true → eqb cmd k ≡ true → directInRange which k (quadwordsOf imm) ≡ true
-  unfolding directInRange quadwordsOf
+  direct-fits : (cmd k imm : ℕ) → imm < 65536 → codeListed which cmd ≡ true → eqb cmd k ≡ true → directInRange which k (directQuadwords imm) ≡ true
+  unfolding directInRange directQuadwords
   direct-fits cmd k imm h l e =
       rw (← eqb-true cmd k e, l)
       (if-ind-by (λ (n : ℕ). upTo 65536 n ≡ true) (eqb imm 0) (λ z. fits-up-to 65536 65536 (omega arith) (omega arith))

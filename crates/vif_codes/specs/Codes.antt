@@ -28,8 +28,8 @@ abbrev pub interruptOf : ℕ → Bool
 interruptOf word = eqb (bits word 31 31) 1
 
 -- "50 DIRECT, 51 DIRECTHL: IMM quadwords to path 2 (0 means 65,536)."
-unfoldable pub quadwordsOf : ℕ → ℕ
-quadwordsOf imm = if (eqb imm 0) 65536 imm
+unfoldable pub directQuadwords : ℕ → ℕ
+directQuadwords imm = if (eqb imm 0) 65536 imm
 
 -- MPG's address: bits 0-10 of IMM, which give the same places as IMM
 abbrev pub mpgAddresses : ℕ
@@ -59,8 +59,8 @@ plainCode cmd num imm =
     (if (eqb cmd 0x30) (Known Strow)
     (if (eqb cmd 0x31) (Known Stcol)
     (if (eqb cmd 0x4A) (Known (Mpg (bits imm 0 10) num))
-    (if (eqb cmd 0x50) (Known (Direct (quadwordsOf imm)))
-    (if (eqb cmd 0x51) (Known (Directhl (quadwordsOf imm)))
+    (if (eqb cmd 0x50) (Known (Direct (directQuadwords imm)))
+    (if (eqb cmd 0x51) (Known (Directhl (directQuadwords imm)))
     (Unknown cmdUnlisted))))))))))))))))))))
 
 -- "21 vl 3 with vn below 3"

@@ -8,10 +8,10 @@ use memories::VifUnit;
 use unpack_rules::ADDRESSES;
 use unpack_rules::NamedFormat;
 ghost use mathlib.Core.Path.{_≡_};
-ghost use Rattle.vif_codes.specs.Codes.{quadwordsOf, plainCode, unpackCode, unpackNumbers, missingCode, codeListed, codeOf, decodeOf};
+ghost use Rattle.vif_codes.specs.Codes.{directQuadwords, plainCode, unpackCode, unpackNumbers, missingCode, codeListed, codeOf, decodeOf};
 
 fn quadwords_of(imm: u32) -> u32
-    ensures { λ r. ⌜ r ≡ quadwordsOf imm ⌝ }
+    ensures { λ r. ⌜ r ≡ directQuadwords imm ⌝ }
 {
     if imm == 0 { 65536 } else { imm }
 }
