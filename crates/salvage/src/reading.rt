@@ -5,6 +5,7 @@ use sheet::read_record;
 ghost use mathlib.Core.Path.{_≡_};
 ghost use Prim.Native.Nat.{_≤_};
 ghost use lib.ListN.{length};
+ghost use Rattle.sheet.specs.Records.{longest};
 ghost use Rattle.salvage.specs.Inner.{rangeEnd, sumsOf};
 
 // The first place from this one on where a record starts, or the sheet's end.
@@ -37,7 +38,7 @@ pub(crate) fn range_end(sheet: &[u8], from: usize) -> usize
 
 // The bytes that are kept of a sheet, and its dropped ranges.
 pub(crate) fn measure(sheet: &[u8]) -> Sums
-    requires { ⌜ length (now sheet) ≤ 131072 ⌝ }
+    requires { ⌜ length (now sheet) ≤ longest ⌝ }
     ensures { λ r. ⌜ r ≡ sumsOf (now (sheet .entry)) ⌝ }
 {
     let mut bytes = 0;

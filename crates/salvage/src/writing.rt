@@ -3,6 +3,7 @@ use super::SalvageAnswer;
 use super::reading::measure;
 use super::reading::range_end;
 use fields::refusals;
+use sheet::LONGEST;
 use sheet::Reading;
 use sheet::read_record;
 ghost use mathlib.Core.Path.{_≡_};
@@ -79,7 +80,7 @@ pub fn salvage(sheet: &[u8], output: &mut [u8], ranges: &mut [u64]) -> SalvageAn
     ensures { λ r. ⌜ left r (now (output .exit)) (now (ranges .exit))
         ≡ salvageOf (now (sheet .entry)) (now (output .entry)) (now (ranges .entry)) ⌝ }
 {
-    if 131072 < sheet.len() {
+    if LONGEST < sheet.len() {
         return SalvageAnswer::Refused(refusals::SHEET_LONG);
     }
     let sums = measure(sheet);

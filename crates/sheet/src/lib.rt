@@ -14,6 +14,9 @@ pub use sums::Totals;
 pub use totals::measure;
 pub use totals::steps;
 
+// The bytes that a sheet has at most.
+pub const LONGEST: usize = 131072;
+
 pub enum Kind {
     Data,
     Code,

@@ -1,4 +1,5 @@
 // The sums of a sheet of either edition, and its steps.
+use super::LONGEST;
 use super::Measured;
 use super::StepsAnswer;
 use super::heads::edition_refusal;
@@ -68,7 +69,7 @@ fn measure_second(sheet: &[u8]) -> Measured
 pub fn measure(sheet: &[u8]) -> Measured
     ensures { λ r. ⌜ r ≡ measuredOf (contentsOf (now (sheet .entry))) ⌝ }
 {
-    if 131072 < sheet.len() {
+    if LONGEST < sheet.len() {
         return Measured::Refused {
             number: refusals::SHEET_LONG,
             offset: 0,
