@@ -20,4 +20,5 @@ pub mod TotalsLaws
 pub mod ActLaws
 pub mod MeaningLaws
 pub mod FedLaws
+pub mod NumberLaws
 pub mod Points

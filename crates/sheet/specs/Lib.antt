@@ -7,6 +7,7 @@ pub mod Sizes
 pub mod Layout
 pub mod Groups
 pub mod Editions
+pub mod Numbers
 pub mod Build
 pub mod Meaning
 pub mod Results
