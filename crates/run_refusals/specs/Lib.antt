@@ -1,0 +1,2 @@
+-- The numbers that a run is refused with.
+pub mod Numbers
