@@ -1,6 +1,6 @@
 # Nothing but calls of rt, cargo, cc, clang and the programs that they build. What is built here goes to build/ and target/.
 .POSIX:
-.PHONY: all test compared check second bench host built command host-test host-built command-test sanitized-test demo install uninstall fuzz fuzz-build fuzz-run fuzz-text clean
+.PHONY: all test proofs second-test compared check second bench host built command host-test host-built command-test sanitized-test demo install uninstall fuzz fuzz-build fuzz-run fuzz-text clean
 
 SECOND = build/second/release/second
 ARCHIVE = target/staticlib/libtejborun.a
@@ -30,15 +30,22 @@ all: host
 test:
 	rt fmt --check
 	mkdir -p build
-	{ RT_JOBS=4 rt ci 2>&1; echo $$? > build/ci.status; } | tee build/ci.log; test "$$(cat build/ci.status)" = 0
+	$(MAKE) -j 2 proofs second-test
 	$(MAKE) -j 2 compared host-built
 	build/host-test
 	$(MAKE) -j 2 command-test sanitized-test
 	@tail -n 1 build/ci.log
 
-# The second program's own points, and the proved programs compared with it; rt ci has built them.
-compared: second
+# Every crate from nothing, and every edit.
+proofs:
+	{ RT_JOBS=4 rt ci 2>&1; echo $$? > build/ci.status; } | tee build/ci.log; test "$$(cat build/ci.status)" = 0
+
+# The second program's own points.
+second-test: second
 	cargo test --quiet --release --offline --manifest-path second/Cargo.toml --target-dir build/second
+
+# The proved programs compared with the second program; both have been built.
+compared:
 	$(SECOND) compare-gif target/bin/gif_replay 1,2,3 20000
 	$(SECOND) compare-vif target/bin/vif_replay 1,2,3 100000
 	$(SECOND) compare-capture target/bin/replay 1,2,3 2000
