@@ -1,4 +1,4 @@
--- The numbers that a run is refused with: those of document 01's chapter "Refusals" and of the requests that add to it.
+-- The numbers that a run is refused with: those of document 01's chapter "Refusal numbers" and of the requests that add to it.
 use Prim.Native.Nat.{ℕ}
 use Rattle.fields.specs.Refusals.{mainLength, dataLength, codeLength, logLength, outOfRange, payloadOutside, tadrOutside, addrUnaligned, scratchpadSet, stackFull, cmdUnlisted, formatMissing, cycleWrong, modeWrong, directUnaligned, mpgUnaligned, topsMissing, logFull, descriptorB}
 

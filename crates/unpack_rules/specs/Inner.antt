@@ -1,4 +1,4 @@
--- Facts that inner functions require of their input; no promise of a public function cites them.
+-- Facts that inner functions require of their input; of the promises of public functions only that of `is_plain` cites one, `plain`.
 use Prim.Native.Nat.{ℕ, suc, _+_, _*_, _-_, _%_, _<_, _≤_}
 use mathlib.Core.List.{List}
 use mathlib.Core.Path.{_≡_}
