@@ -1,4 +1,6 @@
 // State blocks of cases, and states and answers as results show them.
+#![tactic(auto)]
+
 ghost use Rattle.std.specs.Prelude.{◌≡◌};
 ghost use Rattle.fields.specs.Counts.{count_numbers};
 ghost use Rattle.chain.specs.Run.{number_of};

@@ -1,4 +1,6 @@
 // What the programs that run cases share: words of a header, memories as a case fills them, and memories and their changes as results show them.
+#![tactic(auto)]
+
 mod changes;
 mod fill;
 mod input;

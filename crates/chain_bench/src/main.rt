@@ -1,4 +1,6 @@
 // Runs a chain round after round, to be timed (docs/FORMATS.md, "Chain timing input").
+#![tactic(auto)]
+
 use cases::{sum_of_bytes, sum_of_longs, sum_of_words};
 use chain::Answer;
 use chain_state::State;
@@ -7,7 +9,7 @@ use wire::{emit, emit_long, word_at};
 const LOG: usize = gif::LOG_MOST as usize;
 
 // The state, and over all rounds the steps and the runs that did not end with done.
-#[derive(Drop)]
+#[derive(Clone, Copy)]
 struct Total {
     state: State,
     steps: u64,

@@ -1,4 +1,6 @@
 // What a tag's refusal shows, and where the next step reads. What each function means is said by the definitions of specs/.
+#![tactic(auto)]
+
 mod place;
 mod tag;
 

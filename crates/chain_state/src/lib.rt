@@ -1,4 +1,6 @@
 // The DMA chain's state: its parts, its range, reset and start. What each function means is said by the definitions of specs/.
+#![tactic(auto)]
+
 mod control;
 mod range;
 mod setters;
@@ -8,7 +10,7 @@ pub use range::{entry_refusal, unit_of};
 pub use setters::{held_by, with_path3, with_pending, with_tag, with_unit};
 
 // The addresses that calls pushed, the last one last.
-#[derive(Drop)]
+#[derive(Clone, Copy)]
 pub enum Stack {
     Empty,
     One(u32),
@@ -16,20 +18,20 @@ pub enum Stack {
 }
 
 // Transferred tag words not yet taken: the address of the next one.
-#[derive(Drop)]
+#[derive(Clone, Copy)]
 pub enum TagWords {
     Nothing,
     From(u32),
 }
 
 // Payload not yet taken: the address of its next word and the number of words.
-#[derive(Drop)]
+#[derive(Clone, Copy)]
 pub enum Payload {
     Nothing,
     Words { at: u32, count: u32 },
 }
 
-#[derive(Drop)]
+#[derive(Clone, Copy)]
 pub struct State {
     pub channel: u32,
     pub tadr: u32,
@@ -45,13 +47,13 @@ pub struct State {
     pub path3: gif::Path,
 }
 
-#[derive(Drop)]
+#[derive(Clone, Copy)]
 pub enum StartAnswer {
     Started,
     Refused(u32),
 }
 
-#[derive(Drop)]
+#[derive(Clone, Copy)]
 pub struct StartResult {
     pub answer: StartAnswer,
     pub state: State,

@@ -1,4 +1,6 @@
 // Reads check cases from standard input and writes what each leaves (docs/FORMATS.md, "Check cases").
+#![tactic(auto)]
+
 ghost use Rattle.std.specs.Prelude.{◌<◌};
 
 use blocks::emit_counts;
@@ -7,7 +9,7 @@ use supplier::CheckResult;
 use wire::{emit, emit_long, joined, low_word, word_at};
 
 // Where the results stand after a case, and whether the case was whole.
-#[derive(Drop)]
+#[derive(Clone, Copy)]
 struct Ended {
     at: usize,
     whole: bool,

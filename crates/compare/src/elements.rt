@@ -7,7 +7,7 @@ ghost use Rattle.compare.specs.Inner.{list_of, Inside, found_after};
 
 use super::Found;
 
-#[derive(Drop)]
+#[derive(Clone, Copy)]
 pub(crate) enum Memory {
     Data,
     Code,

@@ -1,5 +1,7 @@
 // The comparison of two boards in the parts that are asked for: data memories by quadwords, code memories by instructions, logs by entries.
 // What each function means is said by the definitions of specs/.
+#![tactic(auto)]
+
 mod boards;
 mod elements;
 mod lengths;
@@ -29,28 +31,28 @@ pub const VIF0_CODE: u32 = 16;
 pub const ALL_PARTS: u32 = 31;
 
 // The first that differs (as many as were compared where none does), and how many differ.
-#[derive(Drop)]
+#[derive(Clone, Copy)]
 pub struct Found {
     pub first: u64,
     pub count: u64,
 }
 
 // A unit's memories.
-#[derive(Drop)]
+#[derive(Clone, Copy)]
 pub struct UnitFound {
     pub quadwords: Found,
     pub instructions: Found,
 }
 
 // How many entries of each log are used.
-#[derive(Drop)]
+#[derive(Clone, Copy)]
 pub struct Used {
     pub first: u64,
     pub second: u64,
 }
 
 // The entries are those that both logs have. All numbers of a part that is not asked for are 0.
-#[derive(Drop)]
+#[derive(Clone, Copy)]
 pub struct Comparison {
     pub vif1: UnitFound,
     pub vif0: UnitFound,
@@ -58,7 +60,7 @@ pub struct Comparison {
     pub used: Used,
 }
 
-#[derive(Drop)]
+#[derive(Clone, Copy)]
 pub enum CompareAnswer {
     Compared(Comparison),
     Refused(u32),

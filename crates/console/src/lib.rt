@@ -1,5 +1,7 @@
 // One of the eight numbers ROW and COL set from the console: on a register block by value, in place over that, and in a state block. What each function means is said by the
 // definitions of specs/.
+#![tactic(auto)]
+
 mod block;
 mod register;
 
@@ -7,13 +9,13 @@ pub use block::set_in_block;
 pub use register::{set_register, with_register};
 
 // What the console is told.
-#[derive(Drop)]
+#[derive(Clone, Copy)]
 pub enum SetAnswer {
     Set,
     Refused(u32),
 }
 
-#[derive(Drop)]
+#[derive(Clone, Copy)]
 pub struct SetResult {
     pub answer: SetAnswer,
     pub block: vif_codes::Vif,

@@ -1,4 +1,6 @@
 // Says why a run stopped, and changes nothing. What each function means is said by the definitions of specs/.
+#![tactic(auto)]
+
 mod attempt;
 mod shown;
 mod telling;
@@ -7,7 +9,7 @@ pub use telling::why;
 
 // Why the next step of a run would not be taken: an entry refusal; the chain's end, with nothing pending; no complaint; or the refusal of the step, the address
 // that it reads and the contents of the field at fault, 0 for a second number where there is one.
-#[derive(Drop)]
+#[derive(Clone, Copy)]
 pub enum Reason {
     Entry(u32),
     Ended,
@@ -21,14 +23,14 @@ pub enum Reason {
 }
 
 // A step that was tried on a log with room: the entries that it needs, or its refusal.
-#[derive(Drop)]
+#[derive(Clone, Copy)]
 pub(crate) enum Trial {
     Needs(u64),
     Refused(u32),
 }
 
 // The next step: none is refused, or the refusal, and the entries that the step needs where it lacks room for them.
-#[derive(Drop)]
+#[derive(Clone, Copy)]
 pub(crate) enum Outlook {
     Clear,
     Refuses { refusal: u32, needed: u64 },

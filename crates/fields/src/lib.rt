@@ -1,4 +1,6 @@
 // Definitions and laws: fields of numbers, the choice by a test, numbers in main memory, and blocks of words put together of parts.
+#![tactic(auto)]
+
 mod counting;
 mod memory;
 pub mod refusals;
@@ -13,7 +15,7 @@ pub use counting::{
 pub use memory::{MAIN_MOST, lies_inside, long_at, word_at};
 
 // Sums of QWC, by tag ID.
-#[derive(Drop)]
+#[derive(Clone, Copy)]
 pub struct Qwc {
     pub id0: u64,
     pub id1: u64,
@@ -26,7 +28,7 @@ pub struct Qwc {
 }
 
 // What is counted over completed steps: the steps, the packets closed, the VIF words taken, the NOPs among them, and QWC of the tags read.
-#[derive(Drop)]
+#[derive(Clone, Copy)]
 pub struct Counts {
     pub steps: u64,
     pub packets: u64,
@@ -36,7 +38,7 @@ pub struct Counts {
 }
 
 // Of steps that read no tag.
-#[derive(Drop)]
+#[derive(Clone, Copy)]
 pub struct UnitCounts {
     pub steps: u64,
     pub packets: u64,

@@ -1,4 +1,6 @@
 // The GIF: tags and data, one quadword at a time, on one path. What each function means is said by the definitions of specs/.
+#![tactic(auto)]
+
 mod burst;
 mod feed;
 mod image;
@@ -15,7 +17,7 @@ pub use log::{log_refused, write_entry};
 pub use range::path_in_range;
 pub use step::take_quadword;
 
-#[derive(Drop)]
+#[derive(Clone, Copy)]
 pub enum TagFormat {
     Packed,
     Reglist,
@@ -23,7 +25,7 @@ pub enum TagFormat {
 }
 
 // A tag whose data has not all come; `due` is in quadwords.
-#[derive(Drop)]
+#[derive(Clone, Copy)]
 pub struct HeldTag {
     pub nloop: u32,
     pub eop: bool,
@@ -33,20 +35,20 @@ pub struct HeldTag {
     pub due: u32,
 }
 
-#[derive(Drop)]
+#[derive(Clone, Copy)]
 pub enum Place {
     Idle,
     Data(HeldTag),
 }
 
 // The paths that quadwords come by; each keeps its own place and Q.
-#[derive(Drop)]
+#[derive(Clone, Copy)]
 pub enum GifPath {
     Two,
     Three,
 }
 
-#[derive(Drop)]
+#[derive(Clone, Copy)]
 pub struct Path {
     pub q: u32,
     pub place: Place,
@@ -62,14 +64,14 @@ pub const LOG_MOST: u64 = 196608;
 pub const START_PATH: u64 = 0;
 
 // One write of a register.
-#[derive(Drop)]
+#[derive(Clone, Copy)]
 pub struct Write {
     pub register: u64,
     pub value: u64,
 }
 
 // The writes of one step.
-#[derive(Drop)]
+#[derive(Clone, Copy)]
 pub enum Writes {
     Nothing,
     One(Write),
@@ -77,7 +79,7 @@ pub enum Writes {
 }
 
 // One entry, as the log has it.
-#[derive(Drop)]
+#[derive(Clone, Copy)]
 pub struct Entry {
     pub path: u64,
     pub register: u64,
@@ -85,13 +87,13 @@ pub struct Entry {
 }
 
 // A quadword that was taken, and whether it closed a packet; or the refusal.
-#[derive(Drop)]
+#[derive(Clone, Copy)]
 pub enum GifAnswer {
     Taken(bool),
     Refused(u32),
 }
 
-#[derive(Drop)]
+#[derive(Clone, Copy)]
 pub struct GifResult {
     pub answer: GifAnswer,
     pub path: Path,
@@ -99,7 +101,7 @@ pub struct GifResult {
 }
 
 // What quadwords given one after another left, how many were taken and how many of these closed a packet, and the refusal of the next one, 0 where none is left.
-#[derive(Drop)]
+#[derive(Clone, Copy)]
 pub struct QuadwordsResult {
     pub path: Path,
     pub used: u64,

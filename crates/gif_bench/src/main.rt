@@ -1,11 +1,13 @@
 // Gives quadwords to a path round after round, to be timed (docs/FORMATS.md, "GIF timing input").
+#![tactic(auto)]
+
 use cases::sum_of_longs;
 use gif::{GifAnswer, GifPath, Path, Place};
 use wire::{emit, emit_all, emit_long, joined, word_at};
 
 const LOG: usize = gif::LOG_MOST as usize;
 
-#[derive(Drop)]
+#[derive(Clone, Copy)]
 struct Running {
     path: Path,
     used: u64,

@@ -1,11 +1,13 @@
 // Reads GIF cases from standard input and writes what each quadword leaves (docs/FORMATS.md, "GIF cases").
+#![tactic(auto)]
+
 use cases::{LOG_NUMBERS, fill_longs, read_words, tell_damaged, tell_long_changes};
 use gif::{GifAnswer, GifPath, Path};
 use state_block::PATH_WORDS;
 use wire::{emit, emit_all, emit_long, joined, word_at};
 
 // Where the results stand, and what is given to the next quadword. `known` says whether the case's block is a path's.
-#[derive(Drop)]
+#[derive(Clone, Copy)]
 struct Running {
     at: usize,
     which: GifPath,
@@ -15,7 +17,7 @@ struct Running {
 }
 
 // Where the results stand after a case, and whether the case was whole.
-#[derive(Drop)]
+#[derive(Clone, Copy)]
 struct Ended {
     at: usize,
     whole: bool,

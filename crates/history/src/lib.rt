@@ -1,1 +1,3 @@
 // Request 14's fact about histories of runs: definitions and theorems, no code.
+#![tactic(auto)]
+

@@ -1,4 +1,6 @@
 // The memories that a host lends: their sizes by unit, and the lengths that are refused.
+#![tactic(auto)]
+
 mod lengths;
 mod units;
 
@@ -6,7 +8,7 @@ pub use lengths::lengths_refusal;
 pub use units::{instructions, quadwords};
 
 // The VIF units.
-#[derive(Drop)]
+#[derive(Clone, Copy)]
 pub enum VifUnit {
     Vif0,
     Vif1,

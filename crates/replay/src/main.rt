@@ -1,4 +1,6 @@
 // Reads captures from standard input and writes what each call leaves (docs/FORMATS.md, "Captures").
+#![tactic(auto)]
+
 mod input;
 mod run;
 mod start;
@@ -15,7 +17,7 @@ use state_block::STATE_WORDS;
 use wire::{joined, word_at};
 
 // A case but for its memories and calls: how many calls, whether results show whole memories, and its state block.
-#[derive(Drop)]
+#[derive(Clone, Copy)]
 struct Case {
     count: u32,
     whole: bool,
@@ -23,7 +25,7 @@ struct Case {
 }
 
 // Where the results stand, the state that is given to the next call, and the block that shows it.
-#[derive(Drop)]
+#[derive(Clone, Copy)]
 struct Running {
     at: usize,
     state: State,
@@ -31,7 +33,7 @@ struct Running {
 }
 
 // Where the results stand after a case, and whether the case was whole.
-#[derive(Drop)]
+#[derive(Clone, Copy)]
 struct Ended {
     at: usize,
     whole: bool,

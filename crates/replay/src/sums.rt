@@ -1,7 +1,7 @@
 // The sums of the memories.
 use wire::emit_long;
 
-#[derive(Drop)]
+#[derive(Clone, Copy)]
 struct Sum {
     a: u64,
     b: u64,

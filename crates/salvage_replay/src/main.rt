@@ -1,4 +1,6 @@
 // Reads salvage cases from standard input and writes what each leaves (docs/FORMATS.md, "Salvage cases").
+#![tactic(auto)]
+
 ghost use Rattle.std.specs.Prelude.{◌<◌};
 
 use cases::{emit_bytes, emit_longs, fill_bytes, fill_longs, read_part, tell_damaged};
@@ -7,14 +9,14 @@ use std::num::wrapping_add_u64;
 use wire::{emit, joined, low_word, word_at};
 
 // Where the results stand after a case, and whether the case was whole.
-#[derive(Drop)]
+#[derive(Clone, Copy)]
 struct Ended {
     at: usize,
     whole: bool,
 }
 
 // The three words at the start of a result.
-#[derive(Drop)]
+#[derive(Clone, Copy)]
 struct Head {
     number: u32,
     bytes: usize,

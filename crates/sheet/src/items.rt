@@ -9,7 +9,7 @@ use super::sums::{Totals, joined, none, record_totals, scaled};
 use fields::refusals;
 
 // What stands at a place: the sheet's end, an item with the place after it and its sums, or a refusal.
-#[derive(Drop)]
+#[derive(Clone, Copy)]
 pub(crate) enum ItemAnswer {
     End,
     Found { next: usize, totals: Totals },

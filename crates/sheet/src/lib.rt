@@ -1,5 +1,7 @@
 // Test sheets of both editions: their records and groups, and their steps. The definitions are of the chain built from them and of their plain meaning, too.
 // What each function means is said by the definitions of specs/.
+#![tactic(auto)]
+
 mod heads;
 mod items;
 mod reader;
@@ -17,7 +19,7 @@ pub const LONGEST: usize = 131072;
 // The bytes of a chain at most.
 pub(crate) const LONGEST_CHAIN: u64 = 1048576;
 
-#[derive(Drop)]
+#[derive(Clone, Copy)]
 pub enum Kind {
     Data,
     Code,
@@ -26,7 +28,7 @@ pub enum Kind {
 }
 
 // What stands at a place of a sheet: its end, a record with the place after it, or a refusal with the record's offset.
-#[derive(Drop)]
+#[derive(Clone, Copy)]
 pub enum Reading {
     End,
     Found {
@@ -42,7 +44,7 @@ pub enum Reading {
 }
 
 // What the header at a place says.
-#[derive(Drop)]
+#[derive(Clone, Copy)]
 pub enum Header {
     End,
     Single {
@@ -62,35 +64,35 @@ pub enum Header {
 }
 
 // The sums of a sheet, or its refusal.
-#[derive(Drop)]
+#[derive(Clone, Copy)]
 pub enum Measured {
     Whole(Totals),
     Refused { number: u32, offset: usize },
 }
 
 // The chain's length in bytes, or a refusal with the record's offset.
-#[derive(Drop)]
+#[derive(Clone, Copy)]
 pub enum BuildAnswer {
     Built(usize),
     Refused { number: u32, offset: usize },
 }
 
 // A sheet's steps, or its refusal.
-#[derive(Drop)]
+#[derive(Clone, Copy)]
 pub enum StepsAnswer {
     Steps(u64),
     Refused { number: u32, offset: usize },
 }
 
 // The entries used afterwards, or a refusal.
-#[derive(Drop)]
+#[derive(Clone, Copy)]
 pub enum MeaningAnswer {
     Meant(u64),
     Refused { number: u32, offset: usize },
 }
 
 // How many entries at the front of the meaning's list and of a log are the same, and how many the meaning has; or a refusal.
-#[derive(Drop)]
+#[derive(Clone, Copy)]
 pub enum MatchAnswer {
     Matched { leading: u64, entries: u64 },
     Refused { number: u32, offset: usize },

@@ -5,7 +5,7 @@ ghost use Rattle.sheet.specs.Sums.{capped, totals, capped_totals, end_totals, jo
 
 use super::{Kind, LONGEST_CHAIN};
 
-#[derive(Drop)]
+#[derive(Clone, Copy)]
 pub struct Totals {
     pub quadwords: u64,
     pub steps: u64,

@@ -1,4 +1,6 @@
 // Builds a chain round after round, to be timed (docs/FORMATS.md, "Sheet timing input").
+#![tactic(auto)]
+
 use cases::sum_of_bytes;
 use wire::{emit, emit_long, low_word, word_at};
 

@@ -14,7 +14,7 @@ use fields::refusals;
 use sheet::{BuildAnswer, Header, Kind, Measured, body_length, first_item, measure, read_header};
 
 // The places after what was read and written.
-#[derive(Drop)]
+#[derive(Clone, Copy)]
 struct Written {
     next: usize,
     to: usize,

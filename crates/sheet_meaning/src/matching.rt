@@ -14,14 +14,14 @@ use memories::VifUnit;
 use sheet::{Header, Kind, MatchAnswer, Measured, first_item, measure, read_header};
 
 // How many entries at the front are the same, and whether all so far were.
-#[derive(Drop)]
+#[derive(Clone, Copy)]
 struct Front {
     leading: u64,
     whole: bool,
 }
 
 // The place after what was read, and the front.
-#[derive(Drop)]
+#[derive(Clone, Copy)]
 struct Met {
     next: usize,
     front: Front,

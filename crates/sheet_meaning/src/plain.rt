@@ -18,7 +18,7 @@ use memories::VifUnit;
 use sheet::{Header, Kind, MeaningAnswer, Measured, first_item, measure, read_header};
 
 // The place after what was read, and the entries used.
-#[derive(Drop)]
+#[derive(Clone, Copy)]
 struct Taken {
     next: usize,
     used: u64,

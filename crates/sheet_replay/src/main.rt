@@ -1,4 +1,6 @@
 // Reads sheet cases from standard input and writes the four parts of each (docs/FORMATS.md, "Sheet cases").
+#![tactic(auto)]
+
 mod parts;
 mod play;
 
@@ -10,7 +12,7 @@ use play::tell_play;
 use wire::word_at;
 
 // Where the results stand after a case, and whether the case was whole.
-#[derive(Drop)]
+#[derive(Clone, Copy)]
 struct Ended {
     at: usize,
     whole: bool,

@@ -4,7 +4,7 @@ use sheet::{BuildAnswer, MeaningAnswer, StepsAnswer};
 use wire::{emit, emit_long, joined, low_word, word_at};
 
 // The two words at the start of a part: the answer, and the offset or length beside it.
-#[derive(Drop)]
+#[derive(Clone, Copy)]
 pub(crate) struct Head {
     pub(crate) number: u32,
     pub(crate) beside: usize,

@@ -1,4 +1,6 @@
 // Blocks of words: a GIF path, a VIF unit and a saved state, written and read (docs/FORMATS.md). What each function means is said by the definitions of specs/.
+#![tactic(auto)]
+
 mod path;
 mod state;
 mod unit;
@@ -35,35 +37,35 @@ pub const VIF0_AT: usize = PATH3_AT + PATH_WORDS;
 pub const STATE_WORDS: usize = VIF0_AT + UNIT_WORDS;
 
 // What a path block holds, and whether it is a path's; where it is none's, `path` is one out of range.
-#[derive(Drop)]
+#[derive(Clone, Copy)]
 pub struct ReadPath {
     pub known: bool,
     pub path: gif::Path,
 }
 
 // What a format's number says, and whether it is a format's.
-#[derive(Drop)]
+#[derive(Clone, Copy)]
 pub(crate) struct ReadFormat {
     pub(crate) known: bool,
     pub(crate) format: unpack_rules::Format,
 }
 
 // The code that a unit block says waits, and whether its words are one's.
-#[derive(Drop)]
+#[derive(Clone, Copy)]
 pub(crate) struct ReadWaiting {
     pub(crate) known: bool,
     pub(crate) waiting: vif_codes::Waiting,
 }
 
 // What a unit block holds, and whether it is a unit's; where it is none's, `unit` is one out of range.
-#[derive(Drop)]
+#[derive(Clone, Copy)]
 pub struct ReadUnit {
     pub known: bool,
     pub unit: vif_codes::Vif,
 }
 
 // What a state block holds, and whether it is a state's; where it is none's, `state` is one out of range.
-#[derive(Drop)]
+#[derive(Clone, Copy)]
 pub struct ReadState {
     pub known: bool,
     pub state: chain_state::State,

@@ -1,4 +1,6 @@
 // The functions that C calls (host/tejborun.h). What each one means is said by the definitions of specs/.
+#![tactic(auto)]
+
 mod blocks;
 mod boards;
 mod checks;

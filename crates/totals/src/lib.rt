@@ -1,4 +1,6 @@
 // Totals over many runs. What each function means is said by the definitions of specs/.
+#![tactic(auto)]
+
 mod adding;
 mod numbers;
 mod sharing;
@@ -8,7 +10,7 @@ pub use numbers::{counts_from, totals_from};
 pub use sharing::nop_share;
 
 // Sums over the runs whose counts were added.
-#[derive(Drop)]
+#[derive(Clone, Copy)]
 pub struct Totals {
     pub packets: u64,
     pub words: u64,
@@ -16,20 +18,20 @@ pub struct Totals {
     pub qwc: fields::Qwc,
 }
 
-#[derive(Drop)]
+#[derive(Clone, Copy)]
 pub enum AddAnswer {
     Added,
     Refused(u32),
 }
 
-#[derive(Drop)]
+#[derive(Clone, Copy)]
 pub struct AddResult {
     pub answer: AddAnswer,
     pub totals: Totals,
 }
 
 // NOPs over VIF words.
-#[derive(Drop)]
+#[derive(Clone, Copy)]
 pub struct Share {
     pub nops: u64,
     pub words: u64,

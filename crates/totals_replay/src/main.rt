@@ -1,11 +1,13 @@
 // Reads totals cases from standard input and writes what each addition leaves (docs/FORMATS.md, "Totals cases").
+#![tactic(auto)]
+
 use cases::tell_damaged;
 use fields::{Counts, Qwc};
 use totals::{AddAnswer, Totals, counts_from, totals_from};
 use wire::{emit, emit_long, joined, word_at};
 
 // Where the results stand after a case, and whether the case was whole.
-#[derive(Drop)]
+#[derive(Clone, Copy)]
 struct Ended {
     at: usize,
     whole: bool,

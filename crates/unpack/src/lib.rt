@@ -1,4 +1,6 @@
 // UNPACK: the vectors that a payload word completes are written to data memory. What each function means is said by the definitions of specs/.
+#![tactic(auto)]
+
 mod copy;
 mod cycle;
 mod payload;

@@ -1,4 +1,6 @@
 // UNPACK's rules: formats, cycle, mask and MODE, and their arithmetic. What each function means is said by the definitions of specs/, and so is all of UNPACK.
+#![tactic(auto)]
+
 mod cycle;
 mod five;
 mod formats;
@@ -20,7 +22,7 @@ pub const ADDRESSES: u32 = 1024;
 
 pub const ADDRESS_MOST: u32 = 1023;
 
-#[derive(Drop)]
+#[derive(Clone, Copy)]
 pub enum Format {
     S32,
     S16,
@@ -38,7 +40,7 @@ pub enum Format {
 }
 
 // The format that a number names.
-#[derive(Drop)]
+#[derive(Clone, Copy)]
 pub enum NamedFormat {
     Named(Format),
     Missing,
@@ -46,7 +48,7 @@ pub enum NamedFormat {
 
 // An UNPACK that waits for payload: its quadword address, its writes, the payload words still due, USN, M, its interrupt bit, and the last three
 // payload words taken, oldest first.
-#[derive(Drop)]
+#[derive(Clone, Copy)]
 pub struct Unpacking {
     pub address: u32,
     pub count: u32,
@@ -60,7 +62,7 @@ pub struct Unpacking {
 }
 
 // The registers that a write reads and leaves alone.
-#[derive(Drop)]
+#[derive(Clone, Copy)]
 pub struct Registers {
     pub cl: u32,
     pub wl: u32,
@@ -70,14 +72,14 @@ pub struct Registers {
 }
 
 // The new ROW; where the input was not acceptable, the old one.
-#[derive(Drop)]
+#[derive(Clone, Copy)]
 pub struct Rows {
     pub accepted: bool,
     pub row: [u32; 4],
 }
 
 // The new ROW and the UNPACK that waits on; where the input was not acceptable, the old ones.
-#[derive(Drop)]
+#[derive(Clone, Copy)]
 pub struct WordsTaken {
     pub accepted: bool,
     pub row: [u32; 4],

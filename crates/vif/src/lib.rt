@@ -1,4 +1,6 @@
 // A VIF unit: its codes' steps, their payload, and DIRECT into the GIF's path 2. What each function means is said by the definitions of specs/.
+#![tactic(auto)]
+
 mod bursts;
 mod codes;
 mod direct;
@@ -11,7 +13,7 @@ mod step;
 pub use feed::take_words;
 pub use step::take;
 
-#[derive(Drop)]
+#[derive(Clone, Copy)]
 pub struct VifResult {
     pub answer: vif_codes::VifAnswer,
     pub unit: vif_codes::Vif,
@@ -20,7 +22,7 @@ pub struct VifResult {
 }
 
 // What words given one after another leave, how many words were taken, what the steps count for, and whether the last of them completed an interrupt.
-#[derive(Drop)]
+#[derive(Clone, Copy)]
 pub struct WordsResult {
     pub unit: vif_codes::Vif,
     pub path2: gif::Path,

@@ -1,5 +1,7 @@
 // A VIF unit's registers and codes: what a word names, the ranges, and what codes do to the registers. What each function means is said by the definitions of
 // specs/.
+#![tactic(auto)]
+
 mod counting;
 mod decoding;
 mod execute;
@@ -27,7 +29,7 @@ pub(crate) const MPG_ADDRESSES: u32 = 2048;
 pub(crate) const MPG_ADDRESS_MOST: u32 = 2047;
 
 // The numbers of an UNPACK code.
-#[derive(Drop)]
+#[derive(Clone, Copy)]
 pub struct UnpackCode {
     pub address: u32,
     pub num: u32,
@@ -37,7 +39,7 @@ pub struct UnpackCode {
 }
 
 // The codes that a word can be, each with its numbers.
-#[derive(Drop)]
+#[derive(Clone, Copy)]
 pub enum Code {
     Nop,
     Stcycl { cl: u32, wl: u32 },
@@ -62,14 +64,14 @@ pub enum Code {
     Unpack(unpack_rules::Format, UnpackCode),
 }
 
-#[derive(Drop)]
+#[derive(Clone, Copy)]
 pub enum Decoded {
     Known(Code),
     Unknown(u32),
 }
 
 // The code that waits for payload, with its numbers, what is still due (words; quadwords for DIRECT) and its interrupt bit.
-#[derive(Drop)]
+#[derive(Clone, Copy)]
 pub enum Waiting {
     Nothing,
     MaskDue(bool),
@@ -98,7 +100,7 @@ pub enum Waiting {
     UnpackDue(unpack_rules::Format, unpack_rules::Unpacking),
 }
 
-#[derive(Drop)]
+#[derive(Clone, Copy)]
 pub struct Vif {
     pub cl: u32,
     pub wl: u32,
@@ -119,7 +121,7 @@ pub struct Vif {
 }
 
 // The next word, by its number in its quadword; at word 0 the whole quadword lies ready.
-#[derive(Drop)]
+#[derive(Clone, Copy)]
 pub enum Incoming {
     Word0(u32, u32, u32, u32),
     Word1(u32),
@@ -128,7 +130,7 @@ pub enum Incoming {
 }
 
 // What was taken, and whether that completed a code with its interrupt bit, and a quadword closed a packet; or the refusal.
-#[derive(Drop)]
+#[derive(Clone, Copy)]
 pub enum VifAnswer {
     Word(bool),
     Quadword { interrupt: bool, closed: bool },
@@ -136,7 +138,7 @@ pub enum VifAnswer {
 }
 
 // What a code's own step leaves, but for the log.
-#[derive(Drop)]
+#[derive(Clone, Copy)]
 pub struct CodeResult {
     pub answer: VifAnswer,
     pub unit: Vif,

@@ -1,4 +1,6 @@
 // What a refusal of a VIF unit shows: request 6's contents of the field at fault. What each function means is said by the definitions of specs/.
+#![tactic(auto)]
+
 ghost use Rattle.std.specs.Prelude.{◌≡◌};
 ghost use Rattle.gif_reason.specs.Reason.{numbers};
 ghost use Rattle.vif_reason.specs.Reason.{word_number, code_numbers, direct_numbers, word_numbers};

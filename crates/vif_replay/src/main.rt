@@ -1,4 +1,6 @@
 // Reads VIF cases from standard input and writes what each group of calls leaves (docs/FORMATS.md, "VIF cases").
+#![tactic(auto)]
+
 mod input;
 mod run;
 mod start;
@@ -15,7 +17,7 @@ use wire::{joined, word_at};
 
 // A case but for its memories and words: its unit, the number of its first word, how many groups and words, and its blocks. `known` says whether the blocks
 // are a unit's and a path's.
-#[derive(Drop)]
+#[derive(Clone, Copy)]
 struct Case {
     which: VifUnit,
     number: u32,
@@ -27,7 +29,7 @@ struct Case {
 }
 
 // Where the results stand, and what is given to the next call.
-#[derive(Drop)]
+#[derive(Clone, Copy)]
 struct Running {
     at: usize,
     next: u32,
@@ -37,7 +39,7 @@ struct Running {
 }
 
 // Where the results stand after a case, and whether the case was whole.
-#[derive(Drop)]
+#[derive(Clone, Copy)]
 struct Ended {
     at: usize,
     whole: bool,

@@ -1,4 +1,6 @@
 // Little-endian words in byte buffers, and a buffered writer of words to standard output, for the programs.
+#![tactic(auto)]
+
 ghost use Rattle.std.specs.Prelude.{◌≡◌, ◌+◌, ◌*◌, ◌/◌, ◌%◌, ◌<◌, ◌≤◌, ◌^◌, length, [], ◌∷◌};
 ghost use Rattle.wire.specs.Words.{whole_at, stored_at, word_at, with_word, sent, sent_all};
 

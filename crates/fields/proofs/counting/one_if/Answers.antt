@@ -1,0 +1,10 @@
+use Rattle.fields.specs.Counts.{one_if}
+use Rattle.fields.proofs.counting.one_if.Goals as goal
+
+pub returns-then-b : goal.returns-then-b
+unfolding one_if
+returns-then-b c = rw c.if-b.true
+
+pub returns-else-b : goal.returns-else-b
+unfolding one_if
+returns-else-b c = rw c.if-b.false
