@@ -92,6 +92,48 @@ class Fn:
             q = self.parent(q); first = False
         return None
 
+    def step_place(self, p, seg):
+        q = p
+        first = True
+        while q is not None and q in self.places:
+            old, new = self.places[q][2]
+            if old and (same(old, seg) or (first and same(new, seg))):
+                return q
+            q = self.parent(q); first = False
+        return None
+
+    def arm(self, p, seg, rest):
+        """the path of an arm's field: c.match.keys1 is c.in-0.is"""
+        names = [x[0] for x in self.d['places']]
+        best = None
+        q = p
+        while q is not None and q in self.places:
+            a = self.d['arms'][names.index(q)]
+            if a:
+                for newf, oldstep, oldpath in a[2]:
+                    if same(oldstep, seg) and rest[:len(oldpath)] == oldpath:
+                        if best is None or len(oldpath) > best[0]:
+                            best = (len(oldpath), [a[0], newf] + rest[len(oldpath):])
+                if best and best[0] > 0: return best[1]
+            q = self.parent(q)
+        return best[1] if best else None
+
+    def clause(self, p, seg, rest):
+        """names of clauses: .ensures.1.0 is .ensures.second"""
+        q = self.step_place(p, seg)
+        names = [x[0] for x in self.d['places']]
+        cl = self.d['clauses'][names.index(q)]
+        if not cl or not cl.get('fields') or rest[:1] != ['ensures']: return rest
+        fields = cl['fields']
+        tail = rest[1:]
+        k = 0
+        while k < len(fields) - 1 and tail[:1] == ['1']:
+            k += 1; tail = tail[1:]
+        if k < len(fields) - 1:
+            if tail[:1] != ['0']: return rest
+            tail = tail[1:]
+        return ['ensures', fields[k]] + tail
+
 KEEP = {'args', 'requires', 'ranges', 'lifetimes', 'type_inv', 'utf8', 'blocks', 'well_formed'}
 
 def transform(fn, body, var, place, warn, nokeep=False):
@@ -150,10 +192,14 @@ def transform(fn, body, var, place, warn, nokeep=False):
                 out.append('c.' + '.'.join(rest))
             else:
                 new = fn.step(p, s)
-                if new is None:
+                arm = fn.arm(p, s, rest[1:])
+                if arm is not None:
+                    out.append('c.' + '.'.join(arm))
+                elif new is None:
                     warn.append(f'no step {s} at {p}')
-                    new = s
-                out.append('c.' + '.'.join([new] + rest[1:]))
+                    out.append('c.' + '.'.join(rest))
+                else:
+                    out.append('c.' + '.'.join([new] + fn.clause(p, s, rest[1:])))
             i = e; continue
         out.append(t); i += 1
     return ''.join(out)

@@ -1,0 +1,26 @@
+use mathlib.Core.Path.{◌≡◌, refl, ◌∙◌}
+use Prim.Native.Nat.{◌+◌, ◌*◌, ◌-◌, ◌≤◌}
+use native.Mathlib.Omega.{arith}
+use lib.ListN.{length}
+use Rattle.gif.specs.Log.{LogFits}
+use Rattle.gif.specs.Range.{PlaceFits}
+use Rattle.gif.specs.Feed.{feeds_of}
+use Rattle.gif.specs.Inner.{plus, QuadwordsInside}
+use Rattle.fields.proofs.CountLaws.{one_most}
+use Rattle.gif.proofs.FeedLaws.{leads_still, leads_one, feeds_begin, ends_all, goes_on, ends_refused, next_log_fits}
+use borrow.Author.Rules.{rules}
+use Rattle.gif.proofs.feed.feed.Given as goal
+
+abbrev pub invariant-loop-taken : goal.invariant-loop-taken
+invariant-loop-taken l =
+    record {
+      inner : QuadwordsInside l.main l.a l.count;
+      log_fits : LogFits l.log l.entries;
+      place_fits : PlaceFits l.p.place;
+      length : length l.log ≡ length l.initial.log;
+      few : l.packets ≤ l.taken;
+      same : plus l.taken l.packets (feeds_of l.which l.main (l.a + 16 * l.taken) (l.count - l.taken) l.p l.entries l.log) ≡ feeds_of l.which l.main l.a l.count l.initial.p l.used l.initial.log;
+    }
+
+abbrev pub decreases-loop-taken : goal.decreases-loop-taken
+decreases-loop-taken l = l.count - l.taken

@@ -1,0 +1,24 @@
+use mathlib.Core.Path.{sym, ◌∙◌}
+use borrow.Author.Rules.{rules}
+use Rattle.fields.specs.Fields.{if}
+use Rattle.gif.specs.Feed.{feed_refusal}
+use Rattle.gif.proofs.feed.feed_refusal.Goals as goal
+
+pub returns-then-log_refused : goal.returns-then-log_refused
+unfolding feed_refusal if
+returns-then-log_refused c = rw (sym c.log_refused.ensures ∙ c.if-log_refused.true)
+
+pub returns-then-lies_inside : goal.returns-then-lies_inside
+unfolding feed_refusal if
+returns-then-lies_inside c =
+    rw (sym c.log_refused.ensures ∙ c.if-log_refused.false, sym c.path_in_range.ensures ∙ c.if-path_in_range.true, sym c.lies_inside.ensures ∙ c.if-lies_inside.true)
+
+pub returns-then-path_in_range : goal.returns-then-path_in_range
+unfolding feed_refusal if
+returns-then-path_in_range c =
+    rw (sym c.log_refused.ensures ∙ c.if-log_refused.false, sym c.path_in_range.ensures ∙ c.if-path_in_range.true, sym c.lies_inside.ensures ∙ c.if-lies_inside.false)
+
+pub returns : goal.returns
+unfolding feed_refusal if
+returns c =
+    rw (sym c.log_refused.ensures ∙ c.if-log_refused.false, sym c.path_in_range.ensures ∙ c.if-path_in_range.false)

@@ -1,0 +1,10 @@
+use Rattle.fields.proofs.FieldLaws.{bits_first, bits_low}
+use Rattle.gif.specs.Packed.{uv}
+use native.Mathlib.Omega.{arith}
+use borrow.Author.Rules.{rules}
+use Rattle.gif.proofs.packed.uv_value.Goals as goal
+
+pub returns : goal.returns
+unfolding uv
+returns c = let l = c.args.low in let h = c.args.high in
+    simp (bits_first l h 13 (omega arith), bits_low l h 32 45 (omega arith) (omega arith))
