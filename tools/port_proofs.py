@@ -122,6 +122,15 @@ class Fn:
         """names of clauses: .ensures.1.0 is .ensures.second"""
         q = self.step_place(p, seg)
         names = [x[0] for x in self.d['places']]
+        if rest[:1] == ['auto'] and q:
+            callee = self.places[q][3]
+            ps = self.d['params'].get(callee) if callee else None
+            k, tail = 0, rest[1:]
+            while tail[:1] == ['1']:
+                k += 1; tail = tail[1:]
+            if ps and tail[:1] == ['0'] and k < len(ps):
+                return ['auto', ps[k]] + tail[1:]
+            return rest
         cl = self.d['clauses'][names.index(q)]
         if not cl or not cl.get('fields') or rest[:1] != ['ensures']: return rest
         fields = cl['fields']

@@ -52,7 +52,7 @@ loop-taken-preserved-then-b-gt0 c =
     let b = s.ensures in
     let i = c.loop-taken.invariant in
     let short = i.log_fits.short in
-    let n = s.auto.1.1.1.1.1.0 in
+    let n = s.auto.log in
     let h = b.holds in
     let few = b.few in
     let closed = b.closed in
@@ -100,7 +100,7 @@ loop-taken-preserved c =
     let i = c.loop-taken.invariant in
     let z = c.if-b-gt0.false in
     let still = leads_still c.quadwords_at_once-b.ensures.leads (omega arith) in
-    let n = s.auto.1.1.1.1.0 in
+    let n = s.auto.log in
     let f = i.few in
     let m = one_most _ c.one_if-packets.ensures in
     let h = leads_one s.ensures c.in-Taken.is in
@@ -108,14 +108,14 @@ loop-taken-preserved c =
       inner = i.inner;
       log_fits = next_log_fits _ _ _ _ _ s.ensures (rw still i.log_fits) n;
       place_fits = h.stays i.place_fits;
-      length = n ∙ c.quadwords_at_once-b.auto.1.1.1.1.1.0 ∙ i.length;
+      length = n ∙ c.quadwords_at_once-b.auto.log ∙ i.length;
       few = omega arith;
       same = rw c.one_if-packets.ensures (goes_on _ _ _ _ _ _ _ _ _ i.same 1 _ (omega arith) (rw still at h));
     }
 
 pub shape_of-log-in-Refused : goal.shape_of-log-in-Refused
 shape_of-log-in-Refused c =
-    c.step_at-r.auto.1.1.1.1.0 ∙ c.quadwords_at_once-b.auto.1.1.1.1.1.0 ∙ c.loop-taken.invariant.length
+    c.step_at-r.auto.log ∙ c.quadwords_at_once-b.auto.log ∙ c.loop-taken.invariant.length
 
 pub returns-in-Refused : goal.returns-in-Refused
 returns-in-Refused c =
