@@ -1,0 +1,6 @@
+use Rattle.chain_state.specs.Start.{reset_state}
+use borrow.Author.Rules.{rules}
+use Rattle.state_block.proofs.unit.no_unit.Goals as goal
+
+pub returns : goal.returns
+returns c = rw c.reset-reset.ensures

@@ -1,0 +1,32 @@
+use borrow.Author.Tests.{ne_eqb}
+use Rattle.vif_codes.specs.Codes.{missing_code}
+use Rattle.vif_codes.proofs.decoding.missing_code.Goals as goal
+
+pub returns-in-2 : goal.returns-in-2
+returns-in-2 c = rw c.in-2.is
+
+pub returns-in-3 : goal.returns-in-3
+returns-in-3 c = rw c.in-3.is
+
+pub returns-in-6 : goal.returns-in-6
+returns-in-6 c = rw c.in-6.is
+
+pub returns-in-17 : goal.returns-in-17
+returns-in-17 c = rw c.in-17.is
+
+pub returns-in-19 : goal.returns-in-19
+returns-in-19 c = rw c.in-19.is
+
+pub returns-in-21 : goal.returns-in-21
+returns-in-21 c = rw c.in-21.is
+
+pub returns-in-80 : goal.returns-in-80
+returns-in-80 c = rw c.in-80.is
+
+pub returns-in-81 : goal.returns-in-81
+returns-in-81 c = rw c.in-81.is
+
+pub returns-in_default : goal.returns-in_default
+returns-in_default c = (λ c.
+    let n = c.match.rest in
+    simp (ne_eqb _ _ n.0.0.0.0.0.0.0.1, ne_eqb _ _ n.0.0.0.0.0.0.1, ne_eqb _ _ n.0.0.0.0.0.1, ne_eqb _ _ n.0.0.0.0.1, ne_eqb _ _ n.0.0.0.1, ne_eqb _ _ n.0.0.1, ne_eqb _ _ n.0.1, ne_eqb _ _ n.1)) c
