@@ -201,6 +201,9 @@ def transform(fn, body, var, place, warn, nokeep=False):
                 out.append('c.' + '.'.join(rest))
             else:
                 new = fn.step(p, s)
+                if new is None and fn.step(place, s) is not None:
+                    p = place
+                    new = fn.step(p, s)
                 arm = fn.arm(p, s, rest[1:])
                 if arm is not None:
                     out.append('c.' + '.'.join(arm))
@@ -300,7 +303,7 @@ def convert(path, key, d, crate):
                 warn.append(f'{a}: by name {idx}, by place {k}'); idx = k
             answers.append((idx, a)); named.add(a)
         else:
-            mm = re.match(r'\(λ (.*?)\. (.*)\)$', a, re.S)
+            mm = re.match(r'\(λ ([^.]*)\.\s+(.*)\)$', a, re.S)
             if mm and re.sub(r'\s+', ' ', mm[2]) == 'search rules': continue
             if len(rest) != len(needs):
                 warn.append(f'inline answer at {k} of {len(rest)}: {a}'); continue
@@ -366,7 +369,7 @@ def convert(path, key, d, crate):
             if 'tie.' in t or re.search(r'\bLts\b', t): warn.append(f'helper {n} names the walk')
             out_ans.append(t)
     for k, a in inline:
-        mm = re.match(r'\(λ (.*?)\. (.*)\)$', a, re.S)
+        mm = re.match(r'\(λ ([^.]*)\.\s+(.*)\)$', a, re.S)
         new = needs[k][1]
         if not mm:
             # a lemma given as the answer

@@ -17,4 +17,4 @@ returns-in-Refused-build_at c =
 
 pub returns-in-Built : goal.returns-in-Built
 returns-in-Built c =
-    play_run _ _ _ _ _ _ c.length-refusal.ensures c.if1.false c.start.ensures c.enum_told.given.1 c.build-at.ensures c.size.given.1 c.run-r.ensures
+    play_run _ _ _ _ _ _ c.length_refusal-number.ensures c.if-number-ne0.false c.start-started.ensures c.in-Started.is c.build_at.ensures c.in-Built.is c.run-r.ensures

@@ -11,25 +11,25 @@ returns-then-unit-gt1 c = unit_refused _ _ _ _ c.if-number-gt7.false c.if-unit-g
 
 pub returns-then-not-read : goal.returns-then-not-read
 returns-then-not-read c =
-    none_refused _ _ _ _ c.if1.false c.if2.false c.state_in_block-read.ensures c.if-not-read.true
+    none_refused _ _ _ _ c.if-number-gt7.false c.if-unit-gt1.false c.state_in_block-read.ensures c.if-not-read.true
 
 pub returns-then-is_waiting : goal.returns-then-is_waiting
 returns-then-is_waiting c =
-    waiting_refused _ _ _ _ c.if1.false c.if2.false c.state_in_block-read.ensures c.if-not-read.false c.unit_held-held.ensures
+    waiting_refused _ _ _ _ c.if-number-gt7.false c.if-unit-gt1.false c.state_in_block-read.ensures c.if-not-read.false c.unit_held-held.ensures
     c.is_waiting.ensures c.if-is_waiting.true
 
 pub offset_bounds-block-number_at : goal.offset_bounds-block-number_at
 offset_bounds-block-number_at c =
-    let z = number_inside _ _ c.if1.false c.number_at.ensures in
+    let z = number_inside _ _ c.if-number-gt7.false c.number_at.ensures in
     omega arith
 
 pub bounds-block-number_at : goal.bounds-block-number_at
 bounds-block-number_at c =
-    let z = number_inside _ _ c.if1.false c.number_at.ensures in
+    let z = number_inside _ _ c.if-number-gt7.false c.number_at.ensures in
     let l = known_length _ c.state_in_block-read.ensures c.if-not-read.false in
     omega arith
 
 pub returns : goal.returns
 returns c =
-    number_set_lem _ _ _ _ c.if1.false c.if2.false c.state_in_block-read.ensures c.if-not-read.false c.unit_held-held.ensures
+    number_set_lem _ _ _ _ c.if-number-gt7.false c.if-unit-gt1.false c.state_in_block-read.ensures c.if-not-read.false c.unit_held-held.ensures
     c.is_waiting.ensures c.if-is_waiting.false c.number_at.ensures

@@ -10,4 +10,4 @@ copy_bytes-requires c =
 pub run_beside-requires : goal.run_beside-requires
 run_beside-requires c =
     let f = lent_fits _ _ c.requires.entered in
-    record { runs = c.requires; same_words = words_copied _ _ c.put-words.ensures f.long; same_bytes = c.copy_bytes.ensures }
+    record { runs = c.requires; same_words = words_copied _ _ c.put_words.ensures f.long; same_bytes = c.copy_bytes.ensures }

@@ -13,4 +13,4 @@ returns-in-Refused c =
 
 pub returns-in-Matched : goal.returns-in-Matched
 returns-in-Matched c =
-    done_judged c.requires c.match-meaning.ensures c.leading.given.1 c.compare_memories.ensures
+    done_judged c.requires c.match_meaning.ensures c.in-Matched.is c.compare_memories.ensures

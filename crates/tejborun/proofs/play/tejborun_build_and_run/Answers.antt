@@ -10,5 +10,5 @@ returns-then-res-lt13 c = play_short _ _ _ _ _ _ _ c.if-block-ne-STATE_WORDS.fal
 
 pub returns : goal.returns
 returns c =
-    play_done _ _ _ _ _ _ _ c.if1.false c.if2.false c.state_in_block-read.ensures c.build_and_run-r.ensures c.begun.ensures c.put_back.ensures
+    play_done _ _ _ _ _ _ _ c.if-block-ne-STATE_WORDS.false c.if-res-lt13.false c.state_in_block-read.ensures c.build_and_run-r.ensures c.begun.ensures c.put_back.ensures
     c.play_offset.ensures c.put_after.ensures c.play_number.ensures

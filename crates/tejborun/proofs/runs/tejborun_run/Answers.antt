@@ -10,4 +10,4 @@ returns-then-res-lt12 c = run_short _ _ _ _ _ c.if-block-ne-STATE_WORDS.false c.
 
 pub returns : goal.returns
 returns c =
-    run_done _ _ _ _ _ c.if1.false c.if2.false c.state_in_block-read.ensures c.run-r.ensures (rw c.moved.ensures at c.put_back.ensures) c.put_counts.ensures c.run_number.ensures
+    run_done _ _ _ _ _ c.if-block-ne-STATE_WORDS.false c.if-res-lt12.false c.state_in_block-read.ensures c.run-r.ensures (rw c.moved.ensures at c.put_back.ensures) c.put_counts.ensures c.run_number.ensures

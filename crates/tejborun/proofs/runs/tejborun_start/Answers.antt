@@ -10,4 +10,4 @@ returns-then-tte-gt1 c = start_high _ _ _ _ c.if-block-ne-STATE_WORDS.false c.if
 
 pub returns : goal.returns
 returns c =
-    start_done _ _ _ _ c.if1.false c.if2.false c.state_in_block-read.ensures c.start-r.ensures c.started.ensures c.put_back.ensures c.start_number.ensures
+    start_done _ _ _ _ c.if-block-ne-STATE_WORDS.false c.if-tte-gt1.false c.state_in_block-read.ensures c.start-r.ensures c.started.ensures c.put_back.ensures c.start_number.ensures

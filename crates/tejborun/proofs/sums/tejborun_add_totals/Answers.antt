@@ -10,4 +10,4 @@ returns-then-counts-lt-COUNTS c = add_short _ _ (too_few _ _ _ c.if-sums-ne-TOTA
 
 pub returns : goal.returns
 returns c =
-    add_done _ _ c.if1.false (enough _ _ _ c.if1.false c.if2.false) c.totals_from.ensures c.counts_from.ensures c.add_totals-r.ensures c.put_totals.ensures c.add_number.ensures
+    add_done _ _ c.if-sums-ne-TOTALS.false (enough _ _ _ c.if-sums-ne-TOTALS.false c.if-counts-lt-COUNTS.false) c.totals_from.ensures c.counts_from.ensures c.add_totals-r.ensures c.put_totals.ensures c.add_number.ensures

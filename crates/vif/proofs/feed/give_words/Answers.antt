@@ -123,49 +123,19 @@ pub shape_of-log-then-s-count : goal.shape_of-log-then-s-count
 shape_of-log-then-s-count c = c.loop-s.invariant.lengths.2
 
 pub shape_of-data-then-s : goal.shape_of-data-then-s
-shape_of-data-then-s c = (λ c.
-    let gave = c.before.before.before.before.before.before.before in
-    let burst = gave.before.before.before.before.before.before in
-    let codes = burst.before.before.before.before.before.before.before.before.before.before in
-    let turn = codes.before.before.before.before.before.before.before.before in
-    gave.give-word.auto.1.1.1.1.0 ∙ codes.take-codes.auto.1.1.1.1.1.1.0 ∙ turn.loop.invariant.lengths.0) c
+shape_of-data-then-s c = c.give_word-s.auto.data ∙ c.take_codes-s.auto.data ∙ c.loop-s.invariant.lengths.0
 
 pub shape_of-code-then-s : goal.shape_of-code-then-s
-shape_of-code-then-s c = (λ c.
-    let gave = c.before.before.before.before.before.before.before in
-    let burst = gave.before.before.before.before.before.before in
-    let codes = burst.before.before.before.before.before.before.before.before.before.before in
-    let turn = codes.before.before.before.before.before.before.before.before in
-    gave.give-word.auto.1.1.1.1.1.0 ∙ codes.take-codes.auto.1.1.1.1.1.1.1.0 ∙ turn.loop.invariant.lengths.1) c
+shape_of-code-then-s c = c.give_word-s.auto.code ∙ c.take_codes-s.auto.code ∙ c.loop-s.invariant.lengths.1
 
 pub shape_of-log-then-s : goal.shape_of-log-then-s
-shape_of-log-then-s c = (λ c.
-    let gave = c.before.before.before.before.before.before.before in
-    let burst = gave.before.before.before.before.before.before in
-    let codes = burst.before.before.before.before.before.before.before.before.before.before in
-    let turn = codes.before.before.before.before.before.before.before.before in
-    gave.give-word.auto.1.1.1.1.1.1.0 ∙ burst.burst.auto.1.1.1.1.1.1.0 ∙ codes.take-codes.auto.1.1.1.1.1.1.1.1.0 ∙ turn.loop.invariant.lengths.2) c
+shape_of-log-then-s c = c.give_word-s.auto.log ∙ c.burst-s.auto.log ∙ c.take_codes-s.auto.log ∙ c.loop-s.invariant.lengths.2
 
 pub shape_of-data-then-s-before : goal.shape_of-data-then-s-before
-shape_of-data-then-s-before c = (λ c.
-    let gave = c.before.before.before.before.before.before.before.before.before in
-    let burst = gave.before.before.before.before.before.before in
-    let codes = burst.before.before.before.before.before.before.before.before.before.before in
-    let turn = codes.before.before.before.before.before.before.before.before in
-    gave.give-word.auto.1.1.1.1.0 ∙ codes.take-codes.auto.1.1.1.1.1.1.0 ∙ turn.loop.invariant.lengths.0) c
+shape_of-data-then-s-before c = c.give_word-s.auto.data ∙ c.take_codes-s.auto.data ∙ c.loop-s.invariant.lengths.0
 
 pub shape_of-code-then-s-before : goal.shape_of-code-then-s-before
-shape_of-code-then-s-before c = (λ c.
-    let gave = c.before.before.before.before.before.before.before.before.before in
-    let burst = gave.before.before.before.before.before.before in
-    let codes = burst.before.before.before.before.before.before.before.before.before.before in
-    let turn = codes.before.before.before.before.before.before.before.before in
-    gave.give-word.auto.1.1.1.1.1.0 ∙ codes.take-codes.auto.1.1.1.1.1.1.1.0 ∙ turn.loop.invariant.lengths.1) c
+shape_of-code-then-s-before c = c.give_word-s.auto.code ∙ c.take_codes-s.auto.code ∙ c.loop-s.invariant.lengths.1
 
 pub shape_of-log-then-s-before : goal.shape_of-log-then-s-before
-shape_of-log-then-s-before c = (λ c.
-    let gave = c.before.before.before.before.before.before.before.before.before in
-    let burst = gave.before.before.before.before.before.before in
-    let codes = burst.before.before.before.before.before.before.before.before.before.before in
-    let turn = codes.before.before.before.before.before.before.before.before in
-    gave.give-word.auto.1.1.1.1.1.1.0 ∙ burst.burst.auto.1.1.1.1.1.1.0 ∙ codes.take-codes.auto.1.1.1.1.1.1.1.1.0 ∙ turn.loop.invariant.lengths.2) c
+shape_of-log-then-s-before c = c.give_word-s.auto.log ∙ c.burst-s.auto.log ∙ c.take_codes-s.auto.log ∙ c.loop-s.invariant.lengths.2
