@@ -2,7 +2,7 @@ use Rattle.std.proofs.Common.{◌≡◌, ◌-◌, length, ◌∙◌, rules}
 use Rattle.replay.proofs.run.run_calls.Goals as goal
 
 pub overflow_add-k : goal.overflow_add-k
-overflow_add-k c = let t = c.loop-k-test.true in let g = c.well-formed in search rules
+overflow_add-k c = let t = c.loop-k-test.true in let g = c.well_formed in search rules
 
 pub loop-k-smaller : goal.loop-k-smaller
 loop-k-smaller c = let t = c.loop-k-test.true in search rules

@@ -4,4 +4,5 @@ use borrow.Author.Rules.{rules}
 use Rattle.state_block.proofs.state.no_state.Goals as goal
 
 pub returns : goal.returns
+unfolding no_state reset_state
 returns c = rw c.reset-reset.ensures

@@ -1,7 +1,0 @@
-use Rattle.vif_codes.specs.Payload.{mpg_stored}
-use borrow.Author.Rules.{rules}
-use Rattle.vif.proofs.mpg.store_mpg.Goals as goal
-
-pub returns : goal.returns
-unfolding mpg_stored
-returns c = rw (← c.word_place-at.ensures.0) c.Store-word.ensures

@@ -1,0 +1,19 @@
+use mathlib.Core.Path.{◌∙◌}
+use borrow.Author.Rules.{rules}
+use Rattle.vif.proofs.payload.row_word.Statement.{statement}
+use Rattle.vif.proofs.payload.row_word.Tie as tie
+
+returns : tie.Need-returns
+returns c = c.with-waiting.ensures ∙ rw (c.before.before.with-row-at.ensures, c.before.or_nothing.ensures)
+
+pub row_word_spec : {M : Type 1} → statement M
+row_word_spec =
+    tie.close
+    (tie.spec
+    (λ c. search rules)
+    (λ c. search rules)
+    (λ c. search rules)
+    (λ c κs. search rules)
+    (λ c κs. search rules)
+    (λ c κs. search rules)
+    returns)
