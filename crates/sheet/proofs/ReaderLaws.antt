@@ -16,11 +16,11 @@ use Rattle.sheet.specs.Records.{record_of, kind_number, count_fits, address_fits
 use Rattle.sheet.specs.Reader.{Contents, valid, refused, before, marked, kind_listed, kind_of, kind_at, count_at, address_at, next_at, row_refusal, record_refusal, reading_at, on_reading, records_from, contents_from}
 
 -- a test that was passed, and one that was not
-pub passed : {r b : Bool} → r ≡ b → not r ≡ false → b ≡ true
-passed e h = sym e ∙ not-false _ h
+pub passed : {r b : Bool} → r ≡ b → r ≡ true → b ≡ true
+passed e h = sym e ∙ h
 
-pub failed : {r b : Bool} → r ≡ b → not r ≡ true → b ≡ false
-failed e h = sym e ∙ not-true _ h
+pub failed : {r b : Bool} → r ≡ b → r ≡ false → b ≡ false
+failed e h = sym e ∙ h
 
 -- whether n elements from a place on are there
 pub cut : (l at n : ℕ) {m : ℕ} → m ≡ n → l - at < m → ltb l (at + n) ≡ true
