@@ -1,6 +1,5 @@
 use Rattle.fields.specs.Fields.{if}
 use Rattle.sheet.specs.Acts.{first_item}
-use borrow.Author.Rules.{rules}
 use Rattle.sheet.proofs.heads.first_item.Goals as goal
 
 pub returns-then-starts_second : goal.returns-then-starts_second

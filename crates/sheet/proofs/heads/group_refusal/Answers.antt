@@ -1,7 +1,6 @@
 use borrow.Author.Tests.{eq-eqb, ne_eqb}
 use Rattle.fields.specs.Fields.{if}
 use Rattle.sheet.specs.Groups.{group_refusal}
-use borrow.Author.Rules.{rules}
 use Rattle.sheet.proofs.heads.group_refusal.Goals as goal
 
 pub returns-then-count_at-eq0 : goal.returns-then-count_at-eq0

@@ -1,6 +1,5 @@
 use mathlib.Core.Path.{sym, ◌∙◌}
 use Rattle.sheet.proofs.HeaderLaws.{opens_inside, header_refused, header_group, header_plain}
-use borrow.Author.Rules.{rules}
 use Rattle.sheet.proofs.heads.read_header.Goals as goal
 
 pub group_refusal-number-requires : goal.group_refusal-number-requires

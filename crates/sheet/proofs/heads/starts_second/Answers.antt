@@ -1,5 +1,4 @@
 use Rattle.sheet.specs.Groups.{starts_second}
-use borrow.Author.Rules.{rules}
 use Rattle.sheet.proofs.heads.starts_second.Goals as goal
 
 pub returns : goal.returns

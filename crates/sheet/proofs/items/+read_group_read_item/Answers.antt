@@ -1,4 +1,4 @@
-use Rattle.std.proofs.Common.{rules, arith, ◌≡◌, length, ℕ, ◌+◌, ◌-◌, ◌*◌, ◌<◌, ◌≤◌}
+use Rattle.std.proofs.Common.{arith}
 use Rattle.sheet.proofs.ItemLaws.{answers_end, answers_single, answers_group, answers_refused, opened, begins, members_end, members_refused, members_more, members_none}
 use Rattle.sheet.proofs.PlaceLaws.{answer_after}
 use Rattle.sheet.proofs.items.+read_group_read_item.Goals as goal

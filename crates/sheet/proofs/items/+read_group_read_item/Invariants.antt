@@ -1,5 +1,5 @@
 -- The record reader and the group reader: bytes left and depth fall from the one to the other, and the members left in the group reader's loop.
-use Rattle.std.proofs.Common.{◌≡◌, length, ℕ, ◌+◌, ◌-◌, ◌*◌, ◌<◌, ◌≤◌}
+use Rattle.std.proofs.Common.{◌≡◌, length, ◌+◌, ◌-◌, ◌*◌, ◌≤◌}
 use Rattle.sheet.specs.Groups.{item_at, group_from, members_from}
 use Rattle.sheet.specs.Sums.{answered, answered_from}
 use Rattle.sheet.proofs.items.+read_group_read_item.Given as goal

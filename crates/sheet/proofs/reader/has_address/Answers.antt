@@ -1,4 +1,3 @@
-use borrow.Author.Rules.{rules}
 use Rattle.sheet.proofs.reader.has_address.Goals as goal
 
 pub returns : goal.returns

@@ -1,5 +1,4 @@
 use borrow.Author.Tests.{le-leb, lt-leb}
-use borrow.Author.Rules.{rules}
 use Rattle.sheet.proofs.reader.has_kind.Goals as goal
 
 pub returns-then-k-ge1 : goal.returns-then-k-ge1

@@ -1,7 +1,6 @@
 use borrow.Author.Tests.{eq-eqb, ne_eqb}
 use mathlib.Core.Path.{sym, ◌∙◌}
 use Rattle.sheet.specs.Reader.{marked}
-use borrow.Author.Rules.{rules}
 use Rattle.sheet.proofs.reader.has_mark.Goals as goal
 
 pub returns-then-byte_at-eq158 : goal.returns-then-byte_at-eq158

@@ -1,4 +1,3 @@
-use borrow.Author.Rules.{rules}
 use Rattle.sheet.proofs.reader.has_pads.Goals as goal
 
 pub pads_fit-requires : goal.pads_fit-requires

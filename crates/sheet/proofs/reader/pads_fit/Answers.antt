@@ -1,4 +1,3 @@
-use borrow.Author.Rules.{rules}
 use Rattle.sheet.proofs.reader.pads_fit.Goals as goal
 
 pub pads_zero-requires : goal.pads_zero-requires

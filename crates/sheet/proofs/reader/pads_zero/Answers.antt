@@ -1,8 +1,6 @@
 use native.Mathlib.Omega.{arith}
 use native.Mathlib.Nat.{add-zero, sub-zero}
-use Prim.Native.Nat.{◌+◌, ◌*◌, ◌-◌, ◌≤◌}
-use mathlib.Core.Path.{◌≡◌, sym, ◌∙◌}
-use Rattle.sheet.specs.Records.{pads_zero}
+use mathlib.Core.Path.{sym, ◌∙◌}
 use Rattle.sheet.proofs.PadLaws.{pads_more, pads_not, pads_end}
 use Rattle.sheet.proofs.reader.pads_zero.Goals as goal
 

@@ -1,10 +1,6 @@
-use borrow.Author.Tests.{not-true, not-false}
-use native.Mathlib.Omega.{arith}
-use native.Mathlib.Nat.{add-zero, sub-zero}
 use Prim.Native.Nat.{◌+◌, ◌*◌, ◌-◌, ◌≤◌}
-use mathlib.Core.Path.{◌≡◌, sym, ◌∙◌}
+use mathlib.Core.Path.{◌≡◌}
 use Rattle.sheet.specs.Records.{pads_zero}
-use Rattle.sheet.proofs.PadLaws.{pads_more, pads_not, pads_end}
 use Rattle.sheet.proofs.reader.pads_zero.Given as goal
 
 abbrev pub invariant-loop-j : goal.invariant-loop-j

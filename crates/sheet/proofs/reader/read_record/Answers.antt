@@ -3,7 +3,6 @@ use borrow.Author.Tests.{le-leb, lt-leb, eq-eqb, ne_eqb}
 use Rattle.fields.specs.Fields.{if}
 use Rattle.sheet.specs.Reader.{reading_at}
 use Rattle.sheet.proofs.ReaderLaws.{stands}
-use borrow.Author.Rules.{rules}
 use Rattle.sheet.proofs.reader.read_record.Goals as goal
 
 pub returns-then-sheet-at : goal.returns-then-sheet-at

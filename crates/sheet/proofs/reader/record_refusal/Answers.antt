@@ -3,7 +3,6 @@ use mathlib.Core.Path.{refl}
 use Rattle.fields.specs.Fields.{if}
 use Rattle.sheet.specs.Reader.{record_refusal}
 use Rattle.sheet.proofs.ReaderLaws.{passed, failed, cut, not_cut}
-use borrow.Author.Rules.{rules}
 use Rattle.sheet.proofs.reader.record_refusal.Goals as goal
 
 pub returns-then-sheet-at-lt6 : goal.returns-then-sheet-at-lt6

@@ -2,7 +2,6 @@ use native.Mathlib.Omega.{arith}
 use Rattle.fields.specs.Fields.{if}
 use Rattle.sheet.specs.Reader.{row_refusal}
 use Rattle.sheet.proofs.ReaderLaws.{passed, failed, cut, not_cut}
-use borrow.Author.Rules.{rules}
 use Rattle.sheet.proofs.reader.row_refusal.Goals as goal
 
 pub returns-then-not-has_count : goal.returns-then-not-has_count

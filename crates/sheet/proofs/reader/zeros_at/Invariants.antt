@@ -1,9 +1,6 @@
-use native.Mathlib.Omega.{arith}
 use Prim.Native.Nat.{◌+◌, ◌-◌, ◌≤◌}
-use mathlib.Core.Path.{◌≡◌, sym, ◌∙◌}
-use native.Mathlib.Nat.{add-zero, sub-zero}
+use mathlib.Core.Path.{◌≡◌}
 use Rattle.sheet.specs.Records.{zeros_at}
-use Rattle.sheet.proofs.PadLaws.{zeros_more, zeros_not, zeros_end}
 use Rattle.sheet.proofs.reader.zeros_at.Given as goal
 
 abbrev pub invariant-loop-i : goal.invariant-loop-i

@@ -1,5 +1,4 @@
 use Rattle.sheet.specs.Sums.{joined}
-use borrow.Author.Rules.{rules}
 use Rattle.sheet.proofs.sums.joined.Goals as goal
 
 pub returns : goal.returns

@@ -1,4 +1,3 @@
-use borrow.Author.Rules.{rules}
 use Rattle.sheet.proofs.sums.quadwords_of.Goals as goal
 
 pub returns-in-Data : goal.returns-in-Data

@@ -1,5 +1,4 @@
 use Rattle.sheet.specs.Sums.{scaled}
-use borrow.Author.Rules.{rules}
 use Rattle.sheet.proofs.sums.scaled.Goals as goal
 
 pub returns : goal.returns

@@ -1,7 +1,6 @@
 use native.Mathlib.Omega.{arith}
 use mathlib.Core.Path.{◌∙◌}
 use Rattle.sheet.proofs.SumLaws.{capped_times, product_fits}
-use borrow.Author.Rules.{rules}
 use Rattle.sheet.proofs.sums.times.Goals as goal
 
 pub overflow_mul-n : goal.overflow_mul-n

@@ -1,5 +1,4 @@
 use native.Mathlib.Omega.{arith}
-use mathlib.Core.Path.{refl}
 use Rattle.sheet.proofs.PlaceLaws.{answer_after}
 use Rattle.sheet.proofs.MeasureLaws.{starts, at_end, at_refused, at_found}
 use Rattle.sheet.proofs.totals.measure_items.Goals as goal

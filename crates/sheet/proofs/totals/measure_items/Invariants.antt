@@ -1,12 +1,8 @@
 use mathlib.Core.Path.{◌≡◌}
 use Prim.Native.Nat.{◌-◌}
-use native.Mathlib.Omega.{arith}
 use lib.ListN.{length}
-use borrow.Author.Rules.{rules}
 use Rattle.sheet.specs.Editions.{expansion_from, limited}
 use Rattle.sheet.specs.Sums.{measured_of, summed}
-use Rattle.sheet.proofs.PlaceLaws.{answer_after}
-use Rattle.sheet.proofs.MeasureLaws.{starts, at_end, at_refused, at_found}
 use Rattle.sheet.proofs.totals.measure_items.Given as goal
 
 abbrev pub invariant-loop-next : goal.invariant-loop-next

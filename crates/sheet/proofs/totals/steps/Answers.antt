@@ -1,6 +1,5 @@
 use Rattle.sheet.specs.Editions.{contents_of}
 use Rattle.sheet.proofs.TotalsLaws.{steps_whole, steps_refused}
-use borrow.Author.Rules.{rules}
 use Rattle.sheet.proofs.totals.steps.Goals as goal
 
 pub returns-in-Whole : goal.returns-in-Whole
