@@ -13,7 +13,7 @@ use Rattle.sheet.specs.Reader.{reading_at}
 use Rattle.sheet.specs.Whole.{Bytes}
 use Rattle.sheet.proofs.ReaderLaws.{found_next}
 use Rattle.sheet.proofs.ListLaws.{sets_next, part_length}
-use Rattle.salvage.specs.Salvage.{Range, range, numbers_of}
+use Rattle.salvage.specs.Salvage.{Range, numbers_of}
 use Rattle.salvage.specs.Inner.{kept_from, dropped_from, range_end}
 use Rattle.salvage.proofs.PieceLaws.{kept_end, kept_found}
 use Rattle.salvage.proofs.RangeLaws.{ranges_end, ranges_found, range_dropped, range_kept, range_inside}

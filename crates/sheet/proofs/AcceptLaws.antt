@@ -96,7 +96,7 @@ read_back : (sheet : List ℕ) (at : ℕ) {rs : List Record} → AllMeet rs → 
 unfolding sheet_bytes
 read_back sheet at none e = from_end sheet at (past sheet at (omega (arith, left_there sheet at e)))
 read_back sheet at (more {r} {rs} m ms) e =
-    taken sheet at r (sheet_bytes rs) m e (read_back sheet _ ms (onward sheet at r (sheet_bytes rs) m e))
+    taken sheet at r (sheet_bytes rs) m e (read_back sheet (at + 6 + body_length r.kind r.count) ms (onward sheet at r (sheet_bytes rs) m e))
 
 -- and none of them is of kind 0
 kind_some : (k : Kind) → eqb (kind_number k) 0 ≡ false

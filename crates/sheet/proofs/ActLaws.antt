@@ -9,7 +9,7 @@ use Rattle.sheet.specs.Records.{Record, record_of, body_length, bytes_at}
 use Rattle.sheet.specs.Reader.{Contents, valid, refused as noContents}
 use Rattle.sheet.specs.declared.Header.{Header}
 use Rattle.sheet.specs.declared.Header.TheVariants.{End, Single, Group, Refused}
-use Rattle.sheet.specs.Items.{Item, group, none, repeated, expanded_item, expanded}
+use Rattle.sheet.specs.Items.{Item, repeated, expanded_item, expanded}
 use Rattle.sheet.specs.Groups.{header_at}
 use Rattle.sheet.specs.Groups.{ItemRead, ended, item, refused, MembersRead, members, broken, on_member, members_from, grouped, group_from, item_at}
 use Rattle.sheet.specs.Acts.{Done, done, item_done, members_done, turns_done, ItemFits, MembersFit, TurnsFit, SheetFits, sheet_done}

@@ -8,7 +8,7 @@ use Rattle.gif.specs.declared.Entry.{Entry}
 use Rattle.gif.specs.Log.{entry_size}
 use Rattle.sheet.specs.Records.{Record}
 use Rattle.sheet.specs.Sizes.{entries_of, sheet_entries}
-use Rattle.sheet.specs.Meaning.{Plain, plain, entries_by, fed_record, meaning_of}
+use Rattle.sheet.specs.Meaning.{Plain, entries_by, fed_record, meaning_of}
 use Rattle.sheet.specs.Results.{log_with}
 use Rattle.sheet.specs.Fed.{Fed, fed, fed_by, fed_all}
 use Rattle.sheet.proofs.MeaningLaws.{row_count, fed_count, log_then}

@@ -12,7 +12,7 @@ use Rattle.sheet.specs.declared.Header.{Header}
 use Rattle.sheet.specs.declared.Header.TheVariants.{End, Single, Group, Refused}
 use Rattle.sheet.specs.declared.items.ItemAnswer.{ItemAnswer}
 use Rattle.sheet.specs.declared.items.ItemAnswer.TheVariants.{End as NoItem, Found, Refused as ItemRefused}
-use Rattle.sheet.specs.Items.{Item, single, group, expanded_item, expanded}
+use Rattle.sheet.specs.Items.{Item, single, expanded_item, expanded}
 use Rattle.sheet.specs.Groups.{header_at}
 use Rattle.sheet.specs.Groups.{ItemRead, ended, item, refused, MembersRead, members, broken, before, on_member, members_from, grouped, group_from, item_at}
 use Rattle.sheet.specs.Sums.{totals, capped_totals, totals_of, joined, scaled, answered, answered_from}

@@ -1,7 +1,7 @@
 -- The plain meaning: numbers of bytes, one item after another, the entries, and the log.
 use mathlib.Core.Path.{◌≡◌, refl, sym, ap, ◌∙◌}
 use mathlib.Core.List.{List, [], ◌∷◌, ◌++◌, append_assoc, append-nil}
-use Prim.Native.Nat.{ℕ, zero, suc, ◌+◌, ◌*◌, ◌-◌, ◌%◌, ◌≤◌}
+use Prim.Native.Nat.{ℕ, zero, suc, ◌+◌, ◌*◌, ◌%◌, ◌≤◌}
 use native.Mathlib.Omega.{arith}
 use lib.ListN.{length, drop, length-append, length-drop, take-append-drop}
 use lib.Seq.{sets, length-sets, sets-eq, take_at, drop-append-add, drop-drop}
@@ -12,7 +12,7 @@ use Rattle.memories.specs.declared.VifUnit.TheVariants.{Vif1}
 use Rattle.memories.specs.Units.{quadwords, instructions}
 use Rattle.sheet.specs.declared.Kind.{Kind}
 use Rattle.sheet.specs.declared.Kind.TheVariants.{Data, Code, Gs, Start}
-use Rattle.sheet.specs.Records.{Record, bytes_at, number}
+use Rattle.sheet.specs.Records.{Record, bytes_at}
 use Rattle.sheet.specs.Sizes.{entries_of, sheet_entries}
 use Rattle.sheet.specs.Meaning.{Plain, plain, vector_of, put_vectors, put_instructions, entries_at, entries_by, mem_by, code_by, fed_record, meaning_of}
 use Rattle.sheet.specs.Results.{log_with}

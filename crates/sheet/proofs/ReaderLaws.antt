@@ -1,12 +1,12 @@
 -- What a reading says of the bytes, and reading on from it.
 use mathlib.Core.Path.{◌≡◌, refl, sym, ◌∙◌}
-use mathlib.Core.Bool.{Bool, true, false, not}
+use mathlib.Core.Bool.{Bool, true, false}
 use mathlib.Core.List.{List, []}
 use Prim.Native.Nat.{ℕ, zero, suc, ◌+◌, ◌*◌, ◌-◌, ◌≤◌, ◌<◌}
 use native.Mathlib.Omega.{arith}
 use lib.ListN.{length, get_or}
 use lib.Dec.{eqb, leb, ltb}
-use borrow.Author.Tests.{lt-ltb, le-ltb, ltb-false, not-true, not-false, leb-true, le-leb, eqb-true, eqb-false}
+use borrow.Author.Tests.{lt-ltb, le-ltb, ltb-false, not-false, leb-true, le-leb, eqb-true, eqb-false}
 use Rattle.fields.specs.Fields.{if}
 use Rattle.fields.proofs.ChoiceLaws.{if_ind_by, if_zero, and_left, and_right}
 use Rattle.sheet.specs.declared.Kind.{Kind}
@@ -16,11 +16,11 @@ use Rattle.sheet.specs.Records.{record_of, kind_number, count_fits, address_fits
 use Rattle.sheet.specs.Reader.{Contents, valid, refused, before, marked, kind_listed, kind_of, kind_at, count_at, address_at, next_at, row_refusal, record_refusal, reading_at, on_reading, records_from, contents_from}
 
 -- a test that was passed, and one that was not
-pub passed : {r b : Bool} → r ≡ b → not r ≡ false → b ≡ true
-passed e h = sym e ∙ not-false _ h
+pub passed : {r b : Bool} → r ≡ b → r ≡ true → b ≡ true
+passed e h = sym e ∙ h
 
-pub failed : {r b : Bool} → r ≡ b → not r ≡ true → b ≡ false
-failed e h = sym e ∙ not-true _ h
+pub failed : {r b : Bool} → r ≡ b → r ≡ false → b ≡ false
+failed e h = sym e ∙ h
 
 -- whether n elements from a place on are there
 pub cut : (l at n : ℕ) {m : ℕ} → m ≡ n → l - at < m → ltb l (at + n) ≡ true

@@ -54,7 +54,7 @@ steps_sum (r ∷ rs) = rw (steps_sum rs, add_assoc)
 pub entries_sum : (rs : List Record) → sheet_entries rs ≡ sum_of entries rs + 0
 unfolding sheet_entries sum_of
 entries_sum [] = refl
-entries_sum (r ∷ rs) = rw (entries_sum rs, add_assoc)
+entries_sum (r ∷ rs) = omega (arith, entries_sum rs)
 
 -- ---- sums that stop
 

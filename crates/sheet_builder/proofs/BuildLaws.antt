@@ -12,7 +12,6 @@ use Rattle.sheet.specs.declared.BuildAnswer.TheVariants.{Built, Refused}
 use Rattle.sheet.specs.declared.sums.Totals.{Totals}
 use Rattle.sheet.specs.declared.Measured.{Measured}
 use Rattle.sheet.specs.declared.Measured.TheVariants.{Whole, Refused as MeasureRefused}
-use Rattle.sheet.specs.Reader.{refused}
 use Rattle.sheet.specs.Layout.{chain_of}
 use Rattle.sheet.specs.Build.{Left, left, build_of, exported_number}
 use Rattle.sheet.specs.Editions.{expansion_from, contents_of}
