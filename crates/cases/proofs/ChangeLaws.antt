@@ -50,7 +50,7 @@ module _ {g h : ℕ → ℕ} {n : ℕ} where
       omega (arith, rw m at s.same)
 
 -- changes sent one after another
-module _ {w : ℕ → List ℕ} {g h : ℕ → ℕ} {n i : ℕ} {first : List ℕ} {from : ℕ} {out : List ℕ} {at : ℕ} (s : Sending (changes_from w g h) n first from out at i) where
+module _ (w : ℕ → List ℕ) (g h : ℕ → ℕ) {n i : ℕ} {first : List ℕ} {from : ℕ} {out : List ℕ} {at : ℕ} (s : Sending (changes_from w g h) n first from out at i) where
   pub changes_on : {x y : ℕ} {o : List ℕ} {m : ℕ} → i < n → x ≡ g i → y ≡ h i → sent o m ≡ sent_all out at (change_of i (w x) x y)
       → Sending (changes_from w g h) n first from o m (i + 1)
   changes_on {x} {y} l p q e =

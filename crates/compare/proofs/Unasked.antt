@@ -3,7 +3,6 @@ use mathlib.Core.Path.{◌≡◌, refl, sym, ◌∙◌}
 use mathlib.Core.Bool.{Bool, true, false, ◌&&◌}
 use mathlib.Core.List.{List}
 use Prim.Native.Nat.{ℕ}
-use lib.ListN.{length}
 use Rattle.fields.specs.Fields.{if}
 use Rattle.gif.specs.Log.{entry_size}
 use Rattle.memories.specs.declared.VifUnit.{VifUnit}

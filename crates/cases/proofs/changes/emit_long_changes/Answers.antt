@@ -1,0 +1,13 @@
+use Rattle.cases.specs.Changes.{two, number_in}
+use Rattle.cases.proofs.Laws.{sends_begin}
+use Rattle.cases.proofs.ChangeLaws.{changes_on, changes_end}
+use Rattle.cases.proofs.changes.emit_long_changes.Goals as goal
+
+pub loop-i-init : goal.loop-i-init
+loop-i-init c = sends_begin
+
+pub loop-i-preserved : goal.loop-i-preserved
+loop-i-preserved c = changes_on two (number_in c.args.memory.now) (number_in c.args.before.now) c.loop-i.invariant c.loop-i-test.true c.long_in.ensures c.long_in-in-loop-i.ensures c.emit_long_change-n.ensures
+
+pub returns : goal.returns
+returns c = changes_end two (number_in c.args.memory.now) (number_in c.args.before.now) c.loop-i.invariant c.loop-i-test.false
