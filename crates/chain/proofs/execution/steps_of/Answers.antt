@@ -51,7 +51,7 @@ loop-data-preserved c =
     let q = c.in-Completed.is ∙ ap Completed c.if-i.false in
     record {
       ready = ready_along (a.goes q) i.ready;
-      lengths = (k.1.1.1.0 ∙ i.lengths.0, k.1.1.1.1.0 ∙ i.lengths.1, k.1.1.1.1.1.0 ∙ i.lengths.2);
+      lengths = (k.«data» ∙ i.lengths.0, k.code ∙ i.lengths.1, k.log ∙ i.lengths.2);
       few = rw e (omega arith);
       same = rw e (goes_on _ _ _ _ _ i.same a l q);
     }

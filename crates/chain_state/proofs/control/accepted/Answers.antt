@@ -1,5 +1,4 @@
 use mathlib.Core.Path.{sym, ◌∙◌}
-use borrow.Author.Rules.{rules}
 use Rattle.chain_state.proofs.control.accepted.Goals as goal
 
 pub returns-then-state_in_range : goal.returns-then-state_in_range

@@ -1,4 +1,3 @@
-use borrow.Author.Rules.{rules}
 use Rattle.chain_state.specs.Start.{reset_state}
 use Rattle.chain_state.proofs.control.reset.Goals as goal
 

@@ -1,7 +1,6 @@
 use Rattle.chain_state.specs.Start.{start_of}
 use Rattle.fields.specs.Fields.{if}
 use mathlib.Core.Path.{sym, ◌∙◌}
-use borrow.Author.Rules.{rules}
 use Rattle.chain_state.proofs.control.start.Goals as goal
 
 pub returns-then-accepted : goal.returns-then-accepted

@@ -1,4 +1,3 @@
-use borrow.Author.Rules.{rules}
 use Rattle.chain_state.proofs.control.started.Goals as goal
 
 pub returns : goal.returns

@@ -1,5 +1,4 @@
 use mathlib.Core.Path.{sym, ◌∙◌}
-use borrow.Author.Rules.{rules}
 use Rattle.chain_state.proofs.range.devices_in_range.Goals as goal
 
 pub returns-then-path_in_range : goal.returns-then-path_in_range

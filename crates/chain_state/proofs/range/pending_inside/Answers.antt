@@ -1,5 +1,4 @@
 use mathlib.Core.Path.{sym, ◌∙◌}
-use borrow.Author.Rules.{rules}
 use Rattle.chain_state.proofs.range.pending_inside.Goals as goal
 
 pub returns-then-tags_inside : goal.returns-then-tags_inside

@@ -1,5 +1,4 @@
 use Rattle.chain_state.specs.Range.{stack_in_range}
-use borrow.Author.Rules.{rules}
 use Rattle.chain_state.proofs.range.stack_in_range.Goals as goal
 
 pub returns-in-Empty : goal.returns-in-Empty

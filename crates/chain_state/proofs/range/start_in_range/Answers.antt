@@ -1,7 +1,6 @@
 use Rattle.chain_state.specs.Range.{start_in_range}
 use borrow.Author.Tests.{eq-eqb, ne_eqb}
 use mathlib.Core.Path.{sym, ◌∙◌}
-use borrow.Author.Rules.{rules}
 use Rattle.chain_state.proofs.range.start_in_range.Goals as goal
 
 pub returns-then-tadr-eq0 : goal.returns-then-tadr-eq0

@@ -1,6 +1,5 @@
 use Rattle.chain_state.specs.Range.{state_in_range}
 use mathlib.Core.Path.{sym, ◌∙◌}
-use borrow.Author.Rules.{rules}
 use Rattle.chain_state.proofs.range.state_in_range.Goals as goal
 
 pub returns-then-pending_in_range : goal.returns-then-pending_in_range

@@ -1,5 +1,4 @@
 use Rattle.chain_state.specs.Range.{tags_in_range}
-use borrow.Author.Rules.{rules}
 use Rattle.chain_state.proofs.range.tags_in_range.Goals as goal
 
 pub returns-in-Nothing : goal.returns-in-Nothing

@@ -1,7 +1,6 @@
 use Rattle.chain_state.specs.Range.{words_in_range}
 use borrow.Author.Tests.{eq-eqb, ne_eqb, le-leb, lt-leb}
 use mathlib.Core.Path.{sym, ◌∙◌}
-use borrow.Author.Rules.{rules}
 use Rattle.chain_state.proofs.range.words_in_range.Goals as goal
 
 pub returns-then-n-eq0 : goal.returns-then-n-eq0

@@ -1,4 +1,3 @@
-use borrow.Author.Rules.{rules}
 use Rattle.chain_state.proofs.setters.held_by.Goals as goal
 
 pub returns-in-Vif0 : goal.returns-in-Vif0

@@ -1,4 +1,3 @@
-use borrow.Author.Rules.{rules}
 use Rattle.chain_state.proofs.setters.with_unit.Goals as goal
 
 pub returns-in-Vif0 : goal.returns-in-Vif0
