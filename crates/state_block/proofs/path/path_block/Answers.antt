@@ -1,4 +1,3 @@
-use borrow.Author.Rules.{rules}
 use Rattle.state_block.proofs.path.path_block.Goals as goal
 
 pub returns-in-Idle : goal.returns-in-Idle

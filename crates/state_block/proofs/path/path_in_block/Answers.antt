@@ -2,7 +2,6 @@ use mathlib.Core.Path.{sym, ◌∙◌}
 use borrow.Author.Tests.{eq-eqb, ne_eqb}
 use Rattle.fields.specs.Fields.{if}
 use Rattle.state_block.specs.PathBlock.{path_in_block}
-use borrow.Author.Rules.{rules}
 use Rattle.state_block.proofs.path.path_in_block.Goals as goal
 
 pub returns-then-block-ne-PATH_WORDS : goal.returns-then-block-ne-PATH_WORDS

@@ -1,4 +1,3 @@
-use borrow.Author.Rules.{rules}
 use Rattle.state_block.proofs.path.tag_in_block.Goals as goal
 
 pub returns : goal.returns

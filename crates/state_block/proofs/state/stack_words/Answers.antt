@@ -1,4 +1,3 @@
-use borrow.Author.Rules.{rules}
 use Rattle.state_block.proofs.state.stack_words.Goals as goal
 
 pub returns-in-One : goal.returns-in-One

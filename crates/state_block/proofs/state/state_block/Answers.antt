@@ -1,6 +1,5 @@
 use mathlib.Core.Path.{refl}
 use Rattle.state_block.proofs.StateLaws.{state_stored}
-use borrow.Author.Rules.{rules}
 use Rattle.state_block.proofs.state.state_block.Goals as goal
 
 pub returns : goal.returns

@@ -2,7 +2,6 @@ use borrow.Author.Tests.{ne_eqb}
 use Rattle.fields.specs.Fields.{if}
 use Rattle.state_block.specs.StateBlock.{state_in_block}
 use Rattle.state_block.proofs.StateLaws.{state_read}
-use borrow.Author.Rules.{rules}
 use Rattle.state_block.proofs.state.state_in_block.Goals as goal
 
 pub returns-then-block-ne-STATE_WORDS : goal.returns-then-block-ne-STATE_WORDS

@@ -1,5 +1,4 @@
 use mathlib.Core.Path.{sym, ◌∙◌}
-use borrow.Author.Rules.{rules}
 use Rattle.state_block.specs.UnitBlock.{format_numbered}
 use Rattle.state_block.proofs.unit.format_numbered.Goals as goal
 

@@ -1,5 +1,4 @@
 use Rattle.chain_state.specs.Start.{reset_state}
-use borrow.Author.Rules.{rules}
 use Rattle.state_block.proofs.unit.no_unit.Goals as goal
 
 pub returns : goal.returns

@@ -1,4 +1,3 @@
-use borrow.Author.Rules.{rules}
 use Rattle.state_block.proofs.unit.register_words.Goals as goal
 
 pub returns : goal.returns

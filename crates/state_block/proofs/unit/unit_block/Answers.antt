@@ -1,6 +1,5 @@
 use mathlib.Core.Path.{refl}
 use Rattle.state_block.proofs.UnitLaws.{unit_stored}
-use borrow.Author.Rules.{rules}
 use Rattle.state_block.proofs.unit.unit_block.Goals as goal
 
 pub returns : goal.returns

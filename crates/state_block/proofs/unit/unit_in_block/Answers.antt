@@ -1,7 +1,6 @@
 use borrow.Author.Tests.{eq-eqb, ne_eqb}
 use Rattle.fields.specs.Fields.{if}
 use Rattle.state_block.specs.UnitBlock.{unit_in_block}
-use borrow.Author.Rules.{rules}
 use Rattle.state_block.proofs.unit.unit_in_block.Goals as goal
 
 pub returns-then-block-ne-UNIT_WORDS : goal.returns-then-block-ne-UNIT_WORDS

@@ -1,6 +1,5 @@
 use Rattle.fields.specs.Fields.{if}
 use Rattle.state_block.specs.UnitBlock.{unit_with}
-use borrow.Author.Rules.{rules}
 use Rattle.state_block.proofs.unit.unit_with.Goals as goal
 
 pub returns-then-both : goal.returns-then-both

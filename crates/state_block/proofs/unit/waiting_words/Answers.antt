@@ -1,4 +1,3 @@
-use borrow.Author.Rules.{rules}
 use Rattle.state_block.proofs.unit.waiting_words.Goals as goal
 
 pub returns-in-Nothing : goal.returns-in-Nothing
