@@ -189,7 +189,9 @@ def transform(fn, body, var, place, warn, nokeep=False):
         prevdot = out and out[-1] == '.'
         if t in alias and not prevdot:
             segs, e = path_at(i)
-            # a record field label  "x = "?
+            # a record field label, "x = "
+            if t != var and re.match(r'\s*= ', ''.join(toks[i+1:i+4])) and ''.join(out).rstrip()[-1:] in ('{', ';'):
+                out.append(t); i += 1; continue
             p, rest = resolve(alias[t], segs)
             if p is None:
                 warn.append(f'path out of the walk: {t}.{".".join(segs)}')
@@ -203,12 +205,11 @@ def transform(fn, body, var, place, warn, nokeep=False):
                 out.append('c.' + '.'.join(rest))
             else:
                 new = fn.step(p, s)
-                if new is None and fn.step(place, s) is not None:
-                    p = place
-                    new = fn.step(p, s)
                 arm = fn.arm(p, s, rest[1:])
                 if arm is not None:
                     out.append('c.' + '.'.join(arm))
+                elif new is None and fn.step(p, s.lower()) is not None:
+                    out.append('c.' + '.'.join([fn.step(p, s.lower())] + fn.clause(p, s.lower(), rest[1:])))
                 elif new is None:
                     warn.append(f'no step {s} at {p}')
                     out.append('c.' + '.'.join(rest))
@@ -322,7 +323,7 @@ def convert(path, key, d, crate):
                 warn.append(f'{a}: by name {idx}, by place {k}'); idx = k
             answers.append((idx, a)); named.add(a)
         else:
-            mm = re.match(r'\(λ ([^.]*)\.\s+(.*)\)$', a, re.S)
+            mm = re.match(r'\(λ (.*?)\.\s+(.*)\)$', a, re.S)
             if mm and re.sub(r'\s+', ' ', mm[2]) == 'search rules': continue
             if len(rest) != len(needs):
                 warn.append(f'inline answer at {k} of {len(rest)}: {a}'); continue
@@ -346,7 +347,7 @@ def convert(path, key, d, crate):
         mm = re.search(r'^unfolding .*$', '\n'.join(sigs[main_spec]), re.M)
         if mm: munf = mm[0]
     for k, a in enumerate(rest):
-        mm = re.match(r'\(λ (.*?)\. (.*)\)$', a, re.S) if a not in sigs else None
+        mm = re.match(r'\(λ (.*?)\.\s+(.*)\)$', a, re.S) if a not in sigs else None
         if munf and mm and re.sub(r'\s+', ' ', mm[2]) == 'search rules' and 'κs' not in mm[1].split() and len(rest) == len(needs): inline.append((k, a))
     # invariants
     loopsby = {norm(o[0]): (o, vs, ch) for (o, vs), ch in zip(loops, d['changed'])}
@@ -396,7 +397,7 @@ def convert(path, key, d, crate):
             if 'tie.' in t or re.search(r'\bLts\b', t): warn.append(f'helper {n} names the walk')
             out_ans.append(t)
     for k, a in inline:
-        mm = re.match(r'\(λ ([^.]*)\.\s+(.*)\)$', a, re.S)
+        mm = re.match(r'\(λ (.*?)\.\s+(.*)\)$', a, re.S)
         new = needs[k][1]
         if not mm:
             # a lemma given as the answer
