@@ -1,0 +1,12 @@
+use Rattle.sheet.proofs.MeaningLaws.{vector_turns}
+use Rattle.sheet_meaning.proofs.BodyLaws.{turns_begin, turns_end, vector_on}
+use Rattle.sheet_meaning.proofs.plain.put_vectors.Goals as goal
+
+pub loop-j-init : goal.loop-j-init
+loop-j-init c = turns_begin
+
+pub loop-j-preserved : goal.loop-j-preserved
+loop-j-preserved c = vector_on _ _ _ c.loop-j.invariant c.loop-j-test.true c.put_vector.ensures
+
+pub returns : goal.returns
+returns c = turns_end (vector_turns _ _) c.loop-j.invariant c.loop-j-test.false
