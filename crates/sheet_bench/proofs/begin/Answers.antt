@@ -1,6 +1,5 @@
 use mathlib.Core.Path.{sym}
 use lib.Seq.{length-take-le}
-use borrow.Author.Rules.{rules}
 use Rattle.sheet_bench.proofs.begin.Goals as goal
 
 pub slice_bounds-time-end-2 : goal.slice_bounds-time-end-2

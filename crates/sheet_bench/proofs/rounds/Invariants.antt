@@ -1,5 +1,4 @@
 use Prim.Native.Nat.{◌≤◌}
-use borrow.Author.Rules.{rules}
 use Rattle.sheet_bench.proofs.rounds.Given as goal
 
 abbrev pub invariant-loop-left : goal.invariant-loop-left
