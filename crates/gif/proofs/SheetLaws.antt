@@ -16,7 +16,7 @@ use Rattle.gif.specs.declared.Place.{Place}
 use Rattle.gif.specs.declared.Place.TheVariants.{Idle, Data}
 use Rattle.gif.specs.declared.Path.{Path}
 use Rattle.gif.specs.declared.GifAnswer.TheVariants.{Taken}
-use Rattle.fields.specs.Fields.{if, bits, quadword}
+use Rattle.fields.specs.Fields.{if, bits}
 use Rattle.gif.specs.Log.{entry_size, HasRoom, entries_by, logged, lacks_room}
 use Rattle.gif.specs.Tag.{path_of, format_of, nreg_of, quadwords_of, tag_of, tag_q, tag_writes, taken_of, descriptor_at, place_after, place_at_tag, eop_of, tag_closes, data_closes}
 use Rattle.gif.specs.Packed.{packed_writes, packed_q}

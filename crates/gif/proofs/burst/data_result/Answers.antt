@@ -1,4 +1,3 @@
-use borrow.Author.Rules.{rules}
 use Rattle.gif.proofs.burst.data_result.Goals as goal
 
 pub returns : goal.returns

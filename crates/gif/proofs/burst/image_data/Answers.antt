@@ -1,7 +1,6 @@
-use Prim.Native.Nat.{◌-◌}
 use native.Mathlib.Omega.{arith}
 use borrow.Author.Rules.{rules}
-use Rattle.gif.proofs.BurstLaws.{Came, none_came, room_for, image_came, came_all}
+use Rattle.gif.proofs.BurstLaws.{none_came, room_for, image_came, came_all}
 use Rattle.gif.proofs.burst.image_data.Goals as goal
 
 pub loop-k-init : goal.loop-k-init

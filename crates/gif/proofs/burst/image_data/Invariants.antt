@@ -1,7 +1,5 @@
 use Prim.Native.Nat.{◌-◌}
-use native.Mathlib.Omega.{arith}
-use borrow.Author.Rules.{rules}
-use Rattle.gif.proofs.BurstLaws.{Came, none_came, room_for, image_came, came_all}
+use Rattle.gif.proofs.BurstLaws.{Came}
 use Rattle.gif.proofs.burst.image_data.Given as goal
 
 abbrev pub invariant-loop-k : goal.invariant-loop-k

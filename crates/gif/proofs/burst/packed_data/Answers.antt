@@ -1,11 +1,8 @@
-use mathlib.Core.Path.{◌≡◌}
-use Prim.Native.Nat.{◌+◌, ◌-◌, ◌%◌}
 use native.Mathlib.Nat.{add-zero}
 use native.Mathlib.Omega.{arith}
 use borrow.Author.Rules.{rules}
-use Rattle.gif.specs.Tag.{taken_of}
 use Rattle.gif.proofs.TagLaws.{nibble_next, nibble_fits}
-use Rattle.gif.proofs.BurstLaws.{Came, none_came, room_for, packed_came, came_all}
+use Rattle.gif.proofs.BurstLaws.{none_came, room_for, packed_came, came_all}
 use Rattle.gif.proofs.burst.packed_data.Goals as goal
 
 pub loop-k-init : goal.loop-k-init

@@ -1,5 +1,4 @@
 use native.Mathlib.Omega.{arith}
-use borrow.Author.Rules.{rules}
 use Rattle.gif.proofs.RangeLaws.{tag_fits}
 use Rattle.gif.proofs.BurstLaws.{taken_fewer, taken_held}
 use Rattle.gif.proofs.burst.quadwords_at_once.Goals as goal

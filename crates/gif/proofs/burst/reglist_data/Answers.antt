@@ -1,10 +1,9 @@
-use mathlib.Core.Path.{◌≡◌, refl}
-use Prim.Native.Nat.{◌+◌, ◌*◌, ◌-◌, ◌%◌}
+use mathlib.Core.Path.{refl}
 use native.Mathlib.Nat.{add-zero}
 use native.Mathlib.Omega.{arith}
 use borrow.Author.Rules.{rules}
 use Rattle.gif.proofs.TagLaws.{taken_most, due_most, nibble_next, nibble_fits}
-use Rattle.gif.proofs.BurstLaws.{Came, none_came, room_for, reglist_came, came_all}
+use Rattle.gif.proofs.BurstLaws.{none_came, room_for, reglist_came, came_all}
 use Rattle.gif.proofs.burst.reglist_data.Goals as goal
 
 pub overflow_mul-item : goal.overflow_mul-item

@@ -1,10 +1,6 @@
-use mathlib.Core.Path.{◌≡◌, refl}
+use mathlib.Core.Path.{◌≡◌}
 use Prim.Native.Nat.{◌+◌, ◌*◌, ◌-◌, ◌%◌}
-use native.Mathlib.Nat.{add-zero}
-use native.Mathlib.Omega.{arith}
-use borrow.Author.Rules.{rules}
-use Rattle.gif.proofs.TagLaws.{taken_most, due_most, nibble_next, nibble_fits}
-use Rattle.gif.proofs.BurstLaws.{Came, none_came, room_for, reglist_came, came_all}
+use Rattle.gif.proofs.BurstLaws.{Came}
 use Rattle.gif.proofs.burst.reglist_data.Given as goal
 
 abbrev pub invariant-loop-k : goal.invariant-loop-k

@@ -1,5 +1,4 @@
 use mathlib.Core.Path.{◌∙◌, ap}
-use borrow.Author.Rules.{rules}
 use Rattle.fields.specs.Counts.{one_if}
 use Rattle.gif.proofs.BurstLaws.{none_taken, tag_room, tag_taken}
 use Rattle.gif.proofs.burst.tag_quadword.Goals as goal

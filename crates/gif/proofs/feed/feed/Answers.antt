@@ -1,14 +1,7 @@
-use mathlib.Core.Path.{◌≡◌, refl, ◌∙◌}
-use Prim.Native.Nat.{◌+◌, ◌*◌, ◌-◌, ◌≤◌}
+use mathlib.Core.Path.{refl, ◌∙◌}
 use native.Mathlib.Omega.{arith}
-use lib.ListN.{length}
-use Rattle.gif.specs.Log.{LogFits}
-use Rattle.gif.specs.Range.{PlaceFits}
-use Rattle.gif.specs.Feed.{feeds_of}
-use Rattle.gif.specs.Inner.{plus, QuadwordsInside}
 use Rattle.fields.proofs.CountLaws.{one_most}
 use Rattle.gif.proofs.FeedLaws.{leads_still, leads_one, feeds_begin, ends_all, goes_on, ends_refused, next_log_fits}
-use borrow.Author.Rules.{rules}
 use Rattle.gif.proofs.feed.feed.Goals as goal
 
 pub loop-taken-init : goal.loop-taken-init

@@ -1,14 +1,10 @@
-use mathlib.Core.Path.{◌≡◌, refl, ◌∙◌}
+use mathlib.Core.Path.{◌≡◌}
 use Prim.Native.Nat.{◌+◌, ◌*◌, ◌-◌, ◌≤◌}
-use native.Mathlib.Omega.{arith}
 use lib.ListN.{length}
 use Rattle.gif.specs.Log.{LogFits}
 use Rattle.gif.specs.Range.{PlaceFits}
 use Rattle.gif.specs.Feed.{feeds_of}
 use Rattle.gif.specs.Inner.{plus, QuadwordsInside}
-use Rattle.fields.proofs.CountLaws.{one_most}
-use Rattle.gif.proofs.FeedLaws.{leads_still, leads_one, feeds_begin, ends_all, goes_on, ends_refused, next_log_fits}
-use borrow.Author.Rules.{rules}
 use Rattle.gif.proofs.feed.feed.Given as goal
 
 abbrev pub invariant-loop-taken : goal.invariant-loop-taken

@@ -1,5 +1,4 @@
 use mathlib.Core.Path.{sym, ◌∙◌}
-use borrow.Author.Rules.{rules}
 use Rattle.fields.specs.Fields.{if}
 use Rattle.gif.specs.Feed.{feed_refusal}
 use Rattle.gif.proofs.feed.feed_refusal.Goals as goal

@@ -1,4 +1,3 @@
-use borrow.Author.Rules.{rules}
 use Rattle.gif.proofs.FeedLaws.{at_quadword_lem}
 use Rattle.gif.proofs.feed.step_at.Goals as goal
 

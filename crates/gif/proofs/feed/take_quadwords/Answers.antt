@@ -1,4 +1,3 @@
-use borrow.Author.Rules.{rules}
 use Rattle.gif.proofs.FeedLaws.{fed_fits, fed_tested, fed_none}
 use Rattle.gif.proofs.feed.take_quadwords.Goals as goal
 

@@ -1,4 +1,3 @@
-use borrow.Author.Rules.{rules}
 use Rattle.gif.proofs.log.entry_by.Goals as goal
 
 pub returns : goal.returns

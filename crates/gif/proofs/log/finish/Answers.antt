@@ -1,7 +1,6 @@
 use Rattle.gif.proofs.LogLaws.{listed_most, commit_full, commit_fits}
 use mathlib.Core.Path.{refl}
 use native.Mathlib.Omega.{arith}
-use borrow.Author.Rules.{rules}
 use Rattle.gif.proofs.log.finish.Goals as goal
 
 pub overflow_add-used : goal.overflow_add-used

@@ -1,7 +1,6 @@
 use Rattle.gif.proofs.LogLaws.{logged_one}
 use native.Mathlib.Omega.{arith}
 use lib.ListN.{length-set}
-use borrow.Author.Rules.{rules}
 use Rattle.gif.proofs.log.put.Goals as goal
 
 pub bounds-log-at-2 : goal.bounds-log-at-2

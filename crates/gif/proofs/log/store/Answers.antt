@@ -1,7 +1,6 @@
 use Rattle.gif.proofs.LogLaws.{logged_two, logged_length}
 use Rattle.gif.specs.Log.{logged}
 use native.Mathlib.Omega.{arith}
-use borrow.Author.Rules.{rules}
 use Rattle.gif.proofs.log.store.Goals as goal
 
 pub put-requires : goal.put-requires

@@ -1,6 +1,5 @@
 use Rattle.gif.proofs.LogLaws.{entry_fits, entry_full}
 use native.Mathlib.Omega.{arith}
-use borrow.Author.Rules.{rules}
 use Rattle.gif.proofs.log.write_entry.Goals as goal
 
 pub returns-then-used-log : goal.returns-then-used-log

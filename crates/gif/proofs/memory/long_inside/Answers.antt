@@ -1,5 +1,4 @@
 use Rattle.fields.specs.Memory.{long_at}
-use borrow.Author.Rules.{rules}
 use Rattle.gif.proofs.memory.long_inside.Goals as goal
 
 pub returns : goal.returns

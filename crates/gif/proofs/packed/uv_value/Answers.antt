@@ -1,7 +1,6 @@
 use Rattle.fields.proofs.FieldLaws.{bits_first, bits_low}
 use Rattle.gif.specs.Packed.{uv}
 use native.Mathlib.Omega.{arith}
-use borrow.Author.Rules.{rules}
 use Rattle.gif.proofs.packed.uv_value.Goals as goal
 
 pub returns : goal.returns

@@ -1,4 +1,3 @@
-use borrow.Author.Rules.{rules}
 use Rattle.gif.proofs.range.path_in_range.Goals as goal
 
 pub returns-in-Data : goal.returns-in-Data

@@ -1,7 +1,6 @@
 use Rattle.gif.proofs.RangeLaws.{range_last}
 use Rattle.gif.specs.Range.{tag_in_range}
 use borrow.Author.Tests.{le-leb, lt-leb}
-use borrow.Author.Rules.{rules}
 use Rattle.gif.proofs.range.tag_in_range.Goals as goal
 
 pub returns-then-tag-lt1 : goal.returns-then-tag-lt1

@@ -1,7 +1,6 @@
 use Rattle.gif.specs.Reglist.{reglist_write}
 use Rattle.fields.specs.Fields.{if}
 use mathlib.Core.Path.{sym, ◌∙◌}
-use borrow.Author.Rules.{rules}
 use Rattle.gif.proofs.reglist.halves.Goals as goal
 
 pub returns-then-silent-2 : goal.returns-then-silent-2

@@ -1,4 +1,3 @@
-use borrow.Author.Rules.{rules}
 use Rattle.gif.proofs.step.path_at_tag.Goals as goal
 
 pub returns : goal.returns

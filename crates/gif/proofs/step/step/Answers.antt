@@ -1,7 +1,6 @@
 use Rattle.gif.proofs.DataLaws.{by_place}
 use Rattle.gif.proofs.RangeLaws.{tag_fits}
 use Rattle.gif.specs.Step.{gif_step}
-use borrow.Author.Rules.{rules}
 use Rattle.gif.proofs.step.step.Goals as goal
 
 pub take_data-requires : goal.take_data-requires

@@ -1,5 +1,4 @@
 use Rattle.gif.proofs.DataLaws.{by_format}
-use borrow.Author.Rules.{rules}
 use Rattle.gif.proofs.step.take_data.Goals as goal
 
 pub returns-in-Packed : goal.returns-in-Packed

@@ -1,5 +1,4 @@
 use Rattle.gif.proofs.DataLaws.{packed_refused, packed_taken}
-use borrow.Author.Rules.{rules}
 use Rattle.gif.proofs.step.take_packed.Goals as goal
 
 pub returns-then-descriptor-eq11 : goal.returns-then-descriptor-eq11

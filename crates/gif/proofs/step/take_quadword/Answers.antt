@@ -2,7 +2,6 @@ use Rattle.gif.proofs.RangeLaws.{log_fits}
 use Rattle.gif.specs.Step.{take_of}
 use Rattle.fields.specs.Fields.{if}
 use mathlib.Core.Path.{sym, ◌∙◌}
-use borrow.Author.Rules.{rules}
 use Rattle.gif.proofs.step.take_quadword.Goals as goal
 
 pub returns-then-log_refused : goal.returns-then-log_refused

@@ -2,7 +2,6 @@ use Rattle.gif.proofs.TagLaws.{taken_most}
 use Rattle.gif.proofs.DataLaws.{reglist_refused_lem, reglist_taken}
 use borrow.Author.Tests.{eq-eqb, ne_eqb}
 use native.Mathlib.Omega.{arith}
-use borrow.Author.Rules.{rules}
 use Rattle.gif.proofs.step.take_reglist.Goals as goal
 
 pub overflow_mul-item : goal.overflow_mul-item

@@ -1,5 +1,4 @@
 use Rattle.gif.specs.Step.{tag_step}
-use borrow.Author.Rules.{rules}
 use Rattle.gif.proofs.step.take_tag.Goals as goal
 
 pub returns : goal.returns

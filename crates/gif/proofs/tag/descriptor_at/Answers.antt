@@ -2,7 +2,6 @@ use mathlib.Core.Path.{refl}
 use native.Mathlib.Omega.{arith}
 use Rattle.gif.specs.Tag.{descriptor_at}
 use Rattle.gif.proofs.TagLaws.{nibble_fits}
-use borrow.Author.Rules.{rules}
 use Rattle.gif.proofs.tag.descriptor_at.Goals as goal
 
 pub descriptor_in-requires : goal.descriptor_in-requires

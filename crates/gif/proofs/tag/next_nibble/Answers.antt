@@ -1,7 +1,6 @@
 use mathlib.Core.Path.{sym}
 use native.Mathlib.Nat.{mod_self, mod-eq_of_lt}
 use native.Mathlib.Omega.{arith}
-use borrow.Author.Rules.{rules}
 use Rattle.gif.proofs.tag.next_nibble.Goals as goal
 
 pub returns-then-nibble-nreg : goal.returns-then-nibble-nreg

@@ -1,6 +1,5 @@
 use Rattle.gif.specs.Tag.{place_after}
 use Rattle.gif.specs.Inner.{place_after_many}
-use borrow.Author.Rules.{rules}
 use Rattle.gif.proofs.tag.place_after.Goals as goal
 
 pub returns : goal.returns

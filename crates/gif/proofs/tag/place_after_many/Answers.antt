@@ -1,7 +1,6 @@
 use Rattle.gif.specs.Inner.{place_after_many}
 use Rattle.fields.specs.Fields.{if}
 use borrow.Author.Tests.{eq-eqb, ne_eqb}
-use borrow.Author.Rules.{rules}
 use Rattle.gif.proofs.tag.place_after_many.Goals as goal
 
 pub returns-then-tag-n : goal.returns-then-tag-n

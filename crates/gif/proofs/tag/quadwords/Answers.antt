@@ -1,7 +1,6 @@
 use Rattle.gif.proofs.TagLaws.{product_most}
 use Rattle.gif.specs.Tag.{quadwords_of}
 use native.Mathlib.Omega.{arith}
-use borrow.Author.Rules.{rules}
 use Rattle.gif.proofs.tag.quadwords.Goals as goal
 
 pub overflow_mul-result : goal.overflow_mul-result
