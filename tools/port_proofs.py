@@ -196,11 +196,16 @@ def transform(fn, body, var, place, warn, nokeep=False):
             if not rest:
                 out.append('c' if segs or t != var else 'c')
                 i = e; continue
+            if rest[0] == 'pre' and fn.step(p, 'pre') is None: rest = ['requires'] + rest[1:]
+            if rest[0] == 'well-formed': rest = ['well_formed'] + rest[1:]
             s = rest[0]
             if s in KEEP and fn.step(p, s) is None or s in ('args', 'requires', 'ranges'):
                 out.append('c.' + '.'.join(rest))
             else:
                 new = fn.step(p, s)
+                if new is None and fn.step(place, s) is not None:
+                    p = place
+                    new = fn.step(p, s)
                 arm = fn.arm(p, s, rest[1:])
                 if arm is not None:
                     out.append('c.' + '.'.join(arm))
@@ -208,7 +213,9 @@ def transform(fn, body, var, place, warn, nokeep=False):
                     warn.append(f'no step {s} at {p}')
                     out.append('c.' + '.'.join(rest))
                 else:
-                    out.append('c.' + '.'.join([new] + fn.clause(p, s, rest[1:])))
+                    tl = fn.clause(p, s, rest[1:])
+                    if new.startswith('if-') or new.endswith('-test'): tl = [{'taken': 'true', 'left': 'false'}.get(x, x) if i2 == 0 else x for i2, x in enumerate(tl)]
+                    out.append('c.' + '.'.join([new] + tl))
             i = e; continue
         out.append(t); i += 1
     return ''.join(out)
@@ -222,7 +229,22 @@ def loop_body(body, args, vars_, changed):
         table[a] = 'l.' + v
     toks = TOK.findall(body)
     out = []
+    depth = 0
+    shadow = []
     for k, t in enumerate(toks):
+        if t in '([{' and len(t) == 1: depth += 1
+        elif t in ')]}' and len(t) == 1:
+            depth -= 1
+            shadow = [(x, dd) for x, dd in shadow if dd <= depth]
+        if t in ('λ', '(') and not (out and out[-1] == '.'):
+            mm = re.match(r'λ ((?:\([^:()]*:[^()]*\) ?|[^\s.()]+ ?)+)\.', ''.join(toks[k:])) if t == 'λ' else re.match(r'\(([^:()\n]*) : [^()]*\) →', ''.join(toks[k:]))
+            if mm:
+                if t == 'λ':
+                    names = re.findall(r'\(([^:()]*):', mm[1]); names = [y for x in names for y in x.split()] + re.sub(r'\([^()]*\)', ' ', mm[1]).split()
+                    shadow += [(x, depth) for x in names]
+                else: shadow += [(x, depth - 1) for x in mm[1].split()]
+        if t in table and any(x == t for x, dd in shadow):
+            out.append(t); continue
         if t in table and not (out and out[-1] == '.'):
             # a field label of a record: NAME : or NAME =
             rest = ''.join(toks[k+1:k+4])
@@ -300,7 +322,7 @@ def convert(path, key, d, crate):
                 warn.append(f'{a}: by name {idx}, by place {k}'); idx = k
             answers.append((idx, a)); named.add(a)
         else:
-            mm = re.match(r'\(λ (.*?)\. (.*)\)$', a, re.S)
+            mm = re.match(r'\(λ ([^.]*)\.\s+(.*)\)$', a, re.S)
             if mm and re.sub(r'\s+', ' ', mm[2]) == 'search rules': continue
             if len(rest) != len(needs):
                 warn.append(f'inline answer at {k} of {len(rest)}: {a}'); continue
@@ -319,6 +341,13 @@ def convert(path, key, d, crate):
     for n, b in sigs.items():
         if re.search(r'statement M', '\n'.join(b)): main_spec = n
     helpers_inv = set()
+    munf = None
+    if main_spec:
+        mm = re.search(r'^unfolding .*$', '\n'.join(sigs[main_spec]), re.M)
+        if mm: munf = mm[0]
+    for k, a in enumerate(rest):
+        mm = re.match(r'\(λ (.*?)\. (.*)\)$', a, re.S) if a not in sigs else None
+        if munf and mm and re.sub(r'\s+', ' ', mm[2]) == 'search rules' and 'κs' not in mm[1].split() and len(rest) == len(needs): inline.append((k, a))
     # invariants
     loopsby = {norm(o[0]): (o, vs, ch) for (o, vs), ch in zip(loops, d['changed'])}
     for a in invs + meas:
@@ -361,19 +390,21 @@ def convert(path, key, d, crate):
                     if o2 != n2: nb = re.sub(r'(?<![\w.\'-])' + re.escape(o2) + r'(?![\w\'-])', n2, nb) if re.search(r'(?<![\w.\'-])' + re.escape(o2) + r' c\b', nb) else nb
                 if re.sub(r'\s+', ' ', nb).strip() in ('search rules', 'search needs') and not unf: continue
                 if nb.startswith('\n') and False: pass
-                out_ans.append('\n'.join(comm + [f'pub {new} : goal.{new}'] + ([unf[0]] if unf else []) + [f'{new} c ={nb}']))
+                more = ''.join(' ' + x for x in la[1:] if x != 'κs')
+                out_ans.append('\n'.join(comm + [f'pub {new} : goal.{new}'] + ([unf[0]] if unf else []) + [f'{new} c{more} ={nb}']))
         else:
             if 'tie.' in t or re.search(r'\bLts\b', t): warn.append(f'helper {n} names the walk')
             out_ans.append(t)
     for k, a in inline:
-        mm = re.match(r'\(λ (.*?)\. (.*)\)$', a, re.S)
+        mm = re.match(r'\(λ ([^.]*)\.\s+(.*)\)$', a, re.S)
         new = needs[k][1]
         if not mm:
             # a lemma given as the answer
             out_ans.append(f'pub {new} : goal.{new}\n{new} c = {a} c'); warn.append(f'an answer that is {a}'); continue
         var = mm[1].split()[0]
+        more = ''.join(' ' + x for x in mm[1].split()[1:] if x != 'κs')
         nb = transform(fn, ' ' + mm[2], var, fn.asked[k][0], warn)
-        out_ans.append(f'pub {new} : goal.{new}\n{new} c ={nb}')
+        out_ans.append(f'pub {new} : goal.{new}\n' + (munf + '\n' if munf else '') + f'{new} c{more} ={nb}')
     res = {}
     if out_inv:
         res['Invariants.antt'] = '\n'.join(imports + [f'use {base}.Given as goal']) + '\n\n' + '\n\n'.join(out_inv) + '\n'

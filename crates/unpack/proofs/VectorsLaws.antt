@@ -19,7 +19,7 @@ use Rattle.unpack_rules.specs.Vector.{element, extended, extended_at, vector_at}
 use Rattle.unpack_rules.specs.Position.{filling, fills, vectors_before, writes_done}
 use Rattle.unpack_rules.specs.Mask.{row_of_cycle}
 use Rattle.unpack_rules.specs.Range.{payload_for}
-use Rattle.unpack_rules.specs.Write.{field_of, put_field, written_at, Written, written, write_vector, registers_at, last_vector, write_at, writes_from}
+use Rattle.unpack_rules.specs.Write.{field_of, put_field, written_at, Written, write_vector, registers_at, last_vector, write_at, writes_from}
 use Rattle.unpack_rules.specs.Step.{taken_words, acting, done_after}
 use Rattle.unpack_rules.specs.Inner.{Width, eight, sixteen, whole}
 use Rattle.unpack_rules.specs.Whole.{words_from, take_words, store_quadword}

@@ -1,5 +1,5 @@
 -- Where a write goes and which vector it takes: document 01's positions, and document 02's filling write (request 3). CL and WL are the cycle.
-use Rattle.std.specs.Prelude.{ℕ, zero, suc, ◌+◌, ◌-◌, ◌*◌, ◌/◌, ◌%◌, min, Bool, ◌&&◌, nat_le, nat_lt}
+use Rattle.std.specs.Prelude.{ℕ, zero, suc, ◌+◌, ◌*◌, ◌/◌, ◌%◌, min, Bool, ◌&&◌, nat_le, nat_lt}
 use Rattle.fields.specs.Fields.{if}
 
 -- "IMM bits 0-9 address A": addresses of quadwords have ten bits, also where a memory is smaller

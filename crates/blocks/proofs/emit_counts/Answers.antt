@@ -1,0 +1,6 @@
+use mathlib.Core.Path.{◌∙◌}
+use borrow.Author.Rules.{rules}
+use Rattle.blocks.proofs.emit_counts.Goals as goal
+
+pub returns : goal.returns
+returns c = c.emit_longs.ensures ∙ rw c.count_numbers-numbers.ensures

@@ -1,0 +1,6 @@
+use Rattle.chain.proofs.BurstLaws.{burst_none}
+use borrow.Author.Rules.{rules}
+use Rattle.chain.proofs.burst.burst.Goals as goal
+
+pub returns-in-From : goal.returns-in-From
+returns-in-From c = rw c.no_burst.ensures (burst_none _ _ _)

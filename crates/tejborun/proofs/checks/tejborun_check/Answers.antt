@@ -1,0 +1,11 @@
+use Rattle.tejborun.proofs.CheckLaws.{check_short, check_told}
+use borrow.Author.Rules.{rules}
+use Rattle.tejborun.proofs.checks.tejborun_check.Goals as goal
+
+pub returns-then-res-lt15 : goal.returns-then-res-lt15
+returns-then-res-lt15 c = check_short _ _ _ _ _ c.if-res-lt15.true
+
+pub returns : goal.returns
+returns c =
+    check_told _ _ _ _ _ c.if-res-lt15.false c.check_chain-r.ensures c.number.ensures c.offset.ensures c.put_after_three.ensures
+    c.kind.ensures

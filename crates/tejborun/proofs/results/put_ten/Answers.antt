@@ -1,0 +1,32 @@
+use native.Mathlib.Omega.{arith}
+use lib.ListN.{length-set}
+use Rattle.tejborun.proofs.BufferLaws.{numbers_stored}
+use borrow.Author.Rules.{rules}
+use Rattle.tejborun.proofs.results.put_ten.Goals as goal
+
+pub bounds-res-1 : goal.bounds-res-1
+bounds-res-1 c = simp length-set (omega arith)
+
+pub bounds-res-2 : goal.bounds-res-2
+bounds-res-2 c = simp length-set (omega arith)
+
+pub bounds-res-3 : goal.bounds-res-3
+bounds-res-3 c = simp length-set (omega arith)
+
+pub bounds-res-4 : goal.bounds-res-4
+bounds-res-4 c = simp length-set (omega arith)
+
+pub bounds-res-5 : goal.bounds-res-5
+bounds-res-5 c = simp length-set (omega arith)
+
+pub bounds-res-6 : goal.bounds-res-6
+bounds-res-6 c = simp length-set (omega arith)
+
+pub bounds-res-7 : goal.bounds-res-7
+bounds-res-7 c = simp length-set (omega arith)
+
+pub bounds-res-8 : goal.bounds-res-8
+bounds-res-8 c = simp length-set (omega arith)
+
+pub returns : goal.returns
+returns c = numbers_stored _ _ c.requires

@@ -1,0 +1,6 @@
+use Rattle.tejborun.proofs.BufferLaws.{numbers_stored}
+use borrow.Author.Rules.{rules}
+use Rattle.tejborun.proofs.results.put_two.Goals as goal
+
+pub returns : goal.returns
+returns c = numbers_stored _ _ c.requires

@@ -1,0 +1,20 @@
+use mathlib.Core.Path.{◌≡◌}
+use Prim.Native.Nat.{ℕ, suc, ◌+◌, ◌*◌, ◌-◌, ◌%◌, ◌≤◌}
+use lib.ListN.{length}
+use Rattle.unpack.specs.Short.{stores_from, quad_from}
+use Rattle.unpack.proofs.copy.copy_runs.Given as goal
+
+abbrev pub invariant-loop-i : goal.invariant-loop-i
+invariant-loop-i l =
+    record {
+      sizes : length l.data ≡ length l.initial.data;
+      late : l.first ≤ l.i;
+      few : l.i ≤ l.last;
+      byte : l.at + 16 * l.first ≡ l.a + 16 * l.i;
+      same :
+          stores_from (λ (i : ℕ). (l.address + i) % l.size) (λ (i : ℕ). quad_from l.main (l.a + 16 * suc i - 16 * suc l.first)) (l.last - l.i) l.i l.data
+          ≡ stores_from (λ (i : ℕ). (l.address + i) % l.size) (λ (i : ℕ). quad_from l.main (l.a + 16 * suc i - 16 * suc l.first)) (l.last - l.first) l.first l.initial.data;
+    }
+
+abbrev pub decreases-loop-i : goal.decreases-loop-i
+decreases-loop-i l = l.last - l.i

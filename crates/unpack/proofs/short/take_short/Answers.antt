@@ -1,0 +1,42 @@
+use native.Mathlib.Omega.{arith}
+use Rattle.unpack_rules.proofs.CycleLaws.{done_most}
+use Rattle.unpack.proofs.ShortLaws.{word_waits, word_short, numbers}
+use Rattle.unpack.proofs.short.take_short.Goals as goal
+
+pub returns-then-u-ne1 : goal.returns-then-u-ne1
+returns-then-u-ne1 c = word_waits _ c.requires c.if-u-ne1.true
+
+pub overflow_sub-v : goal.overflow_sub-v
+overflow_sub-v c = let n = numbers c.requires in omega (arith, c.vectors_before.ensures)
+
+pub overflow_sub-v-2 : goal.overflow_sub-v-2
+overflow_sub-v-2 c =
+    let n = numbers c.requires in
+    omega (arith, c.vectors_before.ensures, c.if-u-ne1.false)
+
+pub writes_done-first-requires : goal.writes_done-first-requires
+writes_done-first-requires c =
+    let x = c.requires in
+    let n = numbers x in
+    let v = c.vectors_before.ensures in
+    (x.cycle, n.cycle, omega arith, omega arith)
+
+pub overflow_add-v : goal.overflow_add-v
+overflow_add-v c = let n = numbers c.requires in omega (arith, c.vectors_before.ensures)
+
+pub writes_done-last-requires : goal.writes_done-last-requires
+writes_done-last-requires c =
+    let x = c.requires in
+    let n = numbers x in
+    let v = c.vectors_before.ensures in
+    let l = c.if-u-ne1.false in
+    (x.cycle, n.cycle, omega arith, omega arith)
+
+pub store_each-requires : goal.store_each-requires
+store_each-requires c =
+    let x = c.requires in
+    (x.cycle, x.memory, x.unpacking.inside, done_most _ _ _ _ x.cycle.some (numbers x).few c.writes_done-last.ensures)
+
+pub returns : goal.returns
+returns c =
+    word_short _ c.requires c.if-u-ne1.false (rw c.vectors_before.ensures) c.writes_done-first.ensures c.writes_done-last.ensures c.four-words.ensures c.store_each.ensures

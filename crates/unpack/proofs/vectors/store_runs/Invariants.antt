@@ -1,0 +1,21 @@
+use mathlib.Core.Path.{◌≡◌}
+use Prim.Native.Nat.{ℕ, ◌+◌, ◌*◌, ◌-◌, ◌%◌, ◌≤◌}
+use lib.ListN.{length}
+use Rattle.unpack.specs.Short.{stores_from}
+use Rattle.unpack.specs.Vectors.{vector_bytes, vector_from}
+use Rattle.unpack.proofs.vectors.store_runs.Given as goal
+
+abbrev pub invariant-loop-i : goal.invariant-loop-i
+invariant-loop-i l =
+    record {
+      sizes : length l.data ≡ length l.initial.data;
+      late : l.first ≤ l.i;
+      few : l.i ≤ l.last;
+      byte : l.at ≡ l.a + vector_bytes l.f * (l.i - l.first);
+      same :
+          stores_from (λ (i : ℕ). (l.address + i) % l.size) (vector_from l.f l.usn l.main l.a l.first) (l.last - l.i) l.i l.data
+          ≡ stores_from (λ (i : ℕ). (l.address + i) % l.size) (vector_from l.f l.usn l.main l.a l.first) (l.last - l.first) l.first l.initial.data;
+    }
+
+abbrev pub decreases-loop-i : goal.decreases-loop-i
+decreases-loop-i l = l.last - l.i

@@ -1,0 +1,6 @@
+use Rattle.unpack_rules.specs.Whole.{store_quadword}
+use Rattle.unpack.proofs.write.store_quadword.Goals as goal
+
+pub returns : goal.returns
+unfolding store_quadword
+returns c = c.store_words.ensures
