@@ -40,7 +40,7 @@ proofs:
 	mkdir -p build
 	echo none > build/ci.status
 	{ rt ci 2>&1; echo $$? > build/ci.status; } | tee build/ci.log; test "$$(cat build/ci.status)" = 0
-	grep '^rt: ok' build/ci.log | grep -v -q ', [0-9][0-9]* bad' || { echo 'a must-fail edit does not fit, or rt ci did not say ok' >&2; exit 1; }
+	@grep '^rt: ok' build/ci.log | grep -v -q ', [0-9][0-9]* bad' || { echo 'a must-fail edit does not fit, or rt ci did not say ok' >&2; exit 1; }
 
 # The second program's own points.
 second-test: second
