@@ -1,9 +1,9 @@
-# Nothing but calls of rt, cargo, cc, clang and the programs that they build. What is built here goes to build/ and target/.
+# Nothing but calls of rt, cargo, cc, clang and the programs that they build. What is built here goes to build/ and to crates/*/out/.
 .POSIX:
-.PHONY: all test proofs beside programs-built second-test compared check second bench host built command host-test host-built command-test sanitized-test demo install uninstall fuzz fuzz-build fuzz-run fuzz-text clean
+.PHONY: all test proofs second-test compared check second bench host library built command host-test host-built command-test sanitized-test demo install uninstall fuzz fuzz-build fuzz-run fuzz-text clean
 
 SECOND = build/second/release/second
-ARCHIVE = target/staticlib/libtejborun.a
+ARCHIVE = crates/tejborun/out/libtejborun.a
 
 CC = cc
 CFLAGS = -std=c11 -Wall -Wextra -Werror -O2 -Ibuild -Ihost/libmd -DSHA256_ONLY
@@ -26,49 +26,39 @@ JUDGE = build/judge/release/libjudge.a
 
 all: host
 
-# The tests: the proofs and edits, and beside them all else. The last line is rt ci's own, printed again only where everything passed.
+# The tests. The last line is rt ci's own, printed again only where everything passed.
 test:
-	rt fmt --check
 	mkdir -p build
-	rm -f build/ci.log build/ci.status
-	$(MAKE) -j 2 proofs beside
+	$(MAKE) -j 2 proofs second-test
+	$(MAKE) -j 2 compared host-built
+	build/host-test
+	$(MAKE) -j 2 command-test sanitized-test
 	@tail -n 1 build/ci.log
 
-# Every crate from nothing, and every edit. The edits and the crates of a level are tried so many at a time, with a barrier after them.
+# Every crate, every edit and every program: rt ci over the whole. An edit that no longer fits the text fails here, too.
 proofs:
-	{ RT_JOBS=8 rt ci 2>&1; echo $$? > build/ci.status; } | tee build/ci.log; test "$$(cat build/ci.status)" = 0
-
-# What needs no proof, or only those that rt ci has made before it tries the edits.
-beside:
-	$(MAKE) second-test
-	$(MAKE) programs-built
-	$(MAKE) compared
-	$(MAKE) host-built
-	build/host-test
-	$(MAKE) command-test
-	$(MAKE) sanitized-test
-
-# Waits for the programs that rt ci builds: once it tells of edits, every crate has been tried.
-programs-built:
-	until test -s build/ci.status || grep -q '^rt: must-fail' build/ci.log; do sleep 2; done
+	mkdir -p build
+	echo none > build/ci.status
+	{ rt ci 2>&1; echo $$? > build/ci.status; } | tee build/ci.log; test "$$(cat build/ci.status)" = 0
+	@grep '^rt: ok' build/ci.log | grep -v -q ', [0-9][0-9]* bad' || { echo 'a must-fail edit does not fit, or rt ci did not say ok' >&2; exit 1; }
 
 # The second program's own points.
 second-test: second
 	cargo test --quiet --release --offline --manifest-path second/Cargo.toml --target-dir build/second
 
-# The proved programs compared with the second program; both have been built.
+# The proved programs compared with the second program; both have been built (rt ci leaves each program in its crate's out/).
 compared:
-	$(SECOND) compare-gif target/bin/gif_replay 1,2,3 20000
-	$(SECOND) compare-vif target/bin/vif_replay 1,2,3 100000
-	$(SECOND) compare-capture target/bin/replay 1,2,3 2000
-	$(SECOND) compare-sheet target/bin/sheet_replay 1,2,3 2000
-	$(SECOND) compare-salvage target/bin/salvage_replay 1,2,3 2000
-	$(SECOND) compare-check target/bin/check_replay 1,2,3 2000
-	$(SECOND) compare-totals target/bin/totals_replay 1,2,3 2000
+	$(SECOND) compare-gif crates/gif_replay/out/gif_replay 1,2,3 20000
+	$(SECOND) compare-vif crates/vif_replay/out/vif_replay 1,2,3 100000
+	$(SECOND) compare-capture crates/replay/out/replay 1,2,3 2000
+	$(SECOND) compare-sheet crates/sheet_replay/out/sheet_replay 1,2,3 2000
+	$(SECOND) compare-salvage crates/salvage_replay/out/salvage_replay 1,2,3 2000
+	$(SECOND) compare-check crates/check_replay/out/check_replay 1,2,3 2000
+	$(SECOND) compare-totals crates/totals_replay/out/totals_replay 1,2,3 2000
 
-# The proofs and the programs alone.
+# The proofs alone.
 check:
-	rt check
+	rt all check
 
 second:
 	cargo build --quiet --release --offline --manifest-path second/Cargo.toml --target-dir build/second
@@ -76,21 +66,25 @@ second:
 # Times beside the second program, in one run; the chains beside memcpy, too. make bench CHAINS=all measures more chains: every UNPACK format by itself, modes, a mask.
 CHAINS =
 bench: second
-	rt check gif_bench chain_bench sheet_bench salvage_replay
-	$(SECOND) bench-gif target/bin/gif_bench
-	$(SECOND) bench-chain target/bin/chain_bench $(CHAINS)
-	$(SECOND) bench-sheet target/bin/sheet_bench
-	$(SECOND) bench-salvage target/bin/salvage_replay
+	for p in gif_bench chain_bench sheet_bench salvage_replay; do (cd crates/$$p && rt run < /dev/null > /dev/null) || exit 1; done
+	$(SECOND) bench-gif crates/gif_bench/out/gif_bench
+	$(SECOND) bench-chain crates/chain_bench/out/chain_bench $(CHAINS)
+	$(SECOND) bench-sheet crates/sheet_bench/out/sheet_bench
+	$(SECOND) bench-salvage crates/salvage_replay/out/salvage_replay
 
 # The command for the bench, over the proved library.
-host:
-	rt staticlib tejborun
+host: library
 	$(MAKE) command
+
+library:
+	mkdir -p build
+	echo none > build/library.status
+	{ (cd crates/tejborun && rt lib) 2>&1; echo $$? > build/library.status; } | tee build/tejborun.say; test "$$(cat build/library.status)" = 0
 
 # What the prover said of the library, and the library's sum, for the command to say.
 built:
 	mkdir -p build
-	{ echo "#define BUILT_PROOF \"$$(sed -n '/^logic=/p' target/log/tejborun.say 2> /dev/null | tail -n 1)\""; \
+	{ echo "#define BUILT_PROOF \"$$(sed -n '/^logic=/p' build/tejborun.say 2> /dev/null | tail -n 1)\""; \
 	  echo "#define BUILT_LIBRARY_SUM \"$$(sha256sum $(ARCHIVE) | cut -d ' ' -f 1)\""; } > build/built.h
 
 command: built
@@ -107,10 +101,10 @@ host-built: host
 	$(CC) $(CFLAGS) -o build/test-forms host/test_forms.c host/json.c
 
 command-test:
-	sh host/test.sh build/tejborun $(SECOND) target/bin
+	sh host/test.sh build/tejborun $(SECOND) crates/replay/out
 
 sanitized-test:
-	sh host/test.sh build/tejborun-sanitized $(SECOND) target/bin 40
+	sh host/test.sh build/tejborun-sanitized $(SECOND) crates/replay/out 40
 
 # The command, its manual and completion, and the library with its headers; tejborun_message is put into it.
 install:
@@ -140,8 +134,7 @@ demo: host
 	sh examples/demo.sh build/tejborun build/demo
 
 # The C interface against the second program, by a fuzzer: each entry point for FUZZ_SECONDS, until the first finding (docs/FUZZING.md).
-fuzz:
-	rt staticlib tejborun
+fuzz: library
 	$(MAKE) fuzz-build
 	$(MAKE) fuzz-run
 
@@ -167,4 +160,4 @@ fuzz-text: command
 		-artifact_prefix=build/fuzz/text- build/fuzz/corpus/text
 
 clean:
-	rm -rf build target
+	rm -rf build crates/*/out

@@ -1,6 +1,6 @@
 #!/bin/sh
 # Tests of the command: sh host/test.sh COMMAND SECOND PROGRAMS [EVERY]
-# COMMAND is the command, SECOND the second program, PROGRAMS the folder of the proved programs (replay is used); test-forms lies beside the command. Of the generated captures every EVERYth
+# COMMAND is the command, SECOND the second program, PROGRAMS the folder where the proved program replay lies; test-forms lies beside the command. Of the generated captures every EVERYth
 # one is tried, the 10th where it is not given, and of the sheets five times as many. Prints what it did and stops at the first thing that is wrong.
 # TESTS=NAMES in the environment makes those tests alone: layout first, and of the older ones those that leave the files needed.
 # shellcheck disable=SC2046
