@@ -1,5 +1,4 @@
 use Rattle.chain.proofs.BurstLaws.{burst_none}
-use borrow.Author.Rules.{rules}
 use Rattle.chain.proofs.burst.burst.Goals as goal
 
 pub returns-in-From : goal.returns-in-From

@@ -1,6 +1,5 @@
 use Rattle.chain.proofs.ReadyLaws.{payload_next}
 use Rattle.chain.proofs.BurstLaws.{burst_none}
-use borrow.Author.Rules.{rules}
 use Rattle.chain.proofs.burst.give_payload.Goals as goal
 
 pub give_quadwords-requires : goal.give_quadwords-requires

@@ -1,5 +1,4 @@
 use mathlib.Core.Path.{◌∙◌}
-use borrow.Author.Rules.{rules}
 use Rattle.chain.proofs.BurstLaws.{words_given, words_fit}
 use Rattle.chain.proofs.burst.give_words.Goals as goal
 

@@ -1,4 +1,3 @@
-use borrow.Author.Rules.{rules}
 use Rattle.chain.proofs.burst.no_burst.Goals as goal
 
 pub returns : goal.returns

@@ -1,4 +1,3 @@
-use borrow.Author.Rules.{rules}
 use Rattle.chain.proofs.BurstLaws.{advance_burst, empty_ready, advance_one}
 use Rattle.chain.proofs.execution.advance.Goals as goal
 

@@ -1,4 +1,3 @@
-use borrow.Author.Rules.{rules}
 use Rattle.chain.proofs.RunLaws.{run_refused, run_entered}
 use Rattle.chain.proofs.execution.run.Goals as goal
 

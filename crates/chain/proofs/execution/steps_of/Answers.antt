@@ -1,12 +1,6 @@
-use borrow.Author.Rules.{rules}
-use mathlib.Core.Path.{◌≡◌, refl, sym, ap, ◌∙◌}
-use Prim.Native.Nat.{◌-◌, ◌≤◌}
+use mathlib.Core.Path.{refl, sym, ap, ◌∙◌}
 use native.Mathlib.Omega.{arith}
-use lib.ListN.{length}
-use Rattle.memories.specs.Lengths.{lent}
 use Rattle.chain.specs.declared.StepAnswer.TheVariants.{Completed}
-use Rattle.chain.specs.Inner.{Ready}
-use Rattle.chain.specs.Run.{counted, steps_of}
 use Rattle.chain.proofs.RunLaws.{ends_done, ends_out, steps_begin}
 use Rattle.chain.proofs.Theorems.{ready_along}
 use Rattle.chain.proofs.CountLaws.{run_fits}

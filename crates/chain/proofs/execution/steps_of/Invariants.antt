@@ -1,16 +1,9 @@
-use borrow.Author.Rules.{rules}
-use mathlib.Core.Path.{◌≡◌, refl, sym, ap, ◌∙◌}
+use mathlib.Core.Path.{◌≡◌}
 use Prim.Native.Nat.{◌-◌, ◌≤◌}
-use native.Mathlib.Omega.{arith}
 use lib.ListN.{length}
 use Rattle.memories.specs.Lengths.{lent}
-use Rattle.chain.specs.declared.StepAnswer.TheVariants.{Completed}
 use Rattle.chain.specs.Inner.{Ready}
 use Rattle.chain.specs.Run.{counted, steps_of}
-use Rattle.chain.proofs.RunLaws.{ends_done, ends_out, steps_begin}
-use Rattle.chain.proofs.Theorems.{ready_along}
-use Rattle.chain.proofs.CountLaws.{run_fits}
-use Rattle.chain.proofs.BurstLaws.{goes_on, ends_interrupt, ends_refused, summed}
 use Rattle.chain.proofs.execution.steps_of.Given as goal
 
 abbrev pub invariant-loop-data : goal.invariant-loop-data

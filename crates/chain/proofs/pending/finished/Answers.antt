@@ -1,5 +1,4 @@
 use Rattle.chain.specs.Run.{done}
-use borrow.Author.Rules.{rules}
 use Rattle.chain.proofs.pending.finished.Goals as goal
 
 pub returns-then-s : goal.returns-then-s

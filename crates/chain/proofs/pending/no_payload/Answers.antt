@@ -1,4 +1,3 @@
-use borrow.Author.Rules.{rules}
 use Rattle.chain.proofs.pending.no_payload.Goals as goal
 
 pub returns-in-Words : goal.returns-in-Words

@@ -1,5 +1,4 @@
 use mathlib.Core.Path.{sym, ◌∙◌}
-use borrow.Author.Rules.{rules}
 use Rattle.chain.proofs.pending.nothing_pending.Goals as goal
 
 pub returns-then-no_tags : goal.returns-then-no_tags

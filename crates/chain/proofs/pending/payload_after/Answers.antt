@@ -1,7 +1,6 @@
 use Rattle.chain_state.specs.Pending.{payload_after}
 use Rattle.fields.specs.Fields.{if}
 use borrow.Author.Tests.{le-leb, lt-leb}
-use borrow.Author.Rules.{rules}
 use Rattle.chain.proofs.pending.payload_after.Goals as goal
 
 pub returns-then-n-k : goal.returns-then-n-k

@@ -1,7 +1,6 @@
 use Rattle.chain_state.specs.Pending.{tags_after}
 use Rattle.fields.specs.Fields.{if}
 use borrow.Author.Tests.{eq-eqb, ne_eqb}
-use borrow.Author.Rules.{rules}
 use Rattle.chain.proofs.pending.tags_after.Goals as goal
 
 pub returns-then-a-eq3 : goal.returns-then-a-eq3

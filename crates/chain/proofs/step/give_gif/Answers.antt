@@ -1,4 +1,3 @@
-use borrow.Author.Rules.{rules}
 use Rattle.chain.proofs.StepLaws.{gif_gave, gif_same, by_gif}
 use Rattle.chain.proofs.step.give_gif.Goals as goal
 

@@ -1,4 +1,3 @@
-use borrow.Author.Rules.{rules}
 use Rattle.fields.specs.Fields.{if}
 use Rattle.chain.specs.Inner.{by_taken}
 use Rattle.chain.proofs.StepLaws.{vif_refuses, vif_gave, by_vif}

@@ -3,7 +3,6 @@ use Rattle.chain.proofs.ReadyLaws.{tag_word_inside}
 use Rattle.chain.specs.Step.{step_of}
 use native.Mathlib.Omega.{arith}
 use mathlib.Core.Path.{◌∙◌}
-use borrow.Author.Rules.{rules}
 use Rattle.chain.proofs.step.step.Goals as goal
 
 pub tags_after-requires : goal.tags_after-requires

@@ -4,7 +4,6 @@ use Rattle.chain.specs.Step.{payload_step}
 use Rattle.fields.specs.Fields.{if}
 use borrow.Author.Tests.{eq-eqb, ne_eqb}
 use mathlib.Core.Path.{◌∙◌}
-use borrow.Author.Rules.{rules}
 use Rattle.chain.proofs.step.take_payload.Goals as goal
 
 pub give_gif-requires : goal.give_gif-requires

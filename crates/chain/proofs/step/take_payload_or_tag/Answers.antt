@@ -3,7 +3,6 @@ use Rattle.chain.proofs.ReadyLaws.{tadr_below, main_most, payload_ready}
 use Rattle.fields.specs.Fields.{if}
 use borrow.Author.Tests.{eq-eqb, ne_eqb}
 use mathlib.Core.Path.{◌∙◌}
-use borrow.Author.Rules.{rules}
 use Rattle.chain.proofs.step.take_payload_or_tag.Goals as goal
 
 pub take_tag-requires : goal.take_tag-requires

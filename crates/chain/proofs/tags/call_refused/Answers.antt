@@ -1,5 +1,4 @@
 use borrow.Author.Tests.{eq-eqb, ne_eqb}
-use borrow.Author.Rules.{rules}
 use Rattle.chain.proofs.tags.call_refused.Goals as goal
 
 pub returns-then-id-eq5 : goal.returns-then-id-eq5

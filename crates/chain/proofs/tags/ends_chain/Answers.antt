@@ -1,6 +1,5 @@
 use Rattle.chain.specs.Tags.{ends_chain}
 use borrow.Author.Tests.{ne_eqb}
-use borrow.Author.Rules.{rules}
 use Rattle.chain.proofs.tags.ends_chain.Goals as goal
 
 pub returns-in-0 : goal.returns-in-0

@@ -1,5 +1,4 @@
 use mathlib.Core.Path.{sym, ◌∙◌}
-use borrow.Author.Rules.{rules}
 use Rattle.chain.proofs.tags.misaligned.Goals as goal
 
 pub returns-then-uses_addr : goal.returns-then-uses_addr

@@ -1,7 +1,6 @@
 use Rattle.chain.specs.Tags.{next_stack}
 use Rattle.fields.specs.Fields.{if}
 use borrow.Author.Tests.{ne_eqb}
-use borrow.Author.Rules.{rules}
 use Rattle.chain.proofs.tags.next_stack.Goals as goal
 
 pub returns-in-5 : goal.returns-in-5

@@ -1,7 +1,6 @@
 use Rattle.chain.specs.Tags.{next_tadr}
 use Rattle.fields.specs.Fields.{if}
 use borrow.Author.Tests.{ne_eqb}
-use borrow.Author.Rules.{rules}
 use Rattle.chain.proofs.tags.next_tadr.Goals as goal
 
 pub returns-in-1 : goal.returns-in-1

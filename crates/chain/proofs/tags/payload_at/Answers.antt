@@ -1,7 +1,6 @@
 use Rattle.chain.specs.Tags.{payload_at}
 use Rattle.fields.specs.Fields.{if}
 use mathlib.Core.Path.{sym, ◌∙◌}
-use borrow.Author.Rules.{rules}
 use Rattle.chain.proofs.tags.payload_at.Goals as goal
 
 pub returns-then-at_addr : goal.returns-then-at_addr

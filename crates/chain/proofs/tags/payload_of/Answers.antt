@@ -1,7 +1,6 @@
 use Rattle.chain.specs.Tags.{payload_of}
 use Rattle.fields.specs.Fields.{if}
 use borrow.Author.Tests.{eq-eqb, ne_eqb}
-use borrow.Author.Rules.{rules}
 use Rattle.chain.proofs.tags.payload_of.Goals as goal
 
 pub returns-then-qwc-eq0 : goal.returns-then-qwc-eq0

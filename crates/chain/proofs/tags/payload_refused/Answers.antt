@@ -1,7 +1,6 @@
 use Rattle.chain.proofs.TagLaws.{payload_near}
 use borrow.Author.Tests.{eq-eqb, ne_eqb}
 use native.Mathlib.Omega.{arith}
-use borrow.Author.Rules.{rules}
 use Rattle.chain.proofs.tags.payload_refused.Goals as goal
 
 pub returns-then-qwc-eq0 : goal.returns-then-qwc-eq0

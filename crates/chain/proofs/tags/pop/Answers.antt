@@ -1,6 +1,5 @@
 use Rattle.chain.proofs.TagLaws.{by_pop}
 use mathlib.Core.Path.{refl}
-use borrow.Author.Rules.{rules}
 use Rattle.chain.proofs.tags.pop.Goals as goal
 
 pub returns-in-Two : goal.returns-in-Two

@@ -1,6 +1,5 @@
 use Rattle.chain.proofs.TagLaws.{by_push}
 use mathlib.Core.Path.{refl}
-use borrow.Author.Rules.{rules}
 use Rattle.chain.proofs.tags.push.Goals as goal
 
 pub returns-in-Empty : goal.returns-in-Empty

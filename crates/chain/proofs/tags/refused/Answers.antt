@@ -1,4 +1,3 @@
-use borrow.Author.Rules.{rules}
 use Rattle.chain.proofs.tags.refused.Goals as goal
 
 pub returns : goal.returns

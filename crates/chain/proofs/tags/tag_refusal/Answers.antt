@@ -2,7 +2,6 @@ use Rattle.chain.specs.Tags.{tag_refusal}
 use Rattle.fields.specs.Fields.{if}
 use borrow.Author.Tests.{lt-ltb, le-ltb}
 use mathlib.Core.Path.{sym, ◌∙◌}
-use borrow.Author.Rules.{rules}
 use Rattle.chain.proofs.tags.tag_refusal.Goals as goal
 
 pub returns-then-size-tadr : goal.returns-then-size-tadr

@@ -1,5 +1,4 @@
 use Rattle.chain.specs.Tags.{tag_state}
-use borrow.Author.Rules.{rules}
 use Rattle.chain.proofs.tags.tag_state.Goals as goal
 
 pub returns : goal.returns

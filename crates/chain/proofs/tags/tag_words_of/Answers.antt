@@ -1,6 +1,5 @@
 use Rattle.chain.specs.Tags.{tag_words_of}
 use Rattle.fields.specs.Fields.{if}
-use borrow.Author.Rules.{rules}
 use Rattle.chain.proofs.tags.tag_words_of.Goals as goal
 
 pub returns-then-tte : goal.returns-then-tte

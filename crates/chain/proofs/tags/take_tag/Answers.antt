@@ -2,7 +2,6 @@ use Rattle.fields.specs.Memory.{long_at}
 use Rattle.chain.specs.Tags.{tag_refusal, tag_read}
 use Rattle.fields.specs.Fields.{if}
 use borrow.Author.Tests.{lt-ltb}
-use borrow.Author.Rules.{rules}
 use Rattle.chain.proofs.tags.take_tag.Goals as goal
 
 pub returns-then-main-tadr : goal.returns-then-main-tadr
