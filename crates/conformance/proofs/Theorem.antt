@@ -22,8 +22,7 @@ use Rattle.chain_state.specs.declared.StartResult.{StartResult}
 use Rattle.chain_state.specs.declared.State.{State}
 use Rattle.chain_state.specs.Range.{entry_refusal, state_in_range, start_in_range}
 use Rattle.chain_state.specs.Start.{started_from, start_of}
-use Rattle.chain.specs.Step.{machine}
-use Rattle.chain.specs.Run.{Ran, ran, counted, done, steps_of, run_of}
+use Rattle.chain.specs.Run.{Ran, ran, counted, steps_of, run_of}
 use Rattle.chain.proofs.ReadyLaws.{facts_of}
 use Rattle.chain.proofs.RunLaws.{run_done}
 use Rattle.chain.proofs.Theorems.{run_from_lem}

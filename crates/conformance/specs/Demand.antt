@@ -1,6 +1,6 @@
 -- Demand 3: a built chain anywhere in main memory, started and run from any acceptable saved state, ends with done in exactly the sheet's steps and leaves
 -- exactly the sheet's plain meaning.
-use Rattle.std.specs.Prelude.{ℕ, ◌+◌, ◌*◌, ◌%◌, ◌≤◌, false, List, [], ◌++◌, ◌≡◌, length, take, drop}
+use Rattle.std.specs.Prelude.{ℕ, ◌*◌, ◌%◌, ◌≤◌, false, List, [], ◌++◌, ◌≡◌, length, take, drop}
 use Rattle.gif.specs.declared.Place.TheVariants.{Idle}
 use Rattle.gif.specs.Log.{entry_size, entries_in}
 use Rattle.memories.specs.Lengths.{Lent}

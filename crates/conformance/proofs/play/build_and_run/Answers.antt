@@ -1,4 +1,3 @@
-use borrow.Author.Rules.{rules}
 use Rattle.conformance.proofs.AnswerLaws.{play_lengths, play_start, play_build, play_run}
 use Rattle.conformance.proofs.play.build_and_run.Goals as goal
 

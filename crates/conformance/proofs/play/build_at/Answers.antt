@@ -1,4 +1,3 @@
-use borrow.Author.Rules.{rules}
 use Rattle.conformance.proofs.AnswerLaws.{built_placed}
 use Rattle.conformance.proofs.play.build_at.Goals as goal
 

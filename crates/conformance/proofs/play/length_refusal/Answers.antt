@@ -1,4 +1,3 @@
-use borrow.Author.Rules.{rules}
 use borrow.Author.Tests.{eq-eqb, ne_eqb, lt-ltb}
 use Rattle.fields.specs.Fields.{if}
 use Rattle.chain_state.specs.Range.{main_refused}

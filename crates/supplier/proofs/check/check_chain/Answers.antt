@@ -1,4 +1,3 @@
-use borrow.Author.Rules.{rules}
 use Rattle.supplier.proofs.CheckLaws.{check_entry, check_sheet_lem, check_runs, check_ran_lem}
 use Rattle.supplier.proofs.check.check_chain.Goals as goal
 

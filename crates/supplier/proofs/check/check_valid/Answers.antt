@@ -1,4 +1,3 @@
-use borrow.Author.Rules.{rules}
 use Rattle.supplier.proofs.RunLaws.{lent_fits}
 use Rattle.supplier.proofs.CheckLaws.{words_copied}
 use Rattle.supplier.proofs.check.check_valid.Goals as goal

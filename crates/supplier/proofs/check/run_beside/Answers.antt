@@ -1,4 +1,3 @@
-use borrow.Author.Rules.{rules}
 use Rattle.supplier.proofs.CheckLaws.{ran_judges, ran_checked}
 use Rattle.supplier.proofs.check.run_beside.Goals as goal
 

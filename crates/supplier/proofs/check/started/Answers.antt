@@ -1,5 +1,4 @@
 use mathlib.Core.Path.{ap, ◌∙◌}
-use borrow.Author.Rules.{rules}
 use Rattle.chain_state.specs.declared.StartResult.{StartResult}
 use Rattle.supplier.specs.Check.{begun}
 use Rattle.supplier.proofs.check.started.Goals as goal

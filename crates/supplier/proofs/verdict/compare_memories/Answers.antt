@@ -1,5 +1,4 @@
 use mathlib.Core.Path.{◌∙◌}
-use borrow.Author.Rules.{rules}
 use Rattle.supplier.proofs.CheckLaws.{compare_never, compare_first}
 use Rattle.supplier.proofs.verdict.compare_memories.Goals as goal
 

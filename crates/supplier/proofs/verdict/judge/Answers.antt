@@ -1,4 +1,3 @@
-use borrow.Author.Rules.{rules}
 use Rattle.supplier.proofs.CheckLaws.{by_answer}
 use Rattle.supplier.proofs.verdict.judge.Goals as goal
 

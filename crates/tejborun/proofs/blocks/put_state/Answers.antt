@@ -1,6 +1,5 @@
 use Rattle.tejborun.proofs.BufferLaws.{block_written}
 use native.Mathlib.Omega.{arith}
-use borrow.Author.Rules.{rules}
 use Rattle.tejborun.proofs.blocks.put_state.Goals as goal
 
 pub returns : goal.returns

@@ -1,5 +1,4 @@
 use native.Mathlib.Omega.{arith}
-use borrow.Author.Rules.{rules}
 use Rattle.tejborun.proofs.BoardLaws.{told_by_lem}
 use Rattle.tejborun.proofs.boards.put_answer.Goals as goal
 

@@ -1,4 +1,3 @@
-use borrow.Author.Rules.{rules}
 use Rattle.tejborun.proofs.BoardLaws.{refused_small, compare_short, compare_told}
 use Rattle.tejborun.proofs.boards.tejborun_compare.Goals as goal
 

@@ -1,4 +1,3 @@
-use borrow.Author.Rules.{rules}
 use Rattle.tejborun.proofs.BoardLaws.{refused_small_within, within_short, within_told}
 use Rattle.tejborun.proofs.boards.tejborun_compare_within.Goals as goal
 

@@ -1,5 +1,4 @@
 use Rattle.tejborun.proofs.CheckLaws.{check_short, check_told}
-use borrow.Author.Rules.{rules}
 use Rattle.tejborun.proofs.checks.tejborun_check.Goals as goal
 
 pub returns-then-res-lt15 : goal.returns-then-res-lt15

@@ -1,5 +1,4 @@
 use Rattle.tejborun.proofs.PlayLaws.{play_no_block, play_short, play_done}
-use borrow.Author.Rules.{rules}
 use Rattle.tejborun.proofs.play.tejborun_build_and_run.Goals as goal
 
 pub returns-then-block-ne-STATE_WORDS : goal.returns-then-block-ne-STATE_WORDS

@@ -1,4 +1,3 @@
-use borrow.Author.Rules.{rules}
 use Rattle.tejborun.proofs.ReasonLaws.{by_reason}
 use Rattle.tejborun.proofs.reasons.put_reason.Goals as goal
 

@@ -1,4 +1,3 @@
-use borrow.Author.Rules.{rules}
 use Rattle.tejborun.proofs.ReasonLaws.{why_no_block, why_short, why_done}
 use Rattle.tejborun.proofs.reasons.tejborun_why.Goals as goal
 

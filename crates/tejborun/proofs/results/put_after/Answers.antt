@@ -1,6 +1,5 @@
 use native.Mathlib.Omega.{arith}
 use lib.ListN.{length-set}
-use borrow.Author.Rules.{rules}
 use Rattle.tejborun.proofs.BufferLaws.{rest_length, numbers_after, after_length}
 use Rattle.tejborun.proofs.results.put_after.Goals as goal
 

@@ -1,6 +1,5 @@
 use native.Mathlib.Omega.{arith}
 use lib.ListN.{length-set}
-use borrow.Author.Rules.{rules}
 use Rattle.tejborun.proofs.BufferLaws.{numbers_stored}
 use Rattle.tejborun.proofs.results.put_after_three.Goals as goal
 

@@ -1,7 +1,6 @@
 use native.Mathlib.Omega.{arith}
 use lib.ListN.{length-set}
 use Rattle.tejborun.proofs.BufferLaws.{numbers_stored}
-use borrow.Author.Rules.{rules}
 use Rattle.tejborun.proofs.results.put_ten.Goals as goal
 
 pub bounds-res-1 : goal.bounds-res-1

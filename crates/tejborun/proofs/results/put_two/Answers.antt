@@ -1,5 +1,4 @@
 use Rattle.tejborun.proofs.BufferLaws.{numbers_stored}
-use borrow.Author.Rules.{rules}
 use Rattle.tejborun.proofs.results.put_two.Goals as goal
 
 pub returns : goal.returns

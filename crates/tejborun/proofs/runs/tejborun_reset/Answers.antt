@@ -1,5 +1,4 @@
 use Rattle.tejborun.proofs.RunLaws.{reset_short, reset_done}
-use borrow.Author.Rules.{rules}
 use Rattle.tejborun.proofs.runs.tejborun_reset.Goals as goal
 
 pub returns-then-block-ne-STATE_WORDS : goal.returns-then-block-ne-STATE_WORDS

@@ -1,5 +1,4 @@
 use Rattle.tejborun.proofs.RunLaws.{run_no_block, run_short, run_done}
-use borrow.Author.Rules.{rules}
 use Rattle.tejborun.proofs.runs.tejborun_run.Goals as goal
 
 pub returns-then-block-ne-STATE_WORDS : goal.returns-then-block-ne-STATE_WORDS

@@ -1,4 +1,3 @@
-use borrow.Author.Rules.{rules}
 use Rattle.tejborun.proofs.RunLaws.{set_short, set_done}
 use Rattle.tejborun.proofs.runs.tejborun_set.Goals as goal
 

@@ -1,5 +1,4 @@
 use Rattle.tejborun.proofs.RunLaws.{start_short, start_high, start_done}
-use borrow.Author.Rules.{rules}
 use Rattle.tejborun.proofs.runs.tejborun_start.Goals as goal
 
 pub returns-then-block-ne-STATE_WORDS : goal.returns-then-block-ne-STATE_WORDS

@@ -1,4 +1,3 @@
-use borrow.Author.Rules.{rules}
 use Rattle.tejborun.proofs.sheets.tejborun_build.Goals as goal
 
 pub returns : goal.returns

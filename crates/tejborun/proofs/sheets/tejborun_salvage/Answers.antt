@@ -1,5 +1,4 @@
 use Rattle.tejborun.proofs.SheetLaws.{salvage_short, salvage_told}
-use borrow.Author.Rules.{rules}
 use Rattle.tejborun.proofs.sheets.tejborun_salvage.Goals as goal
 
 pub returns-then-res-lt2 : goal.returns-then-res-lt2

@@ -1,5 +1,4 @@
 use Rattle.tejborun.proofs.SheetLaws.{steps_short, steps_told}
-use borrow.Author.Rules.{rules}
 use Rattle.tejborun.proofs.sheets.tejborun_steps.Goals as goal
 
 pub returns-then-res-lt2 : goal.returns-then-res-lt2

@@ -1,5 +1,4 @@
 use native.Mathlib.Omega.{arith}
-use borrow.Author.Rules.{rules}
 use lib.ListN.{length-set}
 use Rattle.tejborun.proofs.BufferLaws.{numbers_stored}
 use Rattle.tejborun.proofs.sums.put_totals.Goals as goal

@@ -1,4 +1,3 @@
-use borrow.Author.Rules.{rules}
 use Rattle.tejborun.proofs.TotalLaws.{not_eleven, too_few, enough, add_short, add_done}
 use Rattle.tejborun.proofs.sums.tejborun_add_totals.Goals as goal
 

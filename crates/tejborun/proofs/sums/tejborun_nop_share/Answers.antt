@@ -1,4 +1,3 @@
-use borrow.Author.Rules.{rules}
 use Rattle.tejborun.proofs.TotalLaws.{not_eleven, too_few, enough, share_short, share_done}
 use Rattle.tejborun.proofs.sums.tejborun_nop_share.Goals as goal
 
