@@ -2,7 +2,7 @@
 use mathlib.Core.Path.{◌≡◌, refl, sym, ap}
 use mathlib.Core.Bool.{Bool, true, false}
 use mathlib.Core.List.{List}
-use Prim.Native.Nat.{ℕ, ◌+◌, ◌*◌, ◌-◌, ◌≤◌}
+use Prim.Native.Nat.{ℕ, ◌+◌, ◌*◌, ◌≤◌}
 use native.Mathlib.Omega.{arith}
 use borrow.Author.Tests.{leb-true, leb-false, eqb-true, eqb-false}
 use lib.ListN.{length}
@@ -36,7 +36,7 @@ use Rattle.chain.specs.Step.{Stepped, refused_step, stepped_by, fed_unit, after_
 use Rattle.chain_state.specs.Setters.{held_by}
 use Rattle.chain.proofs.ReadyLaws.{payload_ready}
 use Rattle.chain.proofs.AfterLaws.{no_completed}
-use Rattle.history.specs.Trace.{Event, tag, payload, tag_word, tag_at, payload_at, payload_or_tag_at, pending_or_tag_at, event_of, qwc_in, payload_in, qwcs_in}
+use Rattle.history.specs.Trace.{Event, payload, tag_word, tag_at, payload_at, payload_or_tag_at, pending_or_tag_at, event_of, qwc_in, payload_in, qwcs_in}
 use Rattle.history.proofs.QuadwordLaws.{is_quadword, quadword_begins}
 
 -- an event, what is pending before the step, and the step, which counts the event's QWC by ID

@@ -1,3 +1,2 @@
 // Request 14's fact about histories of runs: definitions and theorems, no code.
 #![tactic(auto)]
-
