@@ -1,5 +1,4 @@
 use native.Mathlib.Omega.{arith}
-use borrow.Author.Rules.{rules}
 use Rattle.console.proofs.BlockLaws.{known_length, number_inside, number_refused, unit_refused, none_refused, waiting_refused, number_set_lem}
 use Rattle.console.proofs.block.set_in_block.Goals as goal
 

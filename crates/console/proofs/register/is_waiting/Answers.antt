@@ -1,4 +1,3 @@
-use borrow.Author.Rules.{rules}
 use Rattle.console.specs.Register.{is_waiting}
 use Rattle.console.proofs.register.is_waiting.Goals as goal
 
