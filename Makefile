@@ -32,7 +32,8 @@ test:
 	$(MAKE) -j 2 proofs second-test
 	$(MAKE) -j 2 compared host-built
 	build/host-test
-	$(MAKE) -j 2 command-test sanitized-test
+	$(MAKE) command-test
+	$(MAKE) sanitized-test
 	@tail -n 1 build/ci.log
 
 # Every crate, every edit and every program: rt ci over the whole. An edit that no longer fits the text fails here, too.

@@ -1,5 +1,4 @@
 use Rattle.blocks.proofs.Laws.{shown_known, shown_unknown}
-use borrow.Author.Rules.{rules}
 use Rattle.blocks.proofs.shown_block.Goals as goal
 
 pub returns-then-r : goal.returns-then-r

@@ -1,6 +1,5 @@
 use mathlib.Core.Path.{◌≡◌}
 use lib.ListN.{length}
-use borrow.Author.Rules.{rules}
 use Rattle.gif_replay.proofs.give_all.Given as goal
 
 abbrev pub invariant-loop-left : goal.invariant-loop-left

@@ -1,6 +1,5 @@
 use lib.Seq.{length-take-le}
 use mathlib.Core.Path.{sym}
-use borrow.Author.Rules.{rules}
 use Rattle.gif_replay.proofs.run_case.Goals as goal
 
 pub slice_bounds-run_whole-end-2 : goal.slice_bounds-run_whole-end-2

@@ -1,4 +1,3 @@
-use borrow.Author.Rules.{rules}
 use Rattle.vif_reason.proofs.CaseLaws.{by_incoming}
 use Rattle.vif_reason.proofs.direct_numbers.Goals as goal
 

@@ -1,4 +1,3 @@
-use borrow.Author.Rules.{rules}
 use Rattle.chain_reason.proofs.tag.tag_numbers.Goals as goal
 
 pub returns : goal.returns

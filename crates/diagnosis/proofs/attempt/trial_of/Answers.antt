@@ -1,4 +1,3 @@
-use borrow.Author.Rules.{rules}
 use Rattle.diagnosis.proofs.attempt.trial_of.Goals as goal
 
 pub returns-in-Done : goal.returns-in-Done

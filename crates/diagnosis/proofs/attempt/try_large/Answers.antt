@@ -1,5 +1,4 @@
 use mathlib.Core.Path.{refl}
-use borrow.Author.Rules.{rules}
 use Rattle.chain.proofs.UnitLaws.{channel_vif1}
 use Rattle.diagnosis.proofs.TrialLaws.{trial_tells}
 use Rattle.diagnosis.proofs.attempt.try_large.Goals as goal

@@ -1,4 +1,3 @@
-use borrow.Author.Rules.{rules}
 use Rattle.diagnosis.proofs.attempt.try_step.Goals as goal
 
 pub returns-then-s-eq0 : goal.returns-then-s-eq0

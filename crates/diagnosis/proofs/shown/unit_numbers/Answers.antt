@@ -1,4 +1,3 @@
-use borrow.Author.Rules.{rules}
 use Rattle.diagnosis.proofs.shown.unit_numbers.Goals as goal
 
 pub returns : goal.returns

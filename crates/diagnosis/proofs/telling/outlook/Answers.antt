@@ -1,5 +1,4 @@
 use mathlib.Core.Path.{refl}
-use borrow.Author.Rules.{rules}
 use Rattle.diagnosis.proofs.WhyLaws.{by_trial, room_lacking, room_enough}
 use Rattle.diagnosis.proofs.telling.outlook.Goals as goal
 

@@ -1,5 +1,4 @@
 use mathlib.Core.Path.{refl}
-use borrow.Author.Rules.{rules}
 use Rattle.diagnosis.proofs.WhyLaws.{by_outlook}
 use Rattle.diagnosis.proofs.telling.told.Goals as goal
 

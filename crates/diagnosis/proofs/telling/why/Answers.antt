@@ -1,5 +1,4 @@
 use mathlib.Core.Path.{sym, ◌∙◌}
-use borrow.Author.Rules.{rules}
 use Rattle.diagnosis.proofs.TrialLaws.{log_held}
 use Rattle.diagnosis.proofs.WhyLaws.{why_entry, why_ended, why_told}
 use Rattle.diagnosis.proofs.telling.why.Goals as goal
