@@ -1,4 +1,4 @@
-use Rattle.std.proofs.Common.{sym, length-take-le, rules}
+use Rattle.std.proofs.Common.{sym, length-take-le}
 use Rattle.chain_bench.proofs.time_on.Goals as goal
 
 pub slice_bounds-time-end-2 : goal.slice_bounds-time-end-2

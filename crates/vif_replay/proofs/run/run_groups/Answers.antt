@@ -1,4 +1,4 @@
-use Rattle.std.proofs.Common.{◌≡◌, ◌-◌, length, rules}
+use Rattle.std.proofs.Common.{rules}
 use Rattle.vif_replay.proofs.run.run_groups.Goals as goal
 
 pub overflow_add-k : goal.overflow_add-k
