@@ -1,5 +1,4 @@
 use Prim.Native.Nat.{◌-◌, ◌≤◌}
-use borrow.Author.Rules.{rules}
 use Rattle.check_replay.proofs.run_all.Given as goal
 
 abbrev pub invariant-loop-number : goal.invariant-loop-number

@@ -1,6 +1,5 @@
 use mathlib.Core.Path.{sym}
 use lib.Seq.{length-take-le}
-use borrow.Author.Rules.{rules}
 use Rattle.check_replay.proofs.take_memories.Goals as goal
 
 pub slice_bounds-run_case-end-2 : goal.slice_bounds-run_case-end-2

@@ -1,4 +1,4 @@
-use Rattle.std.proofs.Common.{sym, ◌∙◌, length-take-le, rules}
+use Rattle.std.proofs.Common.{sym, ◌∙◌, length-take-le}
 use Rattle.replay.proofs.next_case.Goals as goal
 
 pub slice_bounds-take_case-end-2 : goal.slice_bounds-take_case-end-2

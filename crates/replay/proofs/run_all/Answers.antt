@@ -1,4 +1,4 @@
-use Rattle.std.proofs.Common.{◌-◌, ◌≤◌, rules}
+use Rattle.std.proofs.Common.{rules}
 use Rattle.replay.proofs.run_all.Goals as goal
 
 pub overflow_add-number : goal.overflow_add-number

@@ -1,4 +1,4 @@
-use Rattle.std.proofs.Common.{sym, le_trans, length-take-le, rules}
+use Rattle.std.proofs.Common.{sym, le_trans, length-take-le}
 use Rattle.replay.proofs.take_small.Goals as goal
 
 pub slice_bounds-run_case-end-2 : goal.slice_bounds-run_case-end-2

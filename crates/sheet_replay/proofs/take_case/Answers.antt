@@ -1,4 +1,4 @@
-use Rattle.std.proofs.Common.{sym, length-take-le, rules}
+use Rattle.std.proofs.Common.{sym, length-take-le}
 use Rattle.sheet_replay.proofs.take_case.Goals as goal
 
 pub slice_bounds-take_memories-end : goal.slice_bounds-take_memories-end

@@ -1,4 +1,4 @@
-use Rattle.std.proofs.Common.{sym, length-take-le, rules}
+use Rattle.std.proofs.Common.{sym, length-take-le}
 use Rattle.sheet_replay.proofs.take_memories.Goals as goal
 
 pub slice_bounds-run_case-end-2 : goal.slice_bounds-run_case-end-2
