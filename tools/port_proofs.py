@@ -390,7 +390,6 @@ def convert(path, key, d, crate):
                 for o2, n2 in renamed.items():
                     if o2 != n2: nb = re.sub(r'(?<![\w.\'-])' + re.escape(o2) + r'(?![\w\'-])', n2, nb) if re.search(r'(?<![\w.\'-])' + re.escape(o2) + r' c\b', nb) else nb
                 if re.sub(r'\s+', ' ', nb).strip() in ('search rules', 'search needs') and not unf: continue
-                if nb.startswith('\n') and False: pass
                 more = ''.join(' ' + x for x in la[1:] if x != 'κs')
                 out_ans.append('\n'.join(comm + [f'pub {new} : goal.{new}'] + ([unf[0]] if unf else []) + [f'{new} c{more} ={nb}']))
         else:
