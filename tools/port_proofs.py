@@ -83,14 +83,8 @@ class Fn:
         return self.places[p][1] if p in self.places else None
 
     def step(self, p, seg):
-        q = p
-        first = True
-        while q is not None and q in self.places:
-            old, new = self.places[q][2]
-            if old and (same(old, seg) or (first and same(new, seg))):
-                return new
-            q = self.parent(q); first = False
-        return None
+        q = self.step_place(p, seg)
+        return self.places[q][2][1] if q is not None else None
 
     def step_place(self, p, seg):
         q = p
