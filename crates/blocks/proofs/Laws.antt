@@ -1,22 +1,18 @@
 -- What is shown, by cases.
-use mathlib.Core.Path.{◌≡◌, sym, ap, ◌∙◌}
-use mathlib.Core.Bool.{Bool, true, false}
-use mathlib.Core.List.{List}
-use Prim.Native.Nat.{ℕ}
+use Rattle.std.specs.Prelude.{◌≡◌, ℕ, Bool, true, false, List, Some, None}
+use Rattle.std.proofs.Common.{◌∙◌}
 use Rattle.fields.specs.Fields.{if}
 use Rattle.chain_state.specs.declared.State.{State}
-use Rattle.state_block.specs.declared.ReadState.{ReadState}
+use Rattle.state_block.specs.Read.{known_state}
 use Rattle.state_block.specs.StateBlock.{state_block, state_in_block}
+use Rattle.state_block.proofs.WordLaws.{then_is, then_none}
 use Rattle.blocks.specs.Shown.{shown_block}
 
-module _ (b : List ℕ) (s : State) {r : ReadState} (e : r ≡ state_in_block b) where
-  known_by : {t : Bool} → r.known ≡ t → (state_in_block b).known ≡ t
-  known_by h = sym (ap (λ (r : ReadState). r.known) e) ∙ h
-
-  pub shown_known : {x : List ℕ} → r.known ≡ true → x ≡ state_block s → x ≡ shown_block b s
+module _ (b : List ℕ) (s : State) where
+  pub shown_known : {t : State} {x : List ℕ} → Some t ≡ known_state (state_in_block b) → x ≡ state_block s → x ≡ shown_block b s
   unfolding shown_block if
-  shown_known h g = g ∙ rw (known_by h)
+  shown_known e g = g ∙ rw (then_is _ _ _ e).0
 
-  pub shown_unknown : r.known ≡ false → b ≡ shown_block b s
+  pub shown_unknown : None ≡ known_state (state_in_block b) → b ≡ shown_block b s
   unfolding shown_block if
-  shown_unknown h = rw (known_by h)
+  shown_unknown e = rw (then_none _ _ e)

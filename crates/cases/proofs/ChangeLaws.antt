@@ -1,33 +1,26 @@
 -- Changes counted and sent.
-use Rattle.std.proofs.Common.{◌≡◌, ℕ, suc, ◌+◌, ◌-◌, ◌%◌, ◌^◌, ◌<◌, ◌≤◌, List, [], ◌∷◌, ◌∙◌, zero-add, arith, eq-eqb, ne_eqb}
+use Rattle.std.proofs.Common.{◌≡◌, ℕ, suc, ◌+◌, ◌-◌, ◌%◌, ◌^◌, ◌<◌, ◌≤◌, List, [], ◌∷◌, ◌∙◌, zero-add, arith, refl, true, false, not, eqb, eq-eqb, ne_eqb}
 use native.Mathlib.Nat.{sub-zero}
-use Rattle.wire.specs.Words.{if, sent, sent_all}
+use mir.Val.{bool_byte}
+use Rattle.wire.specs.declared.Output.{Output}
+use Rattle.wire.specs.Words.{if, sent_all}
 use Rattle.cases.specs.Changes.{differs, count_from, counted, change_of, changes_from, changed}
 use Rattle.cases.proofs.Laws.{sent_append, Sending, sends_on, sends_end}
 
--- a word sent, and then others
-pub sent_cons : (y : ℕ) (ys out : List ℕ) (at : ℕ) {x m k : ℕ} {o p : List ℕ} → x ≡ y → sent o m ≡ sent_all out at (x ∷ []) → sent p k ≡ sent_all o m ys
-    → sent p k ≡ sent_all out at (y ∷ ys)
-sent_cons y ys out at e f g = rw (← e) (sent_append (_ ∷ []) ys out at f g)
-
 -- one number counted
-pub same_counted : (c x y : ℕ) → c < 2 ^ 32 → x ≡ y → c ≡ (c + differs x y) % 2 ^ 32
+pub counts_differ : (x y : ℕ) → bool_byte (not (eqb x y)) ≡ differs x y
 unfolding differs if
-same_counted c x y b h = rw (eq-eqb x y h) (omega arith)
+counts_differ x y = elim (eqb x y) as (λ t. bool_byte (not t) ≡ if t 0 1) [ true ↦ refl | false ↦ refl ]
 
-pub other_counted : (c x y : ℕ) {r : ℕ} → (x ≡ y → ⊥) → r ≡ (c + 1) % 2 ^ 32 → r ≡ (c + differs x y) % 2 ^ 32
-unfolding differs if
-other_counted c x y h e = e ∙ rw (ne_eqb x y h)
-
--- one change sent
-pub same_change : (out : List ℕ) (at i x y : ℕ) (ws : List ℕ) → x ≡ y → sent out at ≡ sent_all out at (change_of i ws x y)
+-- one change sent, or none
+pub same_change : (o : Output) (i x y : ℕ) (ws : List ℕ) → x ≡ y → o ≡ sent_all o.out o.at (change_of i ws x y)
 unfolding change_of if
-same_change out at i x y ws h = rw (eq-eqb x y h)
+same_change o i x y ws h = rw (eq-eqb x y h)
 
-pub other_change : (out : List ℕ) (at i x y : ℕ) (ws : List ℕ) {o p : List ℕ} {j m k : ℕ} → (x ≡ y → ⊥) → j ≡ i % 2 ^ 32
-    → sent o m ≡ sent_all out at (j ∷ []) → sent p k ≡ sent_all o m ws → sent p k ≡ sent_all out at (change_of i ws x y)
+pub other_change : (o : Output) (i x y : ℕ) (ws : List ℕ) {j : ℕ} {p q : Output} → (x ≡ y → ⊥) → j ≡ i % 2 ^ 32
+    → p ≡ sent_all o.out o.at (j ∷ []) → q ≡ sent_all p.out p.at ws → q ≡ sent_all o.out o.at (change_of i ws x y)
 unfolding change_of if
-other_change out at i x y ws h e f g = rw (ne_eqb x y h) (sent_cons (i % 2 ^ 32) ws out at e f g)
+other_change o i x y ws h e f g = rw (ne_eqb x y h) (sent_append o (i % 2 ^ 32 ∷ []) ws (rw e at f) g)
 
 -- a loop that counts the changes of n numbers modulo 2 ^ 32: those from number i on are left
 pub record Counting (g h : ℕ → ℕ) (n c i : ℕ) : Type 0 where
@@ -50,11 +43,11 @@ module _ {g h : ℕ → ℕ} {n : ℕ} where
       omega (arith, rw m at s.same)
 
 -- changes sent one after another
-module _ (w : ℕ → List ℕ) (g h : ℕ → ℕ) {n i : ℕ} {first : List ℕ} {from : ℕ} {out : List ℕ} {at : ℕ} (s : Sending (changes_from w g h) n first from out at i) where
-  pub changes_on : {x y : ℕ} {o : List ℕ} {m : ℕ} → i < n → x ≡ g i → y ≡ h i → sent o m ≡ sent_all out at (change_of i (w x) x y)
-      → Sending (changes_from w g h) n first from o m (i + 1)
+module _ (w : ℕ → List ℕ) (g h : ℕ → ℕ) {n i : ℕ} {first o : Output} (s : Sending (changes_from w g h) n first o i) where
+  pub changes_on : {x y : ℕ} {p : Output} → i < n → x ≡ g i → y ≡ h i → p ≡ sent_all o.out o.at (change_of i (w x) x y)
+      → Sending (changes_from w g h) n first p (i + 1)
   changes_on {x} {y} l p q e =
       sends_on (change_of i (w x) x y) s l (let k : n - i ≡ suc (n - (i + 1)) = omega arith in rw (k, p, q)) e
 
-  pub changes_end : n ≤ i → sent out at ≡ sent_all first from (changed w g h n)
+  pub changes_end : n ≤ i → o ≡ sent_all first.out first.at (changed w g h n)
   changes_end l = sends_end s (let m : n - i ≡ 0 = omega arith in rw m)

@@ -1,6 +1,6 @@
 -- What changed in a memory, as words (docs/FORMATS.md, "VIF cases"). Numbers beyond a memory's end are 0.
 use Rattle.std.specs.Prelude.{ℕ, zero, suc, ◌+◌, ◌/◌, ◌%◌, ◌^◌, List, [], ◌∷◌, ◌++◌, length, ◌==◌, slice_index}
-use Rattle.wire.specs.Words.{if}
+use Rattle.wire.specs.Words.{if, one, two}
 use Rattle.cases.specs.Memories.{ruled, byte_word}
 
 -- 1 where two numbers differ
@@ -28,17 +28,15 @@ counted g h n = count_from g h 0 n % 2 ^ 32
 abbrev pub changed : (ℕ → List ℕ) → (ℕ → ℕ) → (ℕ → ℕ) → ℕ → List ℕ
 changed w g h n = changes_from w g h 0 n
 
-abbrev pub one : ℕ → List ℕ
-one x = x ∷ []
-
-abbrev pub two : ℕ → List ℕ
-two x = x % 2 ^ 32 ∷ x / 2 ^ 32 ∷ []
-
 abbrev pub number_in : List ℕ → ℕ → ℕ
 number_in l i = slice_index l i
 
 abbrev pub words_in : List ℕ → ℕ
 words_in bytes = (length bytes + 3) / 4
+
+-- both
+abbrev pub changes : (ℕ → List ℕ) → (ℕ → ℕ) → (ℕ → ℕ) → ℕ → List ℕ
+changes w g h n = counted g h n ∷ changed w g h n
 
 -- of data memory, of code memory by 32-bit words, and of the log
 abbrev pub word_changes : List ℕ → List ℕ → List ℕ

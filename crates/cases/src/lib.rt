@@ -1,17 +1,24 @@
-// What the programs that run cases share: words of a header, memories as a case fills them, and memories and their changes as results show them.
+// What the programs that run cases share: cases read one after another, words of a header, memories as a case fills them, and memories and their changes as
+// results show them.
 #![tactic(auto)]
 
 mod changes;
-mod fill;
+mod filling;
 mod input;
-mod sum;
+mod memories;
+mod number;
+mod run;
+mod sums;
 mod whole;
 
-pub use changes::{tell_changes, tell_long_changes};
-pub use fill::{fill_bytes, fill_longs, fill_memories, fill_words};
-pub use input::{read_part, read_words, tell_damaged};
-pub use sum::{sum_of_bytes, sum_of_longs, sum_of_words};
-pub use whole::{emit_bytes, emit_longs, emit_memories};
+pub use changes::tell;
+pub use filling::fill;
+pub use input::{read_part, read_words, words_at};
+pub use memories::Memories;
+pub use number::{Number, Shown};
+pub use run::{Damaged, run_cases};
+pub use sums::sum;
+pub use whole::emit_bytes;
 
 // The most numbers of a log that a case gives, more than a log may have.
 pub const LOG_NUMBERS: usize = 196616;

@@ -1,4 +1,5 @@
 -- A machine that passed the entry tests passes them after each completed step.
+use Rattle.std.specs.Prelude.{None, Option, Some}
 use mathlib.Core.Path.{◌≡◌, refl, sym, ap, ◌∙◌}
 use mathlib.Core.Bool.{Bool, true, false, not, ◌&&◌, ◌||◌, or-true}
 use mathlib.Core.List.{List}
@@ -14,8 +15,7 @@ use Rattle.fields.specs.Refusals.{tadr_outside, addr_unaligned, scratchpad_set, 
 use Rattle.fields.proofs.FieldLaws.{bits_below}
 use Rattle.fields.proofs.ChoiceLaws.{and_left, and_right, if_ind, if_ind_by, if_zero}
 use Rattle.gif.specs.declared.GifPath.TheVariants.{Three}
-use Rattle.gif.specs.declared.GifAnswer.{GifAnswer}
-use Rattle.gif.specs.declared.GifAnswer.TheVariants.{Taken, Refused as GifRefused}
+use Rattle.gif.specs.GifAnswer.{GifAnswer, Taken, Refused as GifRefused}
 use Rattle.gif.specs.Step.{Left as GifLeft, gif_step}
 use Rattle.gif.proofs.LogLaws.{logged_length}
 use Rattle.gif.proofs.RangeLaws.{log_fits}
@@ -24,8 +24,7 @@ use Rattle.memories.specs.declared.VifUnit.{VifUnit}
 use Rattle.memories.specs.declared.VifUnit.TheVariants.{Vif0, Vif1}
 use Rattle.memories.specs.Lengths.{Lent}
 use Rattle.vif_codes.specs.declared.Vif.{Vif}
-use Rattle.vif_codes.specs.declared.VifAnswer.{VifAnswer}
-use Rattle.vif_codes.specs.declared.VifAnswer.TheVariants.{Word, Quadword, Refused as VifRefused}
+use Rattle.vif_codes.specs.VifAnswer.{VifAnswer, Word, Quadword, Refused as VifRefused}
 use Rattle.vif_codes.specs.Range.{unit_in_range}
 use Rattle.vif_codes.specs.Counting.{counts_in}
 use Rattle.vif.specs.Step.{Left as VifLeft}
@@ -33,12 +32,9 @@ use Rattle.vif.proofs.KeepLaws.{log_stays}
 use Rattle.vif.proofs.RangeKept.{step_ready}
 use Rattle.chain_state.specs.declared.Stack.{Stack}
 use Rattle.chain_state.specs.declared.Stack.TheVariants.{Empty, One, Two}
-use Rattle.chain_state.specs.declared.TagWords.{TagWords}
-use Rattle.chain_state.specs.declared.TagWords.TheVariants.{Nothing as NoTagWords, From}
 use Rattle.chain_state.specs.declared.Payload.{Payload}
 use Rattle.chain_state.specs.declared.Payload.TheVariants.{Nothing as NoPayload, Words}
-use Rattle.chain.specs.declared.StepAnswer.TheVariants.{Completed, Refused}
-use Rattle.chain.specs.declared.StepResult.{StepResult}
+use Rattle.chain.specs.StepAnswer.{Completed, Refused, StateStepped}
 use Rattle.chain_state.specs.declared.State.{State}
 use Rattle.fields.specs.Memory.{long_at, quadword_at}
 use Rattle.chain_state.specs.Setters.{pick_unit, with_pending, with_unit, held_by}
@@ -246,13 +242,13 @@ module _ {main : List ℕ} {s : State} {m : Lent} (r : Ready main s m) where
   tag_stays : Stays main (stepped_by (tag_step main s) m)
   unfolding tag_read
   tag_stays =
-      if_ind_by (λ (x : StepResult). Stays main (stepped_by x m))
+      if_ind_by (λ (x : StateStepped). Stays main (stepped_by x m))
       (eqb (tag_refusal (length main) s.tadr (id_of (long_at main s.tadr)) (addr_of (long_at main s.tadr)) (spr_of (long_at main s.tadr)) (qwc_of (long_at main s.tadr)) s.stack) 0)
       (λ e. record { stays = λ i q. tag_ready (long_at main s.tadr) (eqb-true _ 0 e) })
       (λ e. refused_stays main _ s m)
 
   -- what is pending after a step
-  record Pending (t : TagWords) (p : Payload) : Type 0 where
+  record Pending (t : Option ℕ) (p : Payload) : Type 0 where
     tags_ranged : tags_in_range t s.tte ≡ true
     payload_ranged : payload_in_range p s.channel ≡ true
     tags_within : tags_inside t (length main) ≡ true
@@ -267,7 +263,7 @@ module _ {main : List ℕ} {s : State} {m : Lent} (r : Ready main s m) where
   picked1 Vif0 v h = f.fields.unit1
   picked1 Vif1 v h = h
 
-  vif_stays : (a : ℕ) (t : TagWords) (p : ℕ → Payload) → Pending t (p 1) → Pending t (p 4) → Stays main (vif_given main a t p s m)
+  vif_stays : (a : ℕ) (t : Option ℕ) (p : ℕ → Payload) → Pending t (p 1) → Pending t (p 4) → Stays main (vif_given main a t p s m)
   unfolding vif_given
   vif_stays a t p one four = go (vif_took (fed_unit s) main a s m).answer _
     where
@@ -302,7 +298,7 @@ module _ {main : List ℕ} {s : State} {m : Lent} (r : Ready main s m) where
       go (VifRefused n) c = refused_stays main n s m
 
   -- tag words: word 3 follows word 2
-  tags_pending : (a : ℕ) → s.tags ≡ From a → Pending (tags_after a) s.payload
+  tags_pending : (a : ℕ) → s.tags ≡ Some a → Pending (tags_after a) s.payload
   unfolding tags_after tags_in_range tag_word_in_range tags_inside
   tags_pending a q =
       let t = rw q at f.fields.tags in
@@ -313,13 +309,13 @@ module _ {main : List ℕ} {s : State} {m : Lent} (r : Ready main s m) where
       let two = leb-true 2 (a / 4 % 4) (and_right (eqb (a % 4) 0) _ t1) in
       record {
         tags_ranged =
-            if_ind_by (λ (x : TagWords). tags_in_range x s.tte ≡ true) (eqb (a / 4 % 4) 3) (λ e. refl)
+            if_ind_by (λ (x : Option ℕ). tags_in_range x s.tte ≡ true) (eqb (a / 4 % 4) 3) (λ e. refl)
             (λ e.
             let z = eqb-false (a / 4 % 4) 3 e in
             rw (and_left s.tte _ t, eq-eqb ((a + 4) % 4) 0 (omega arith), le-leb 2 ((a + 4) / 4 % 4) (omega arith)));
         payload_ranged = f.fields.payload;
         tags_within =
-            if_ind_by (λ (x : TagWords). tags_inside x (length main) ≡ true) (eqb (a / 4 % 4) 3) (λ e. refl)
+            if_ind_by (λ (x : Option ℕ). tags_inside x (length main) ≡ true) (eqb (a / 4 % 4) 3) (λ e. refl)
             (λ e. let z = eqb-false (a / 4 % 4) 3 e in le-leb (16 * ((a + 4) / 16 + 1)) (length main) (omega arith));
         payload_within = f.payload_in_lem;
       }
@@ -400,9 +396,9 @@ module _ {main : List ℕ} {s : State} {m : Lent} (r : Ready main s m) where
   payload_or_tag_stays (Words at n) q =
       if_ind_by (Stays main) (eqb n 0) (λ e. tag_stays) (λ e. payload_stays at n (payload_ready r q (eqb-false n 0 e)))
 
-  pending_or_tag_stays : (t : TagWords) → s.tags ≡ t → Stays main (pending_or_tag t s.payload main s m)
-  pending_or_tag_stays NoTagWords q = payload_or_tag_stays s.payload refl
-  pending_or_tag_stays (From a) q = vif_stays a (tags_after a) (λ k. s.payload) (tags_pending a q) (tags_pending a q)
+  pending_or_tag_stays : (t : Option ℕ) → s.tags ≡ t → Stays main (pending_or_tag t s.payload main s m)
+  pending_or_tag_stays None q = payload_or_tag_stays s.payload refl
+  pending_or_tag_stays (Some a) q = vif_stays a (tags_after a) (λ k. s.payload) (tags_pending a q) (tags_pending a q)
 
   -- a machine in range stays in range
   pub step_stays : (x : Stepped) → x ≡ step_of main s m → (i : Bool) → x.answer ≡ Completed i → Ready main x.after.state x.after.memories
@@ -428,9 +424,9 @@ module _ (main : List ℕ) (s : State) (m : Lent) where
 
   tag_same : Same s m (stepped_by (tag_step main s) m)
   unfolding tag_read
-  tag_same = if_ind (λ (x : StepResult). Same s m (stepped_by x m)) _ (completed_same false _ _ m refl) (refused_same _)
+  tag_same = if_ind (λ (x : StateStepped). Same s m (stepped_by x m)) _ (completed_same false _ _ m refl) (refused_same _)
 
-  vif_given_same : (a : ℕ) (t : TagWords) (p : ℕ → Payload) → Same s m (vif_given main a t p s m)
+  vif_given_same : (a : ℕ) (t : Option ℕ) (p : ℕ → Payload) → Same s m (vif_given main a t p s m)
   unfolding vif_given
   vif_given_same a t p = go (vif_took (fed_unit s) main a s m).answer
     where
@@ -455,9 +451,9 @@ module _ (main : List ℕ) (s : State) (m : Lent) where
       if_ind (Same s m) (eqb n 0) tag_same
       (if_ind (Same s m) (eqb s.channel 2) (gif_given_same at (payload_after at n 4)) (vif_given_same at s.tags (payload_after at n)))
 
-  pending_same : (t : TagWords) (p : Payload) → Same s m (pending_or_tag t p main s m)
-  pending_same NoTagWords p = payload_same p
-  pending_same (From a) p = vif_given_same a (tags_after a) (λ k. s.payload)
+  pending_same : (t : Option ℕ) (p : Payload) → Same s m (pending_or_tag t p main s m)
+  pending_same None p = payload_same p
+  pending_same (Some a) p = vif_given_same a (tags_after a) (λ k. s.payload)
 
   -- a refused step leaves the machine as it was
   pub step_same : (x : Stepped) → x ≡ step_of main s m → (n : ℕ) → x.answer ≡ Refused n → x ≡ refused_step n s m

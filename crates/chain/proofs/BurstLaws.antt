@@ -1,4 +1,5 @@
 -- Words and quadwords of the payload given one after another are so many steps of a run.
+use Rattle.std.specs.Prelude.{None}
 use mathlib.Core.Path.{◌≡◌, refl, sym, ap, ◌∙◌}
 use mathlib.Core.Bool.{Bool, true, false, ◌&&◌}
 use mathlib.Core.List.{List}
@@ -17,8 +18,7 @@ use Rattle.fields.proofs.ChoiceLaws.{if_ind, if_ind_by, and_false}
 use Rattle.fields.specs.Memory.{quadword_at}
 use Rattle.gif.specs.declared.GifPath.TheVariants.{Three}
 use Rattle.gif.specs.declared.Path.{Path}
-use Rattle.gif.specs.declared.GifAnswer.{GifAnswer}
-use Rattle.gif.specs.declared.GifAnswer.TheVariants.{Taken, Refused as GifRefused}
+use Rattle.gif.specs.GifAnswer.{GifAnswer, Taken, Refused as GifRefused}
 use Rattle.gif.specs.declared.QuadwordsResult.{QuadwordsResult}
 use Rattle.gif.specs.Step.{Left as GifLeft, gif_step}
 use Rattle.gif.specs.Feed.{Fed as GifFed, fed as gifFed, fed_by, after_quadword, feeds_of as gifFeedsOf, feed_of as gifFeedOf}
@@ -27,21 +27,17 @@ use Rattle.memories.specs.declared.VifUnit.{VifUnit}
 use Rattle.memories.specs.declared.VifUnit.TheVariants.{Vif0, Vif1}
 use Rattle.memories.specs.Lengths.{Lent, lent}
 use Rattle.vif_codes.specs.declared.Vif.{Vif}
-use Rattle.vif_codes.specs.declared.VifAnswer.{VifAnswer}
-use Rattle.vif_codes.specs.declared.VifAnswer.TheVariants.{Word, Quadword, Refused as VifRefused}
+use Rattle.vif_codes.specs.VifAnswer.{VifAnswer, Word, Quadword, Refused as VifRefused}
 use Rattle.vif_codes.specs.Counting.{counts_in}
 use Rattle.vif_codes.specs.Words.{incoming_at}
 use Rattle.vif.specs.declared.WordsResult.{WordsResult}
 use Rattle.vif.specs.Step.{Left as VifLeft, vif_step}
 use Rattle.vif.specs.Feeds.{Fed, fed}
 use Rattle.vif.specs.Feed.{FedOn, fed_on, fed_on_by, fed_to, step_more, after_word, feeds_of, feed_of}
-use Rattle.chain.specs.declared.Answer.TheVariants.{Interrupt, Refused as AnswerRefused}
-use Rattle.chain_state.specs.declared.TagWords.TheVariants.{Nothing as NoTagWords}
+use Rattle.chain.specs.Answer.{Interrupt, Refused as AnswerRefused}
 use Rattle.chain_state.specs.declared.Payload.{Payload}
 use Rattle.chain_state.specs.declared.Payload.TheVariants.{Nothing as NoPayload, Words}
-use Rattle.chain.specs.declared.StepAnswer.{StepAnswer}
-use Rattle.chain.specs.declared.StepAnswer.TheVariants.{Completed, Refused}
-use Rattle.chain.specs.declared.StepResult.{StepResult}
+use Rattle.chain.specs.StepAnswer.{StepAnswer, Completed, Refused, StateStepped}
 use Rattle.chain_state.specs.declared.State.{State}
 use Rattle.chain_state.specs.Setters.{pick_unit, with_pending, with_unit, with_path3, held_by}
 use Rattle.chain_state.specs.Pending.{no_tags, payload_after}
@@ -147,9 +143,9 @@ module _ (main : List ℕ) (n : ℕ) (s : State) (m : Lent) (d : done s ≡ fals
       }
 
 pub advance_one : {main : List ℕ} {n : ℕ} {s : State} {m : Lent} {i : Bool} {c : Counts} {t : State} {m₁ : Lent} → Burst main n (machine s m) i c (machine t m₁)
-    → c.steps ≡ 0 → done s ≡ false → 1 ≤ n → {r : StepResult} {m₂ : Lent} → stepped_by r m₂ ≡ step_of main t m₁
+    → c.steps ≡ 0 → done s ≡ false → 1 ≤ n → (r : StateStepped) {m₂ : Lent} → stepped_by r m₂ ≡ step_of main t m₁
     → Advance main n (machine s m) r.answer r.counts (machine r.state m₂)
-advance_one {main} {n} {s} {m} {i} {c} {t} {m₁} b z d l e =
+advance_one {main} {n} {s} {m} {i} {c} {t} {m₁} b z d l r e =
     let w = burst_empty b z in
     rw w (advance_step main n t m₁ (ap (λ (y : Machine). done y.state) (sym w) ∙ d) l e)
 
@@ -222,8 +218,8 @@ picked Vif1 v a b = refl
 
 -- set again
 set_again : (which : VifUnit) (s : State) (x y : Fed) (q p : Payload)
-    → with_pending (with_unit which (with_pending (with_unit which s x.unit x.path2 x.used) NoTagWords q) y.unit y.path2 y.used) NoTagWords p
-    ≡ with_pending (with_unit which s y.unit y.path2 y.used) NoTagWords p
+    → with_pending (with_unit which (with_pending (with_unit which s x.unit x.path2 x.used) None q) y.unit y.path2 y.used) None p
+    ≡ with_pending (with_unit which s y.unit y.path2 y.used) None p
 set_again Vif0 s x y q p = refl
 set_again Vif1 s x y q p = refl
 
@@ -234,7 +230,7 @@ set_same Vif1 s = refl
 
 -- the machine that feeds the channel's unit, with payload pending
 abbrev pub feeding : State → Fed → Payload → Machine
-feeding s x p = machine (with_pending (with_unit (fed_unit s) s x.unit x.path2 x.used) NoTagWords p) x.memories
+feeding s x p = machine (with_pending (with_unit (fed_unit s) s x.unit x.path2 x.used) None p) x.memories
 
 abbrev given_word : VifUnit → List ℕ → ℕ → Fed → VifLeft
 given_word which main a x = vif_step which x.unit x.path2 (incoming_at main a) x.used x.memories
@@ -275,7 +271,7 @@ module _ (main : List ℕ) (s : State) (channel : s.channel ≡ 2 → ⊥) where
   pub fed_step : (x : Fed) (a n : ℕ) → (n ≡ 0 → ⊥)
       → step_from main (feeding s x (Words a n))
       ≡ after_vif (fed_unit s) (given_word (fed_unit s) main a x).answer (word_counts a x (given_word (fed_unit s) main a x).answer) (given_word (fed_unit s) main a x)
-      NoTagWords (payload_after a n) (feeding s x (Words a n)).state x.memories
+      None (payload_after a n) (feeding s x (Words a n)).state x.memories
   unfolding step_of payload_step vif_given if
   fed_step x a n z = rw (ne_eqb n 0 z, ne_eqb s.channel 2 channel, picked (fed_unit s) x.unit s.vif0 s.vif1)
 
@@ -298,7 +294,7 @@ module _ (main : List ℕ) (s : State) (channel : s.channel ≡ 2 → ⊥) where
       -- the step, where the answer is known
       at_word_lem : (b : VifAnswer) → o.answer ≡ b
           → step_from main (feeding s x (payload_after a count 0))
-          ≡ after_vif (fed_unit s) b (word_counts a x b) o NoTagWords (payload_after a count) (feeding s x (Words a count)).state x.memories
+          ≡ after_vif (fed_unit s) b (word_counts a x b) o None (payload_after a count) (feeding s x (Words a count)).state x.memories
       at_word_lem b q = rw (payload_whole a count z) (fed_step x a count z ∙ rw q)
 
       going : done (feeding s x (payload_after a count 0)).state ≡ false
@@ -318,7 +314,7 @@ module _ (main : List ℕ) (s : State) (channel : s.channel ≡ 2 → ⊥) where
           let p = payload_more a count k 0 ∙ ap (payload_after a count) (add-zero k) in
           record { fed_burst = burst_goes main n _ going e {c = of_unit r.counts} refl (rw (w, ← payload_more a count k r.words, ← p) i) }
 
-      again : (k : ℕ) → machine (with_pending (with_unit (fed_unit s) (feeding s x (Words a count)).state o.unit o.path2 o.used) NoTagWords (payload_after a count k)) o.memories
+      again : (k : ℕ) → machine (with_pending (with_unit (fed_unit s) (feeding s x (Words a count)).state o.unit o.path2 o.used) None (payload_after a count k)) o.memories
           ≡ feeding s (fed_to o) (payload_after a count k)
       again k = ap (λ (t : State). machine t o.memories) (set_again (fed_unit s) s x (fed_to o) (Words a count) (payload_after a count k))
 
@@ -352,7 +348,7 @@ module _ {s : State} {a count : ℕ} (p : PayloadNext s a count) where
   module _ (main : List ℕ) (n : ℕ) (m : Lent) {which : VifUnit} {u : Vif} (ew : which ≡ fed_unit s) (eu : u ≡ held_by which s) {v : WordsResult} {m' : Lent}
       (e : fed_on_by v m' ≡ feed_of which main n a count (fed u s.path2 s.used m)) where
     pub words_given : (s.channel ≡ 2 → ⊥) → {t : State}
-        → t ≡ with_pending (with_unit which s v.unit v.path2 v.used) NoTagWords (payload_after a count v.words)
+        → t ≡ with_pending (with_unit which s v.unit v.path2 v.used) None (payload_after a count v.words)
         → Burst main n (machine s m) v.interrupt (of_unit v.counts) (machine t m')
     words_given c q = rw (q, ew, as_feeding m) (words_burst main s c n a count _ (rw (eu, ew) at e))
 
@@ -367,7 +363,7 @@ module _ {s : State} {a count : ℕ} (p : PayloadNext s a count) where
 
 -- the machine that feeds path 3, with payload pending
 abbrev pub drawing : State → Lent → GifFed → Payload → Machine
-drawing s m x p = machine (with_pending (with_path3 s x.path x.used) NoTagWords p) (lent m.mem m.code x.log)
+drawing s m x p = machine (with_pending (with_path3 s x.path x.used) None p) (lent m.mem m.code x.log)
 
 abbrev given_quadword : List ℕ → ℕ → Path → ℕ → List ℕ → GifLeft
 given_quadword main a p used log = gif_step Three p (quadword_at main a) used log
@@ -426,20 +422,20 @@ module _ {s : State} {a count : ℕ} (p : PayloadNext s a count) where
   as_drawing m = rw (payload_whole a count p.some, ← p.payload, ← p.no_tags_lem)
 
   -- quadwords that the GIF tested and took
-  pub quadwords_given : (main mem code log : List ℕ) (n : ℕ) {limit : ℕ} {log' : List ℕ} {v : QuadwordsResult} → fed_by v log' ≡ gifFeedOf Three main a n s.path3 s.used log
+  pub quadwords_given : (main mem code log : List ℕ) (n : ℕ) {limit : ℕ} {log' : List ℕ} (v : QuadwordsResult) → fed_by v log' ≡ gifFeedOf Three main a n s.path3 s.used log
       → s.channel ≡ 2 → (n ≤ count / 4) × (n ≤ limit)
-      → {t : State} → t ≡ with_pending (with_path3 s v.path v.used) NoTagWords (payload_after a count (4 * v.taken))
+      → {t : State} → t ≡ with_pending (with_path3 s v.path v.used) None (payload_after a count (4 * v.taken))
       → Burst main limit (machine s (lent mem code log)) false (of_unit (quadwords_alone v.taken v.packets)) (machine t (lent mem code log'))
-  quadwords_given main mem code log n e c l q =
+  quadwords_given main mem code log n v e c l q =
       rw (q, as_drawing (lent mem code log))
       (let b = quadwords_burst main s (lent mem code log) c n a count s.path3 s.used log (omega arith) e in
       let f = b.few in
       burst_of (omega arith) (b.goes refl))
 
 -- they end where the payload does
-pub quadwords_fit : {main : List ℕ} {s : State} {a count : ℕ} → PayloadInside main s a count → (n : ℕ) (log : List ℕ) {log' : List ℕ} {v : QuadwordsResult}
+pub quadwords_fit : {main : List ℕ} {s : State} {a count : ℕ} → PayloadInside main s a count → (n : ℕ) (log : List ℕ) {log' : List ℕ} (v : QuadwordsResult)
     → fed_by v log' ≡ gifFeedOf Three main a n s.path3 s.used log → n ≤ count / 4 → a + 16 * v.taken ≤ 1048576
-quadwords_fit {main} {s} {a} i n log e l =
+quadwords_fit {main} {s} {a} i n log v e l =
     let f = feed_few Three main a n s.path3 s.used log e in
     let w = i.inside in
     let h = i.most in

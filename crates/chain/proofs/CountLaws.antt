@@ -1,4 +1,5 @@
 -- One run's sums fit their 64 bits: each tag is a step, and so is each quadword of its payload at most, of which only the last tag's may be pending.
+use Rattle.std.specs.Prelude.{None, Option, Some}
 use mathlib.Core.Path.{◌≡◌, refl}
 use mathlib.Core.Bool.{Bool, true, false}
 use mathlib.Core.List.{List}
@@ -14,21 +15,16 @@ use Rattle.fields.specs.Memory.{long_at, quadword_at}
 use Rattle.fields.proofs.ChoiceLaws.{if_ind, if_ind_by}
 use Rattle.fields.proofs.FieldLaws.{bits_below}
 use Rattle.gif.specs.declared.GifPath.TheVariants.{Three}
-use Rattle.gif.specs.declared.GifAnswer.{GifAnswer}
-use Rattle.gif.specs.declared.GifAnswer.TheVariants.{Taken, Refused as GifRefused}
+use Rattle.gif.specs.GifAnswer.{GifAnswer, Taken, Refused as GifRefused}
 use Rattle.gif.specs.Step.{gif_step}
 use Rattle.memories.specs.Lengths.{Lent}
-use Rattle.vif_codes.specs.declared.VifAnswer.{VifAnswer}
-use Rattle.vif_codes.specs.declared.VifAnswer.TheVariants.{Word, Quadword, Refused as VifRefused}
+use Rattle.vif_codes.specs.VifAnswer.{VifAnswer, Word, Quadword, Refused as VifRefused}
 use Rattle.vif_codes.specs.Counting.{counts_in}
 use Rattle.vif_codes.specs.Words.{incoming_at}
 use Rattle.vif.proofs.FeedLaws.{taken_counted}
-use Rattle.chain_state.specs.declared.TagWords.{TagWords}
-use Rattle.chain_state.specs.declared.TagWords.TheVariants.{Nothing as NoTagWords, From}
 use Rattle.chain_state.specs.declared.Payload.{Payload}
 use Rattle.chain_state.specs.declared.Payload.TheVariants.{Nothing as NoPayload, Words}
-use Rattle.chain.specs.declared.StepAnswer.TheVariants.{Completed}
-use Rattle.chain.specs.declared.StepResult.{StepResult}
+use Rattle.chain.specs.StepAnswer.{Completed, StateStepped}
 use Rattle.chain_state.specs.declared.State.{State}
 use Rattle.chain_state.specs.Pending.{payload_pending, tags_after, payload_after}
 use Rattle.chain.specs.Tags.{qwc_of, id_of, addr_of, payload_at, payload_of, tag_state, tag_read, tag_step}
@@ -126,14 +122,14 @@ module _ (main : List ℕ) (s : State) (m : Lent) where
       let tag = long_at main s.tadr in
       let i = bits_below tag 28 30 in
       let n = bits_below tag 0 15 in
-      if_ind (λ (x : StepResult). StepPaid p (stepped_by x m)) _
+      if_ind (λ (x : StateStepped). StepPaid p (stepped_by x m)) _
       (record {
         step_paid = λ j q. rw (z, pending_of (payload_at (id_of tag) (addr_of tag) s.tadr) (qwc_of tag)) (paid_tag (id_of tag) (qwc_of tag) (omega arith) (omega arith));
       })
       (refused_paid p _ s m)
 
   -- what is pending after one word and after four
-  vif_paid : (n a : ℕ) (t : TagWords) (p : ℕ → Payload) → Less n 4 (p 1) → Less n 4 (p 4) → StepPaid n (vif_given main a t p s m)
+  vif_paid : (n a : ℕ) (t : Option ℕ) (p : ℕ → Payload) → Less n 4 (p 1) → Less n 4 (p 4) → StepPaid n (vif_given main a t p s m)
   unfolding vif_given
   vif_paid n a t p one four = go (vif_took (fed_unit s) main a s m).answer
     where
@@ -171,9 +167,9 @@ module _ (main : List ℕ) (s : State) (m : Lent) where
       (vif_paid n at s.tags (payload_after at n) (one_word at n) (pending_after at n 4)))
 
   -- a tag word leaves the payload
-  pending_paid : (t : TagWords) → StepPaid (payload_pending s.payload) (pending_or_tag t s.payload main s m)
-  pending_paid NoTagWords = payload_paid s.payload
-  pending_paid (From a) =
+  pending_paid : (t : Option ℕ) → StepPaid (payload_pending s.payload) (pending_or_tag t s.payload main s m)
+  pending_paid None = payload_paid s.payload
+  pending_paid (Some a) =
       let same : Less (payload_pending s.payload) 4 s.payload = record { less = omega arith; left = omega arith } in
       vif_paid (payload_pending s.payload) a (tags_after a) (λ k. s.payload) same same
 

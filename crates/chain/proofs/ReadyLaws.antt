@@ -1,4 +1,5 @@
 -- The entry tests as facts.
+use Rattle.std.specs.Prelude.{None, Some}
 use mathlib.Core.Path.{◌≡◌, ◌∙◌}
 use mathlib.Core.Bool.{true, false, not, ◌&&◌, ◌||◌}
 use mathlib.Core.List.{List}
@@ -17,7 +18,6 @@ use Rattle.memories.specs.Lengths.{Lent, LengthsFit}
 use Rattle.memories.proofs.LengthLaws.{fit_lengths, fit_first}
 use Rattle.vif_codes.specs.Range.{unit_in_range}
 use Rattle.vif.specs.Inner.{StepReady}
-use Rattle.chain_state.specs.declared.TagWords.TheVariants.{Nothing as NoTagWords, From}
 use Rattle.chain_state.specs.declared.Payload.{Payload}
 use Rattle.chain_state.specs.declared.Payload.TheVariants.{Words}
 use Rattle.chain_state.specs.declared.State.{State}
@@ -126,7 +126,7 @@ module _ {main : List ℕ} {s : State} {m : Lent} (r : Ready main s m) where
       let t = and_right (channel_in_range s.channel s.tte) _ facts.fields.start in
       eqb-true (s.tadr % 16) 0 (and_left _ _ t)
 
-  pub tag_word_inside : {a : ℕ} → s.tags ≡ From a → WordInside main a
+  pub tag_word_inside : {a : ℕ} → s.tags ≡ Some a → WordInside main a
   unfolding tags_inside
   tag_word_inside {a} q =
       let i = rw q at facts.tags_in in
@@ -151,7 +151,7 @@ module _ {main : List ℕ} {s : State} {m : Lent} (r : Ready main s m) where
       }
 
   -- payload pending where no tag words are, and what its channel is
-  pub payload_next : {p : Payload} → (s.tags ≡ NoTagWords) × (s.payload ≡ p) → {at n : ℕ} → p ≡ Words at n → (n ≡ 0 → ⊥) → {C : Type 0} → C
+  pub payload_next : {p : Payload} → (s.tags ≡ None) × (s.payload ≡ p) → {at n : ℕ} → p ≡ Words at n → (n ≡ 0 → ⊥) → {C : Type 0} → C
       → PayloadNext s at n × (PayloadInside main s at n × C)
   payload_next f q z c =
       let e = f.1 ∙ q in

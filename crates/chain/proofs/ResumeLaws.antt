@@ -11,9 +11,8 @@ use Rattle.fields.specs.Counts.{none, plus}
 use Rattle.fields.proofs.CountLaws.{plus_none}
 use Rattle.fields.proofs.ChoiceLaws.{if_ind}
 use Rattle.memories.specs.Lengths.{Lent}
-use Rattle.chain.specs.declared.Answer.{Answer}
-use Rattle.chain.specs.declared.Answer.TheVariants.{Done, Allowance, Interrupt, Refused}
-use Rattle.chain.specs.declared.StepAnswer.TheVariants.{Completed, Refused as StepRefused}
+use Rattle.chain.specs.Answer.{Answer, Done, Allowance, Interrupt, Refused, run_answer}
+use Rattle.chain.specs.StepAnswer.{Completed, Refused as StepRefused}
 use Rattle.chain.specs.declared.RunResult.{RunResult}
 use Rattle.chain_state.specs.declared.State.{State}
 use Rattle.chain_state.specs.Range.{entry_refusal}
@@ -118,20 +117,20 @@ module _ (main : List ℕ) (s : State) (m : Lent) where
 
 -- ---- of two calls, by the promise of `chain::run`: the numbers and the lengths are then those of the program's types
 
-module _ (main : List ℕ) (a b : ℕ) (s : State) (m : Lent) {r : RunResult} {m₁ : Lent} (first : left_by r m₁ ≡ run_of main a s m) {o : RunResult} {m₂ : Lent}
+module _ (main : List ℕ) (a b : ℕ) (s : State) (m : Lent) (r : RunResult) {m₁ : Lent} (first : left_by r m₁ ≡ run_of main a s m) (o : RunResult) {m₂ : Lent}
     (whole : left_by o m₂ ≡ run_of main (a + b) s m) where
   -- the first answered 90, and the second was made on what it left
-  pub calls_resume : r.answer ≡ Allowance → {q : RunResult} {m₃ : Lent} → left_by q m₃ ≡ run_of main b r.state m₁ → left_by o m₂ ≡ counted r.counts (left_by q m₃)
-  calls_resume e second =
+  pub calls_resume : run_answer r.answer ≡ Allowance → (q : RunResult) {m₃ : Lent} → left_by q m₃ ≡ run_of main b r.state m₁ → left_by o m₂ ≡ counted r.counts (left_by q m₃)
+  calls_resume e q second =
       whole ∙ sym ((stopping_changes_nothing main s m a b).resumes (ap (λ (x : Ran). x.answer) (sym first) ∙ e)) ∙ rw (← first, ← second)
 
   -- it answered anything else
-  pub calls_stand : (r.answer ≡ Allowance → ⊥) → left_by o m₂ ≡ left_by r m₁
+  pub calls_stand : (run_answer r.answer ≡ Allowance → ⊥) → left_by o m₂ ≡ left_by r m₁
   calls_stand z = whole ∙ (stopping_changes_nothing main s m a b).stands (λ e. z (ap (λ (x : Ran). x.answer) first ∙ e)) ∙ sym first
 
 -- an allowance of 0
-pub call_of_nothing : (main : List ℕ) (s : State) (m : Lent) {r : RunResult} {m₁ : Lent} → left_by r m₁ ≡ run_of main 0 s m → (r.state ≡ s) × (m₁ ≡ m) × (r.counts ≡ none)
-call_of_nothing main s m e =
+pub call_of_nothing : (main : List ℕ) (s : State) (m : Lent) (r : RunResult) {m₁ : Lent} → left_by r m₁ ≡ run_of main 0 s m → (r.state ≡ s) × (m₁ ≡ m) × (r.counts ≡ none)
+call_of_nothing main s m r e =
     let n = stopping_changes_nothing main s m 0 0 in
     let w = ap (λ (x : Ran). x.after) e ∙ n.unmoved in
     (ap (λ (x : Machine). x.state) w, ap (λ (x : Machine). x.memories) w, ap (λ (x : Ran). x.counts) e ∙ n.uncounted)

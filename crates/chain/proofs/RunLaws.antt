@@ -1,19 +1,20 @@
 -- One turn of a run.
 use mathlib.Core.Path.{◌≡◌, refl, sym, ap, ◌∙◌}
-use mathlib.Core.Bool.{true, false}
+use mathlib.Core.Bool.{Bool, true, false}
 use mathlib.Core.List.{List}
 use Prim.Native.Nat.{ℕ, zero, suc, ◌-◌, ◌≤◌}
 use native.Mathlib.Nat.{sub-zero}
 use native.Mathlib.Omega.{arith}
 use borrow.Author.Tests.{ne_eqb}
+use Rattle.std.specs.Prelude.{Result, Ok}
 use Rattle.fields.specs.declared.Counts.{Counts}
+use Rattle.fields.specs.declared.refusals.Refusal.{Refusal}
 use Rattle.fields.specs.Counts.{none, plus}
 use Rattle.fields.proofs.CountLaws.{plus_none, none_plus, plus_plus}
 use Rattle.fields.specs.Fields.{if}
 use Rattle.memories.specs.Lengths.{Lent}
-use Rattle.chain.specs.declared.Answer.TheVariants.{Done, Allowance, Interrupt, Refused}
-use Rattle.chain.specs.declared.StepAnswer.{StepAnswer}
-use Rattle.chain.specs.declared.StepAnswer.TheVariants.{Completed, Refused as StepRefused}
+use Rattle.chain.specs.Answer.{Done, Allowance, Interrupt, Refused}
+use Rattle.chain.specs.StepAnswer.{StepAnswer, Completed, Refused as StepRefused, step_answer}
 use Rattle.chain_state.specs.declared.State.{State}
 use Rattle.chain_state.specs.Range.{entry_refusal}
 use Rattle.chain.specs.Step.{Stepped, step_of}
@@ -30,6 +31,10 @@ counted_nothing r = ap (recounted r) (none_plus r.counts)
 -- steps before it, and others before these
 pub counted_twice : (c d : Counts) (r : Ran) → counted c (counted d r) ≡ counted (plus c d) r
 counted_twice c d r = ap (recounted r) (sym (plus_plus c d r.counts))
+
+-- an answer by what it is
+pub completed_as : {a : Result Bool Refusal} {b i : Bool} → a ≡ Ok b → b ≡ i → step_answer a ≡ Completed i
+completed_as e q = rw (e, q) refl
 
 by_answer : {a b : StepAnswer} → a ≡ b → (f : State → Lent → Ran) (x : Stepped) (s : State) (m : Lent) {y : Ran} → after_step f b x s m ≡ y → after_step f a x s m ≡ y
 by_answer q f x s m h = rw q h

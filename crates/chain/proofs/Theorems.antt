@@ -10,9 +10,8 @@ use Rattle.fields.specs.Counts.{none, plus}
 use Rattle.fields.proofs.CountLaws.{none_plus, plus_plus}
 use Rattle.fields.specs.Fields.{if}
 use Rattle.memories.specs.Lengths.{Lent}
-use Rattle.chain.specs.declared.Answer.TheVariants.{Done}
-use Rattle.chain.specs.declared.StepAnswer.{StepAnswer}
-use Rattle.chain.specs.declared.StepAnswer.TheVariants.{Completed, Refused as StepRefused}
+use Rattle.chain.specs.Answer.{Done}
+use Rattle.chain.specs.StepAnswer.{StepAnswer, Completed, Refused as StepRefused}
 use Rattle.chain_state.specs.declared.State.{State}
 use Rattle.chain_state.specs.Range.{entry_refusal}
 use Rattle.chain.specs.Inner.{Ready}

@@ -1,4 +1,5 @@
 -- The units apart: a step on channel 0 leaves VIF1 and both paths, any other step leaves VIF0.
+use Rattle.std.specs.Prelude.{None, Option, Some}
 use mathlib.Core.Path.{◌≡◌, refl}
 use mathlib.Core.List.{List}
 use Prim.Native.Nat.{ℕ}
@@ -10,20 +11,16 @@ use Rattle.fields.specs.Memory.{quadword_at}
 use Rattle.fields.proofs.ChoiceLaws.{if_ind}
 use Rattle.fields.specs.declared.UnitCounts.{UnitCounts}
 use Rattle.gif.specs.declared.GifPath.TheVariants.{Three}
-use Rattle.gif.specs.declared.GifAnswer.{GifAnswer}
-use Rattle.gif.specs.declared.GifAnswer.TheVariants.{Taken, Refused as GifRefused}
+use Rattle.gif.specs.GifAnswer.{GifAnswer, Taken, Refused as GifRefused}
 use Rattle.gif.specs.Step.{gif_step}
 use Rattle.memories.specs.declared.VifUnit.TheVariants.{Vif0, Vif1}
 use Rattle.memories.specs.Lengths.{Lent}
-use Rattle.vif_codes.specs.declared.VifAnswer.{VifAnswer}
-use Rattle.vif_codes.specs.declared.VifAnswer.TheVariants.{Word, Quadword, Refused as VifRefused}
+use Rattle.vif_codes.specs.VifAnswer.{VifAnswer, Word, Quadword, Refused as VifRefused}
 use Rattle.vif_codes.specs.Words.{incoming_at}
 use Rattle.vif.proofs.Vif0Laws.{step_path}
-use Rattle.chain_state.specs.declared.TagWords.{TagWords}
-use Rattle.chain_state.specs.declared.TagWords.TheVariants.{Nothing as NoTagWords, From}
 use Rattle.chain_state.specs.declared.Payload.{Payload}
 use Rattle.chain_state.specs.declared.Payload.TheVariants.{Nothing as NoPayload, Words}
-use Rattle.chain.specs.declared.StepResult.{StepResult}
+use Rattle.chain.specs.StepAnswer.{StateStepped}
 use Rattle.chain_state.specs.declared.State.{State}
 use Rattle.chain.specs.Tags.{tag_state, tag_read, tag_step}
 use Rattle.chain_state.specs.Range.{unit_of}
@@ -56,9 +53,9 @@ module _ (main : List ℕ) (s : State) (m : Lent) (r : Ready main s m) (c : s.ch
   tag_leaves : OthersKept s (stepped_by (tag_step main s) m)
   unfolding tag_read tag_state
   tag_leaves =
-      if_ind (λ (x : StepResult). OthersKept s (stepped_by x m)) _ (record { vif1 = refl; path2 = refl; path3 = refl }) (record { vif1 = refl; path2 = refl; path3 = refl })
+      if_ind (λ (x : StateStepped). OthersKept s (stepped_by x m)) _ (record { vif1 = refl; path2 = refl; path3 = refl }) (record { vif1 = refl; path2 = refl; path3 = refl })
 
-  word_leaves : (a : ℕ) (t : TagWords) (p : ℕ → Payload) → OthersKept s (vif_given main a t p s m)
+  word_leaves : (a : ℕ) (t : Option ℕ) (p : ℕ → Payload) → OthersKept s (vif_given main a t p s m)
   unfolding vif_given
   word_leaves a t p = rw (channel_vif0 s.channel c) (go (vif_took Vif0 main a s m).answer _)
     where
@@ -80,9 +77,9 @@ module _ (main : List ℕ) (s : State) (m : Lent) (r : Ready main s m) (c : s.ch
   unfolding step_of
   vif0_alone = go s.tags
     where
-      go : (t : TagWords) → OthersKept s (pending_or_tag t s.payload main s m)
-      go NoTagWords = payload_leaves s.payload
-      go (From a) = word_leaves a (tags_after a) (λ k. s.payload)
+      go : (t : Option ℕ) → OthersKept s (pending_or_tag t s.payload main s m)
+      go None = payload_leaves s.payload
+      go (Some a) = word_leaves a (tags_after a) (λ k. s.payload)
 
 -- ---- another channel
 
@@ -92,9 +89,9 @@ module _ (main : List ℕ) (s : State) (m : Lent) (c : s.channel ≡ 0 → ⊥) 
 
   tag_keeps : Vif0Kept (stepped_by (tag_step main s) m)
   unfolding tag_read tag_state
-  tag_keeps = if_ind (λ (x : StepResult). Vif0Kept (stepped_by x m)) _ refl refl
+  tag_keeps = if_ind (λ (x : StateStepped). Vif0Kept (stepped_by x m)) _ refl refl
 
-  word_keeps : (a : ℕ) (t : TagWords) (p : ℕ → Payload) → Vif0Kept (vif_given main a t p s m)
+  word_keeps : (a : ℕ) (t : Option ℕ) (p : ℕ → Payload) → Vif0Kept (vif_given main a t p s m)
   unfolding vif_given
   word_keeps a t p = rw (channel_vif1 s.channel c) (go (vif_took Vif1 main a s m).answer _)
     where
@@ -123,6 +120,6 @@ module _ (main : List ℕ) (s : State) (m : Lent) (c : s.channel ≡ 0 → ⊥) 
   unfolding step_of
   vif0_kept = go s.tags
     where
-      go : (t : TagWords) → Vif0Kept (pending_or_tag t s.payload main s m)
-      go NoTagWords = payload_keeps s.payload
-      go (From a) = word_keeps a (tags_after a) (λ k. s.payload)
+      go : (t : Option ℕ) → Vif0Kept (pending_or_tag t s.payload main s m)
+      go None = payload_keeps s.payload
+      go (Some a) = word_keeps a (tags_after a) (λ k. s.payload)

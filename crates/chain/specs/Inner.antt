@@ -1,18 +1,16 @@
 -- Facts that inner functions require of their input or promise; no promise of a public function cites them.
-use Rattle.std.specs.Prelude.{ℕ, ◌+◌, ◌*◌, ◌/◌, ◌%◌, ◌≤◌, Bool, true, false, List, ◌≡◌, length, eqb}
+use Rattle.std.specs.Prelude.{ℕ, ◌+◌, ◌*◌, ◌/◌, ◌%◌, ◌≤◌, Bool, true, false, List, ◌≡◌, length, eqb, None}
 use Rattle.fields.specs.declared.Counts.{Counts}
 use Rattle.fields.specs.declared.UnitCounts.{UnitCounts}
 use Rattle.fields.specs.Fields.{if}
 use Rattle.gif.specs.Log.{log_refused}
 use Rattle.gif.specs.Range.{path_in_range}
 use Rattle.memories.specs.Lengths.{Lent}
-use Rattle.chain.specs.declared.Answer.TheVariants.{Interrupt, Refused as AnswerRefused}
+use Rattle.chain.specs.Answer.{Interrupt, Refused as AnswerRefused}
 use Rattle.chain.specs.declared.BurstResult.{BurstResult}
-use Rattle.chain_state.specs.declared.TagWords.TheVariants.{Nothing as NoTagWords}
 use Rattle.chain_state.specs.declared.Payload.{Payload}
 use Rattle.chain_state.specs.declared.Payload.TheVariants.{Words}
-use Rattle.chain.specs.declared.StepAnswer.{StepAnswer}
-use Rattle.chain.specs.declared.StepAnswer.TheVariants.{Completed, Refused}
+use Rattle.chain.specs.StepAnswer.{StepAnswer, Completed, Refused}
 use Rattle.chain_state.specs.declared.State.{State}
 use Rattle.chain_state.specs.Range.{entry_refusal}
 use Rattle.chain.specs.Step.{Machine}
@@ -51,7 +49,7 @@ by_taken one four k = if (eqb k 1) one four
 
 -- payload is pending and no tag words
 pub record PayloadNext (s : State) (at n : ℕ) : Type 0 where
-  pub no_tags_lem : s.tags ≡ NoTagWords
+  pub no_tags_lem : s.tags ≡ None
   pub payload : s.payload ≡ Words at n
   pub some : n ≡ 0 → ⊥
 

@@ -5,3 +5,5 @@ pub mod Run
 pub mod Stops
 pub mod Resume
 pub mod Inner
+pub mod StepAnswer
+pub mod Answer

@@ -2,7 +2,7 @@
 use Rattle.std.specs.Prelude.{ℕ, ◌+◌, List, ◌≡◌}
 use Rattle.fields.specs.Counts.{none}
 use Rattle.memories.specs.Lengths.{Lent}
-use Rattle.chain.specs.declared.Answer.TheVariants.{Allowance}
+use Rattle.chain.specs.Answer.{Allowance}
 use Rattle.chain_state.specs.declared.State.{State}
 use Rattle.chain.specs.Step.{machine}
 use Rattle.chain.specs.Run.{Ran, counted, run_of}

@@ -8,10 +8,8 @@ use Rattle.fields.specs.Counts.{none, plus}
 use Rattle.fields.specs.Fields.{if}
 use Rattle.fields.specs.Refusals.{allowance_used, interrupt_met}
 use Rattle.memories.specs.Lengths.{Lent}
-use Rattle.chain.specs.declared.Answer.{Answer}
-use Rattle.chain.specs.declared.Answer.TheVariants.{Done, Allowance, Interrupt, Refused}
-use Rattle.chain.specs.declared.StepAnswer.{StepAnswer}
-use Rattle.chain.specs.declared.StepAnswer.TheVariants.{Completed, Refused as StepRefused}
+use Rattle.chain.specs.Answer.{Answer, Done, Allowance, Interrupt, Refused, run_answer}
+use Rattle.chain.specs.StepAnswer.{StepAnswer, Completed, Refused as StepRefused}
 use Rattle.chain.specs.declared.RunResult.{RunResult}
 use Rattle.chain_state.specs.declared.State.{State}
 use Rattle.chain_state.specs.Pending.{nothing_pending}
@@ -36,7 +34,7 @@ abbrev pub ran : Answer → State → Counts → Lent → Ran
 ran a s c m = record { answer = a; number = number_of a; after = machine s m; counts = c }
 
 abbrev pub left_by : RunResult → Lent → Ran
-left_by r m = ran r.answer r.state r.counts m
+left_by r m = ran (run_answer r.answer) r.state r.counts m
 
 -- the chain has ended and nothing is pending
 unfoldable pub done : State → Bool

@@ -2,8 +2,8 @@
 use Rattle.std.specs.Prelude.{ℕ, ◌<◌, ◌≤◌, true, false, List, ◌≡◌}
 use Rattle.fields.specs.declared.Counts.{Counts}
 use Rattle.fields.specs.Counts.{none, plus}
-use Rattle.chain.specs.declared.Answer.TheVariants.{Done, Allowance, Interrupt, Refused}
-use Rattle.chain.specs.declared.StepAnswer.TheVariants.{Completed, Refused as StepRefused}
+use Rattle.chain.specs.Answer.{Done, Allowance, Interrupt, Refused}
+use Rattle.chain.specs.StepAnswer.{Completed, Refused as StepRefused}
 use Rattle.chain.specs.Step.{Machine, Stepped, step_of}
 use Rattle.chain.specs.Run.{Ran, done}
 

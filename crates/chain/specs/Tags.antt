@@ -1,17 +1,14 @@
 -- Chain tags: document 01's "Bits 0-15 QWC, 28-30 ID, 32-62 ADDR, 63 SPR. IDs that use ADDR: 0, 2, 3, 4, 5." and its table.
-use Rattle.std.specs.Prelude.{ℕ, ◌+◌, ◌*◌, ◌%◌, Bool, true, false, not, ◌&&◌, ◌||◌, List, length, eqb, ltb, leb}
+use Rattle.std.specs.Prelude.{ℕ, ◌+◌, ◌*◌, ◌%◌, Bool, true, false, not, ◌&&◌, ◌||◌, List, length, eqb, ltb, leb, None, Option, Some}
 use Rattle.fields.specs.declared.Counts.{Counts}
 use Rattle.fields.specs.Counts.{none, one_tag}
 use Rattle.fields.specs.Fields.{if, bits}
 use Rattle.fields.specs.Refusals.{tadr_outside, addr_unaligned, scratchpad_set, stack_full, payload_outside}
 use Rattle.chain_state.specs.declared.Stack.{Stack}
 use Rattle.chain_state.specs.declared.Stack.TheVariants.{Empty, One, Two}
-use Rattle.chain_state.specs.declared.TagWords.{TagWords}
-use Rattle.chain_state.specs.declared.TagWords.TheVariants.{Nothing as NoTagWords, From}
 use Rattle.chain_state.specs.declared.Payload.{Payload}
 use Rattle.chain_state.specs.declared.Payload.TheVariants.{Nothing as NoPayload, Words}
-use Rattle.chain.specs.declared.StepAnswer.TheVariants.{Completed, Refused}
-use Rattle.chain.specs.declared.StepResult.{StepResult}
+use Rattle.chain.specs.StepAnswer.{Completed, Refused, StateStepped}
 use Rattle.chain_state.specs.declared.State.{State}
 use Rattle.fields.specs.Memory.{long_at}
 use Rattle.chain_state.specs.Setters.{with_tag}
@@ -84,8 +81,8 @@ unfoldable pub next_stack : ℕ → ℕ → ℕ → Stack → Stack
 next_stack id tadr qwc k = if (eqb id 5) (pushed k (after_payload tadr qwc)) (if (eqb id 6) (popped k) k)
 
 -- "With TTE on, words 2 and 3 of the tag go to VIF1 before the payload."
-unfoldable pub tag_words_of : Bool → ℕ → TagWords
-tag_words_of tte tadr = if tte (From (tadr + 8)) NoTagWords
+unfoldable pub tag_words_of : Bool → ℕ → Option ℕ
+tag_words_of tte tadr = if tte (Some (tadr + 8)) None
 
 unfoldable pub payload_of : ℕ → ℕ → Payload
 payload_of at qwc = if (eqb qwc 0) NoPayload (Words at (4 * qwc))
@@ -108,21 +105,21 @@ tag_state id addr qwc s =
     (tag_words_of s.tte s.tadr)
     (payload_of (payload_at id addr s.tadr) qwc)
 
-abbrev pub completed_result : Bool → Counts → State → StepResult
+abbrev pub completed_result : Bool → Counts → State → StateStepped
 completed_result i c s = record { answer = Completed i; counts = c; state = s }
 
-abbrev pub refused_result : ℕ → State → StepResult
+abbrev pub refused_result : ℕ → State → StateStepped
 refused_result n s = record { answer = Refused n; counts = none; state = s }
 
 -- by the refusal; request 14's "QWC by tag ID": it counts whole in the tag's own step, and a refused tag counts for nothing
-abbrev pub tag_answer : ℕ → ℕ → State → StepResult
+abbrev pub tag_answer : ℕ → ℕ → State → StateStepped
 tag_answer n tag s =
     if (eqb n 0) (completed_result false (one_tag (id_of tag) (qwc_of tag)) (tag_state (id_of tag) (addr_of tag) (qwc_of tag) s)) (refused_result n s)
 
-unfoldable pub tag_read : ℕ → ℕ → State → StepResult
+unfoldable pub tag_read : ℕ → ℕ → State → StateStepped
 tag_read size tag s =
     tag_answer (tag_refusal size s.tadr (id_of tag) (addr_of tag) (spr_of tag) (qwc_of tag) s.stack) tag s
 
 -- a tag read; where TADR lies outside, the tag's bits play no part
-abbrev pub tag_step : List ℕ → State → StepResult
+abbrev pub tag_step : List ℕ → State → StateStepped
 tag_step main s = tag_read (length main) (long_at main s.tadr) s

@@ -1,16 +1,13 @@
 // Many steps in one call: payload given to a unit or to path 3.
-ghost use Rattle.std.specs.Prelude.{◌≡◌, false, List, ℕ, ◌≤◌};
+ghost use Rattle.std.specs.Prelude.{◌≡◌, false, List, ℕ, None};
 ghost use Rattle.fields.specs.Counts.{no_units, of_unit};
 ghost use Rattle.memories.specs.Lengths.{lent};
-ghost use Rattle.chain_state.specs.declared.TagWords.TheVariants.{Nothing};
 ghost use Rattle.chain.specs.Inner.{Ready, PayloadNext, PayloadInside, Burst, burst_result};
 ghost use Rattle.chain.specs.Step.{machine};
 
 use super::BurstResult;
 use super::pending::payload_after;
-use chain_state::{
-    Payload, State, TagWords, held_by, unit_of, with_path3, with_pending, with_unit,
-};
+use chain_state::{Payload, State, unit_of};
 use fields::{no_units, quadwords_alone};
 use gif::GifPath;
 
@@ -30,31 +27,26 @@ fn give_words(
         result.interrupt (of_unit result.counts) (machine result.state (lent «data».new code.new log.new)) }
 {
     let which = unit_of(s.channel);
-    let unit = held_by(which, s);
-    let path2 = s.path2;
     let r = vif::take_words(
-        which, unit, path2, main, at, count, limit, data, code, log, s.used,
+        which,
+        s.held_by(which),
+        s.path2,
+        main,
+        at,
+        count,
+        limit,
+        data,
+        code,
+        log,
+        s.used,
     );
-    let after = r.unit;
-    let path = r.path2;
-    let rest = payload_after(at, count, r.words);
-    let counts = r.counts;
     BurstResult {
-        state: with_pending(
-            with_unit(which, s, after, path, r.used),
-            TagWords::Nothing,
-            rest,
-        ),
-        counts,
+        state: s
+            .with_unit(which, r.unit, r.path2, r.used)
+            .with_pending(None, payload_after(at, count, r.words)),
+        counts: r.counts,
         interrupt: r.interrupt,
     }
-}
-
-// The smaller of two numbers.
-fn smaller(a: u32, b: u64) -> u32
-    ensures { (result ≤ a) × (result ≤ b) }
-{
-    if b < a as u64 { b as u32 } else { a }
 }
 
 // The payload's quadwords, given to path 3.
@@ -70,22 +62,13 @@ fn give_quadwords(
     ensures { (mem code : List ℕ) → Burst main.now limit (machine s (lent mem code log.old))
         result.interrupt (of_unit result.counts) (machine result.state (lent mem code log.new)) }
 {
-    let path3 = s.path3;
-    let r = gif::take_quadwords(
-        GifPath::Three,
-        path3,
-        main,
-        at,
-        smaller(count / 4, limit),
-        log,
-        s.used,
-    );
-    let path = r.path;
-    let rest = payload_after(at, count, 4 * r.taken);
-    let counts = quadwords_alone(r.taken as u64, r.packets);
+    let most = u64::from(count / 4).min(limit) as u32;
+    let r = gif::take_quadwords(GifPath::Three, s.path3, main, at, most, log, s.used);
     BurstResult {
-        state: with_pending(with_path3(s, path, r.used), TagWords::Nothing, rest),
-        counts,
+        state: s
+            .with_path3(r.path, r.used)
+            .with_pending(None, payload_after(at, count, 4 * r.taken)),
+        counts: quadwords_alone(u64::from(r.taken), r.packets),
         interrupt: false,
     }
 }
@@ -94,10 +77,9 @@ fn give_quadwords(
 fn no_burst(s: State) -> BurstResult
     ensures { result ≡ burst_result s no_units false }
 {
-    let counts = no_units();
     BurstResult {
         state: s,
-        counts,
+        counts: no_units(),
         interrupt: false,
     }
 }
@@ -112,7 +94,7 @@ fn give_payload(
     code: &mut [u8],
     log: &mut [u64],
 ) -> BurstResult
-    requires { Ready main.now s (lent «data».old code.old log.old) × ((s.tags ≡ Nothing) × (s.payload ≡ payload)) }
+    requires { Ready main.now s (lent «data».old code.old log.old) × ((s.tags ≡ None) × (s.payload ≡ payload)) }
     ensures { Burst main.now limit (machine s (lent «data».old code.old log.old))
         result.interrupt (of_unit result.counts) (machine result.state (lent «data».new code.new log.new)) }
 {
@@ -143,10 +125,8 @@ pub(crate) fn burst(
     ensures { Burst main.now limit (machine s (lent «data».old code.old log.old))
         result.interrupt (of_unit result.counts) (machine result.state (lent «data».new code.new log.new)) }
 {
-    let tags = s.tags;
-    let payload = s.payload;
-    match tags {
-        TagWords::Nothing => give_payload(main, payload, s, limit, data, code, log),
-        TagWords::From(_) => no_burst(s),
+    match s.tags {
+        None => give_payload(main, s.payload, s, limit, data, code, log),
+        Some(_) => no_burst(s),
     }
 }

@@ -2,15 +2,17 @@
 ghost use Rattle.std.specs.Prelude.{◌≡◌, false, ◌≤◌};
 ghost use Rattle.memories.specs.Lengths.{lent};
 ghost use Rattle.chain.specs.Inner.{Ready, Advance};
+ghost use Rattle.chain.specs.Answer.{run_answer};
+ghost use Rattle.chain.specs.StepAnswer.{step_answer};
 ghost use Rattle.chain.specs.Step.{machine};
 ghost use Rattle.chain.specs.Run.{number_of, done, left_by, steps_of, run_of};
 
 use super::burst::burst;
 use super::pending::finished;
 use super::step::step;
-use super::{AdvanceResult, Answer, RunResult, StepAnswer};
-use chain_state::{State, entry_refusal};
-use fields::{no_counts, of_unit, plus, refusals};
+use super::{Ending, RunResult, StepResult};
+use chain_state::{State, test_entry};
+use fields::{ALLOWANCE_USED, INTERRUPT_MET, Refusal, no_counts, of_unit, plus};
 
 // Some steps at once, or else one.
 fn advance(
@@ -20,29 +22,19 @@ fn advance(
     data: &mut [u32],
     code: &mut [u8],
     log: &mut [u64],
-) -> AdvanceResult
+) -> StepResult
     requires { Ready main.now s (lent «data».old code.old log.old) × ((done s ≡ false) × (1 ≤ limit)) }
     ensures { Advance main.now limit (machine s (lent «data».old code.old log.old))
-        result.answer result.counts (machine result.state (lent «data».new code.new log.new)) }
+        (step_answer result.answer) result.counts (machine result.state (lent «data».new code.new log.new)) }
 {
     let b = burst(main, s, limit, data, code, log);
-    let after = b.state;
-    if b.counts.steps != 0 {
-        let counts = of_unit(b.counts);
-        return AdvanceResult {
-            answer: StepAnswer::Completed(b.interrupt),
-            state: after,
-            counts,
-        };
+    if b.counts.steps == 0 {
+        return step(main, b.state, data, code, log);
     }
-    let r = step(main, after, data, code, log);
-    let answer = r.answer;
-    let state = r.state;
-    let counts = r.counts;
-    AdvanceResult {
-        answer,
-        state,
-        counts,
+    StepResult {
+        answer: Ok(b.interrupt),
+        counts: of_unit(b.counts),
+        state: b.state,
     }
 }
 
@@ -63,22 +55,21 @@ fn steps_of(
     let mut counts = no_counts();
     let answer = loop {
         if finished(s) {
-            break Answer::Done;
+            break Ok(Ending::Done);
         }
         if counts.steps >= allowance {
-            break Answer::Allowance;
+            break Ok(Ending::Allowance);
         }
         let r = advance(main, s, allowance - counts.steps, data, code, log);
-        let outcome = r.answer;
         s = r.state;
         counts = plus(counts, r.counts);
-        match outcome {
-            StepAnswer::Completed(i) => {
-                if i {
-                    break Answer::Interrupt;
+        match r.answer {
+            Ok(interrupt) => {
+                if interrupt {
+                    break Ok(Ending::Interrupt);
                 }
             }
-            StepAnswer::Refused(n) => break Answer::Refused(n),
+            Err(refusal) => break Err(refusal),
         }
     };
     RunResult {
@@ -100,26 +91,24 @@ pub fn run(
     ensures { left_by result (lent «data».new code.new log.new)
         ≡ run_of main.now allowance state (lent «data».old code.old log.old) }
 {
-    let refused = entry_refusal(main, data, code, log, state);
-    if refused != 0 {
-        let counts = no_counts();
-        return RunResult {
-            answer: Answer::Refused(refused),
+    match test_entry(main, data, code, log, state) {
+        Ok(()) => steps_of(main, data, code, log, state, allowance),
+        Err(refusal) => RunResult {
+            answer: Err(refusal),
             state,
-            counts,
-        };
+            counts: no_counts(),
+        },
     }
-    steps_of(main, data, code, log, state, allowance)
 }
 
 // The number of a run's answer.
-pub fn answer_number(answer: Answer) -> u32
-    ensures { result ≡ number_of answer }
+pub fn answer_number(answer: Result<Ending, Refusal>) -> u32
+    ensures { result ≡ number_of (run_answer answer) }
 {
     match answer {
-        Answer::Done => 0,
-        Answer::Allowance => refusals::ALLOWANCE_USED,
-        Answer::Interrupt => refusals::INTERRUPT_MET,
-        Answer::Refused(n) => n,
+        Ok(Ending::Done) => 0,
+        Ok(Ending::Allowance) => ALLOWANCE_USED,
+        Ok(Ending::Interrupt) => INTERRUPT_MET,
+        Err(refusal) => refusal.number(),
     }
 }

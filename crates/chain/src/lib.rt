@@ -9,18 +9,13 @@ mod tags;
 
 pub use execution::{answer_number, run};
 pub use pending::finished;
+pub use tags::Tag;
 
-// A step that was completed, and whether it completed a code with its interrupt bit; or the refusal.
-#[derive(Clone, Copy)]
-pub enum StepAnswer {
-    Completed(bool),
-    Refused(u32),
-}
-
-// A step's answer, what it counts for, and the state that it leaves.
+// What a step counts for, and the state that it leaves; or what some steps do, and the answer to the last. The answer is whether it completed a code with its interrupt bit,
+// or the refusal.
 #[derive(Clone, Copy)]
 pub struct StepResult {
-    pub answer: StepAnswer,
+    pub answer: Result<bool, fields::Refusal>,
     pub counts: fields::Counts,
     pub state: chain_state::State,
 }
@@ -33,25 +28,17 @@ pub(crate) struct BurstResult {
     pub(crate) interrupt: bool,
 }
 
-// What some steps leave and count for, and the answer to the last; or the refusal of the first.
+// How a run that is not refused ends: the chain is done, the allowance is used, or a step was an interrupt mark.
 #[derive(Clone, Copy)]
-pub(crate) struct AdvanceResult {
-    pub(crate) answer: StepAnswer,
-    pub(crate) state: chain_state::State,
-    pub(crate) counts: fields::Counts,
-}
-
-#[derive(Clone, Copy)]
-pub enum Answer {
+pub enum Ending {
     Done,
     Allowance,
     Interrupt,
-    Refused(u32),
 }
 
 #[derive(Clone, Copy)]
 pub struct RunResult {
-    pub answer: Answer,
+    pub answer: Result<Ending, fields::Refusal>,
     pub state: chain_state::State,
     pub counts: fields::Counts,
 }

@@ -1,58 +1,32 @@
 // What is pending.
 ghost use Rattle.std.specs.Prelude.{◌≡◌, ◌+◌, ◌*◌, ◌^◌, ◌<◌};
-ghost use Rattle.chain_state.specs.Pending.{no_tags, no_payload, nothing_pending, tags_after, payload_after};
+ghost use Rattle.chain_state.specs.Pending.{no_payload, tags_after, payload_after};
 ghost use Rattle.chain.specs.Run.{done};
 
-use chain_state::{Payload, State, TagWords};
-
-fn no_tags(tags: TagWords) -> bool
-    ensures { result ≡ no_tags tags }
-{
-    match tags {
-        TagWords::Nothing => true,
-        TagWords::From(_) => false,
-    }
-}
+use chain_state::{Payload, State};
 
 fn no_payload(payload: Payload) -> bool
     ensures { result ≡ no_payload payload }
 {
     match payload {
         Payload::Nothing => true,
-        Payload::Words { at: _, count } => count == 0,
+        Payload::Words { count, .. } => count == 0,
     }
-}
-
-fn nothing_pending(s: State) -> bool
-    ensures { result ≡ nothing_pending s }
-{
-    let tags = s.tags;
-    let payload = s.payload;
-    if no_tags(tags) {
-        return no_payload(payload);
-    }
-    false
 }
 
 // The chain has ended and nothing is pending.
+#[tactic(auto, unfolding(crate::specs::Run::done))]
 pub fn finished(s: State) -> bool
     ensures { result ≡ done s }
 {
-    if s.ended {
-        return nothing_pending(s);
-    }
-    false
+    s.ended && s.tags.is_none() && no_payload(s.payload)
 }
 
-pub(crate) fn tags_after(a: u32) -> TagWords
+pub(crate) fn tags_after(a: u32) -> Option<u32>
     requires { a + 4 < 2 ^ 32 }
     ensures { result ≡ tags_after a }
 {
-    if a / 4 % 4 == 3 {
-        TagWords::Nothing
-    } else {
-        TagWords::From(a + 4)
-    }
+    if a / 4 % 4 == 3 { None } else { Some(a + 4) }
 }
 
 pub(crate) fn payload_after(at: u32, n: u32, k: u32) -> Payload

@@ -1,47 +1,175 @@
 // Chain tags.
-ghost use Rattle.std.specs.Prelude.{◌≡◌, ◌||◌, ◌&&◌, not, ◌+◌, ◌*◌, ◌%◌, ◌^◌, ◌<◌, ◌≤◌, length, eqb, ltb};
-ghost use Rattle.chain.specs.Tags.{uses_addr, payload_at, after_payload, return_to, next_tadr, is_empty, is_full, ends_chain, pushed, popped, next_stack, tag_words_of, payload_of, tag_refusal, tag_state, completed_result, refused_result, tag_read, tag_step};
+ghost use Rattle.std.specs.Prelude.{◌≡◌, ◌&&◌, not, ◌+◌, ◌*◌, ◌%◌, ◌^◌, ◌<◌, ◌≤◌, eqb, ltb};
+ghost use Rattle.fields.specs.Refusals.{refusal_number, refusal_in};
+ghost use Rattle.chain.specs.StepAnswer.{state_stepped};
+ghost use Rattle.chain.specs.Tags.{qwc_of, id_of, addr_of, spr_of, uses_addr, payload_at, after_payload, return_to, next_tadr, is_full, ends_chain, pushed, popped, next_stack, tag_words_of, payload_of, tag_refusal, tag_state, completed_result, refused_result, tag_step};
 
-use super::{StepAnswer, StepResult};
-use chain_state::{Payload, Stack, State, TagWords, with_tag};
-use fields::{Counts, no_counts, one_tag, refusals, word_at};
+use super::StepResult;
+use chain_state::{Payload, Stack, State};
+use fields::{Counts, Refusal, long_at, no_counts, one_tag};
 
-fn uses_addr(id: u32) -> bool
-    ensures { result ≡ uses_addr id }
-{
-    if id == 0 {
-        return true;
-    }
-    if id < 2 {
-        return false;
-    }
-    id <= 5
+// The fields of a tag.
+#[derive(Clone, Copy)]
+pub struct Tag {
+    pub qwc: u32,
+    pub id: u32,
+    pub addr: u32,
+    pub spr: bool,
+    pub ghost in_range: { (qwc ≤ 65535) × (addr < 2 ^ 31) },
 }
 
-fn at_addr(id: u32) -> bool
-    ensures { result ≡ (eqb id 0 || (eqb id 3 || eqb id 4)) }
-{
-    if id == 0 {
-        return true;
+// TADR below 2^31 is required of a state, and no invariant of its type: a host gives a run any state.
+impl Tag {
+    // From its 64 bits.
+    pub fn new(bits: u64) -> Tag
+        ensures qwc { result.qwc ≡ qwc_of bits }
+        ensures id { result.id ≡ id_of bits }
+        ensures addr { result.addr ≡ addr_of bits }
+        ensures spr { result.spr ≡ spr_of bits }
+    {
+        Tag {
+            qwc: (bits % 65536) as u32,
+            id: (bits / 0x1000_0000 % 8) as u32,
+            addr: (bits / 0x1_0000_0000 % 0x8000_0000) as u32,
+            spr: bits / 0x8000_0000_0000_0000 == 1,
+        }
     }
-    if id == 3 {
-        return true;
+
+    #[tactic(auto, unfolding(crate::specs::Tags::uses_addr))]
+    fn uses_addr(self) -> bool
+        ensures { result ≡ uses_addr self.id }
+    {
+        matches!(self.id, 0 | 2..=5)
     }
-    id == 4
-}
 
-fn payload_at(id: u32, addr: u32, tadr: u32) -> u32
-    requires { tadr < 2 ^ 31 }
-    ensures { result ≡ payload_at id addr tadr }
-{
-    if at_addr(id) { addr } else { tadr + 16 }
-}
+    // Where its payload starts.
+    pub fn payload_at(self, tadr: u32) -> u64
+        ensures { result ≡ payload_at self.id self.addr tadr }
+    {
+        match self.id {
+            0 | 3 | 4 => u64::from(self.addr),
+            _ => u64::from(tadr) + 16,
+        }
+    }
 
-fn after_payload(tadr: u32, qwc: u32) -> u32
-    requires { (tadr < 2 ^ 31) × (qwc ≤ 65535) }
-    ensures { result ≡ after_payload tadr qwc }
-{
-    tadr + 16 + 16 * qwc
+    fn after_payload(self, tadr: u32) -> u32
+        requires { tadr < 2 ^ 31 }
+        ensures { result ≡ after_payload tadr self.qwc }
+    {
+        tadr + 16 + 16 * self.qwc
+    }
+
+    fn next_tadr(self, s: State) -> u32
+        requires { s.tadr < 2 ^ 31 }
+        ensures { result ≡ next_tadr self.id self.addr s.tadr self.qwc s.stack }
+    {
+        match self.id {
+            1 => self.after_payload(s.tadr),
+            2 | 5 => self.addr,
+            6 => return_to(s.stack, s.tadr),
+            7 => s.tadr,
+            _ => s.tadr + 16,
+        }
+    }
+
+    #[tactic(auto, unfolding(crate::specs::Tags::ends_chain))]
+    fn ends_chain(self, stack: Stack) -> bool
+        ensures { result ≡ ends_chain self.id stack }
+    {
+        match self.id {
+            0 | 7 => true,
+            6 => matches!(stack, Stack::Empty),
+            _ => false,
+        }
+    }
+
+    fn next_stack(self, s: State) -> Stack
+        requires { s.tadr < 2 ^ 31 }
+        ensures { result ≡ next_stack self.id s.tadr self.qwc s.stack }
+    {
+        match self.id {
+            5 => push(s.stack, self.after_payload(s.tadr)),
+            6 => pop(s.stack),
+            _ => s.stack,
+        }
+    }
+
+    fn payload(self, tadr: u32) -> Payload
+        requires { tadr < 2 ^ 31 }
+        ensures { result ≡ payload_of (payload_at self.id self.addr tadr) self.qwc }
+    {
+        if self.qwc == 0 {
+            return Payload::Nothing;
+        }
+        Payload::Words {
+            at: self.payload_at(tadr) as u32,
+            count: 4 * self.qwc,
+        }
+    }
+
+    // Refusal 11.
+    fn misaligned(self) -> bool
+        ensures { result ≡ (uses_addr self.id && not (eqb (self.addr % 16) 0)) }
+    {
+        self.uses_addr() && self.addr % 16 != 0
+    }
+
+    // Refusal 12.
+    fn in_scratchpad(self) -> bool
+        ensures { result ≡ (uses_addr self.id && self.spr) }
+    {
+        self.uses_addr() && self.spr
+    }
+
+    // Refusal 13.
+    fn calls_full(self, stack: Stack) -> bool
+        ensures { result ≡ (eqb self.id 5 && is_full stack) }
+    {
+        self.id == 5 && matches!(stack, Stack::Two(..))
+    }
+
+    // Refusal 14.
+    fn lies_outside(self, size: usize, tadr: u32) -> bool
+        ensures { result ≡ (not (eqb self.qwc 0) && ltb size (payload_at self.id self.addr tadr + 16 * self.qwc)) }
+    {
+        self.qwc != 0 && (size as u64) < self.payload_at(tadr) + 16 * u64::from(self.qwc)
+    }
+
+    // Its refusal, in a memory of so many bytes.
+    fn test(self, size: usize, s: State) -> Result<(), Refusal>
+        ensures { refusal_in result ≡ tag_refusal size s.tadr self.id self.addr self.spr self.qwc s.stack }
+    {
+        if (size as u64) < u64::from(s.tadr) + 16 {
+            return Err(Refusal::TadrOutside);
+        }
+        if self.misaligned() {
+            return Err(Refusal::AddrUnaligned);
+        }
+        if self.in_scratchpad() {
+            return Err(Refusal::ScratchpadSet);
+        }
+        if self.calls_full(s.stack) {
+            return Err(Refusal::StackFull);
+        }
+        if self.lies_outside(size, s.tadr) {
+            return Err(Refusal::PayloadOutside);
+        }
+        Ok(())
+    }
+
+    // What it does to the state where it is accepted.
+    fn accepted(self, s: State) -> State
+        requires { s.tadr < 2 ^ 31 }
+        ensures { result ≡ tag_state self.id self.addr self.qwc s }
+    {
+        s.with_tag(
+            self.next_tadr(s),
+            self.ends_chain(s.stack),
+            self.next_stack(s),
+            tag_words_of(s.tte, s.tadr),
+            self.payload(s.tadr),
+        )
+    }
 }
 
 fn return_to(stack: Stack, tadr: u32) -> u32
@@ -51,51 +179,6 @@ fn return_to(stack: Stack, tadr: u32) -> u32
         Stack::Empty => tadr,
         Stack::One(a) => a,
         Stack::Two(_, b) => b,
-    }
-}
-
-fn next_tadr(id: u32, addr: u32, tadr: u32, qwc: u32, stack: Stack) -> u32
-    requires { (tadr < 2 ^ 31) × (qwc ≤ 65535) }
-    ensures { result ≡ next_tadr id addr tadr qwc stack }
-{
-    match id {
-        1 => after_payload(tadr, qwc),
-        2 => addr,
-        5 => addr,
-        6 => return_to(stack, tadr),
-        7 => tadr,
-        _ => tadr + 16,
-    }
-}
-
-fn is_empty(stack: Stack) -> bool
-    ensures { result ≡ is_empty stack }
-{
-    match stack {
-        Stack::Empty => true,
-        Stack::One(_) => false,
-        Stack::Two(_, _) => false,
-    }
-}
-
-fn is_full(stack: Stack) -> bool
-    ensures { result ≡ is_full stack }
-{
-    match stack {
-        Stack::Empty => false,
-        Stack::One(_) => false,
-        Stack::Two(_, _) => true,
-    }
-}
-
-fn ends_chain(id: u32, stack: Stack) -> bool
-    ensures { result ≡ ends_chain id stack }
-{
-    match id {
-        0 => true,
-        7 => true,
-        6 => is_empty(stack),
-        _ => false,
     }
 }
 
@@ -113,171 +196,47 @@ fn pop(stack: Stack) -> Stack
     ensures { result ≡ popped stack }
 {
     match stack {
-        Stack::Empty => Stack::Empty,
-        Stack::One(_) => Stack::Empty,
+        Stack::Empty | Stack::One(_) => Stack::Empty,
         Stack::Two(a, _) => Stack::One(a),
     }
 }
 
-fn next_stack(id: u32, tadr: u32, qwc: u32, stack: Stack) -> Stack
-    requires { (tadr < 2 ^ 31) × (qwc ≤ 65535) }
-    ensures { result ≡ next_stack id tadr qwc stack }
-{
-    match id {
-        5 => push(stack, after_payload(tadr, qwc)),
-        6 => pop(stack),
-        _ => stack,
-    }
-}
-
-fn tag_words_of(tte: bool, tadr: u32) -> TagWords
+fn tag_words_of(tte: bool, tadr: u32) -> Option<u32>
     requires { tadr < 2 ^ 31 }
     ensures { result ≡ tag_words_of tte tadr }
 {
-    if tte {
-        TagWords::From(tadr + 8)
-    } else {
-        TagWords::Nothing
-    }
-}
-
-fn payload_of(at: u32, qwc: u32) -> Payload
-    requires { qwc ≤ 65535 }
-    ensures { result ≡ payload_of at qwc }
-{
-    if qwc == 0 {
-        Payload::Nothing
-    } else {
-        Payload::Words { at, count: 4 * qwc }
-    }
-}
-
-// Refusal 11.
-fn misaligned(id: u32, addr: u32) -> bool
-    ensures { result ≡ (uses_addr id && not (eqb (addr % 16) 0)) }
-{
-    if uses_addr(id) {
-        return addr % 16 != 0;
-    }
-    false
-}
-
-// Refusal 12.
-fn scratchpad(id: u32, spr: bool) -> bool
-    ensures { result ≡ (uses_addr id && spr) }
-{
-    if uses_addr(id) {
-        return spr;
-    }
-    false
-}
-
-// Refusal 13.
-fn call_refused(id: u32, stack: Stack) -> bool
-    ensures { result ≡ (eqb id 5 && is_full stack) }
-{
-    if id == 5 {
-        return is_full(stack);
-    }
-    false
-}
-
-// Refusal 14.
-fn payload_refused(size: usize, id: u32, addr: u32, tadr: u32, qwc: u32) -> bool
-    requires { (tadr < 2 ^ 31) × (qwc ≤ 65535) × (addr < 2 ^ 31) }
-    ensures { result ≡ (not (eqb qwc 0) && ltb size (payload_at id addr tadr + 16 * qwc)) }
-{
-    if qwc == 0 {
-        return false;
-    }
-    size < (payload_at(id, addr, tadr) + 16 * qwc) as usize
-}
-
-// The refusal of a tag, 0 for none.
-fn tag_refusal(size: usize, tadr: u32, id: u32, addr: u32, spr: bool, qwc: u32, stack: Stack) -> u32
-    requires { (tadr < 2 ^ 31) × (qwc ≤ 65535) × (addr < 2 ^ 31) }
-    ensures { result ≡ tag_refusal size tadr id addr spr qwc stack }
-{
-    if size < (tadr + 16) as usize {
-        return refusals::TADR_OUTSIDE;
-    }
-    if misaligned(id, addr) {
-        return refusals::ADDR_UNALIGNED;
-    }
-    if scratchpad(id, spr) {
-        return refusals::SCRATCHPAD_SET;
-    }
-    if call_refused(id, stack) {
-        return refusals::STACK_FULL;
-    }
-    if payload_refused(size, id, addr, tadr, qwc) {
-        return refusals::PAYLOAD_OUTSIDE;
-    }
-    0
-}
-
-fn tag_state(id: u32, addr: u32, qwc: u32, s: State) -> State
-    requires { (s.tadr < 2 ^ 31) × (qwc ≤ 65535) }
-    ensures { result ≡ tag_state id addr qwc s }
-{
-    let stack = s.stack;
-    let tadr = s.tadr;
-    let next = next_tadr(id, addr, tadr, qwc, stack);
-    let ended = ends_chain(id, stack);
-    let after = next_stack(id, tadr, qwc, stack);
-    let tags = tag_words_of(s.tte, tadr);
-    let payload = payload_of(payload_at(id, addr, tadr), qwc);
-    with_tag(s, next, ended, after, tags, payload)
+    if tte { Some(tadr + 8) } else { None }
 }
 
 // A step that was completed, and what it counts for.
 pub(crate) fn completed(interrupt: bool, counts: Counts, state: State) -> StepResult
-    ensures { result ≡ completed_result interrupt counts state }
+    ensures { state_stepped result ≡ completed_result interrupt counts state }
 {
     StepResult {
-        answer: StepAnswer::Completed(interrupt),
+        answer: Ok(interrupt),
         counts,
         state,
     }
 }
 
-pub(crate) fn refused(number: u32, state: State) -> StepResult
-    ensures { result ≡ refused_result number state }
+pub(crate) fn refused(refusal: Refusal, state: State) -> StepResult
+    ensures { state_stepped result ≡ refused_result (refusal_number refusal) state }
 {
-    let counts = no_counts();
     StepResult {
-        answer: StepAnswer::Refused(number),
-        counts,
+        answer: Err(refusal),
+        counts: no_counts(),
         state,
-    }
-}
-
-// A tag by its two low words.
-fn read_tag(size: usize, low: u32, high: u32, s: State) -> StepResult
-    requires { s.tadr < 2 ^ 31 }
-    ensures { result ≡ tag_read size (low + high * 2 ^ 32) s }
-{
-    let qwc = low % 65536;
-    let id = low / 0x1000_0000 % 8;
-    let addr = high % 0x8000_0000;
-    let spr = high / 0x8000_0000 == 1;
-    let stack = s.stack;
-    let refusal = tag_refusal(size, s.tadr, id, addr, spr, qwc, stack);
-    if refusal == 0 {
-        completed(false, one_tag(id, qwc), tag_state(id, addr, qwc, s))
-    } else {
-        refused(refusal, s)
     }
 }
 
 // A tag read.
 pub(crate) fn take_tag(main: &[u8], s: State) -> StepResult
-    requires { (s.tadr < 2 ^ 31) × (length main.now ≤ 1048576) }
-    ensures { result ≡ tag_step main.now s }
+    requires { s.tadr < 2 ^ 31 }
+    ensures { state_stepped result ≡ tag_step main.now s }
 {
-    let tadr = s.tadr;
-    if main.len() < (tadr + 16) as usize {
-        return refused(refusals::TADR_OUTSIDE, s);
+    let tag = Tag::new(long_at(main, s.tadr));
+    match tag.test(main.len(), s) {
+        Ok(()) => completed(false, one_tag(tag.id, tag.qwc), tag.accepted(s)),
+        Err(refusal) => refused(refusal, s),
     }
-    read_tag(main.len(), word_at(main, tadr), word_at(main, tadr + 4), s)
 }

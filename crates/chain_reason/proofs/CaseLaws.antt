@@ -1,13 +1,17 @@
--- What holds at the case that an arm knows holds at the value itself.
-use mathlib.Core.Path.{◌≡◌}
-use Prim.Native.Nat.{ℕ}
-use Rattle.chain_state.specs.declared.Payload.{Payload}
-use Rattle.chain_state.specs.declared.TagWords.{TagWords}
-use Rattle.chain_state.specs.declared.State.{State}
-use Rattle.chain_reason.specs.Reason.{payload_place, pending_place}
+-- A bit that is tested is the number that is shown.
+use mathlib.Core.Path.{◌≡◌, refl, sym}
+use mathlib.Core.Bool.{Bool, true, false}
+use Prim.Native.Nat.{ℕ, ◌<◌}
+use native.Mathlib.Omega.{arith}
+use borrow.Author.Tests.{eqb-true, eqb-false}
+use lib.Dec.{eqb}
+use mir.Val.{bool_byte}
+use Rattle.fields.specs.Fields.{bits}
 
-pub by_payload : {p q : Payload} → p ≡ q → (s : State) {n : ℕ} → n ≡ payload_place q s → n ≡ payload_place p s
-by_payload e s h = rw e h
+tested : (n : ℕ) → n < 2 → (b : Bool) → eqb n 1 ≡ b → bool_byte b ≡ n
+tested n l true e = sym (eqb-true n 1 e)
+tested n l false e = let z = eqb-false n 1 e in omega arith
 
-pub by_tags : {t u : TagWords} → t ≡ u → (p : Payload) (s : State) {n : ℕ} → n ≡ pending_place u p s → n ≡ pending_place t p s
-by_tags e p s h = rw e h
+pub bit_shown : (x : ℕ) → bool_byte (eqb (bits x 63 63) 1) ≡ bits x 63 63
+unfolding bits
+bit_shown x = tested _ (omega arith) _ refl

@@ -13,8 +13,7 @@ use Rattle.fields.specs.Refusals.{tadr_outside, addr_unaligned, scratchpad_set, 
 use Rattle.fields.proofs.ChoiceLaws.{if_ind_by, and_left, and_right, not-true}
 use Rattle.chain_state.specs.declared.Stack.{Stack}
 use Rattle.chain_state.specs.declared.Stack.TheVariants.{Empty, One, Two}
-use Rattle.chain.specs.declared.StepAnswer.TheVariants.{Completed, Refused}
-use Rattle.chain.specs.declared.StepResult.{StepResult}
+use Rattle.chain.specs.StepAnswer.{Completed, Refused, StateStepped}
 use Rattle.chain_state.specs.declared.State.{State}
 use Rattle.chain.specs.Tags.{qwc_of, id_of, addr_of, spr_of, uses_addr, payload_at, is_full, tag_refusal, completed_result, refused_result, tag_read, tag_step}
 use Rattle.chain_reason.specs.Reason.{stack_depth, most_fits, read_numbers, tag_numbers}
@@ -73,7 +72,7 @@ module _ (main : List ℕ) (s : State) where
       if_ind_by Unless0 _ (λ e z. spr_told e)
       (λ e3. if_ind_by Unless0 _ (λ e z. call_told e) (λ e4. if_ind_by Unless0 _ (λ e z. payload_told e) (λ e5 z. absurd (z refl))))))
 
-  record Told (r : StepResult) : Type 0 where
+  record Told (r : StateStepped) : Type 0 where
     told : (n : ℕ) → r.answer ≡ Refused n → Shown n
 
   told_refused : (k : ℕ) → Shown k → Told (refused_result k s)

@@ -1,13 +1,11 @@
 -- Request 6, of the chain: "the address (of the tag, the VIF word or the GIF quadword) and the contents of the field at fault: 11 ADDR, 12 SPR", "10 shows the
 -- TADR, 13 the stack depth", "14 shows QWC and the most that fits".
-use Rattle.std.specs.Prelude.{ℕ, ◌-◌, ◌/◌, List, length, eqb}
+use Rattle.std.specs.Prelude.{ℕ, ◌-◌, ◌/◌, List, length, eqb, None, Option, Some}
 use Rattle.fields.specs.Fields.{if, bits}
 use Rattle.fields.specs.Memory.{long_at}
 use Rattle.fields.specs.Refusals.{tadr_outside, addr_unaligned, scratchpad_set, stack_full, payload_outside}
 use Rattle.chain_state.specs.declared.Stack.{Stack}
 use Rattle.chain_state.specs.declared.Stack.TheVariants.{Empty, One, Two}
-use Rattle.chain_state.specs.declared.TagWords.{TagWords}
-use Rattle.chain_state.specs.declared.TagWords.TheVariants.{Nothing as NoTagWords, From}
 use Rattle.chain_state.specs.declared.Payload.{Payload}
 use Rattle.chain_state.specs.declared.Payload.TheVariants.{Nothing as NoPayload, Words}
 use Rattle.chain_state.specs.declared.State.{State}
@@ -44,9 +42,9 @@ payload_place NoPayload s = s.tadr
 payload_place (Words at n) s = if (eqb n 0) s.tadr at
 
 -- the place that the next step reads: a transferred tag word, else a word or quadword of the payload, else a tag
-abbrev pub pending_place : TagWords → Payload → State → ℕ
-pending_place NoTagWords p s = payload_place p s
-pending_place (From a) p s = a
+abbrev pub pending_place : Option ℕ → Payload → State → ℕ
+pending_place None p s = payload_place p s
+pending_place (Some a) p s = a
 
 -- "the address (of the tag, the VIF word or the GIF quadword)"
 unfoldable pub next_place : State → ℕ

@@ -2,7 +2,7 @@
 ghost use Rattle.std.specs.Prelude.{◌≡◌};
 ghost use Rattle.chain_reason.specs.Reason.{payload_place, next_place};
 
-use chain_state::{Payload, State, TagWords};
+use chain_state::{Payload, State};
 
 // Of the payload's next word or quadword, or of the next tag where none is pending.
 fn payload_place(payload: Payload, s: State) -> u32
@@ -10,18 +10,17 @@ fn payload_place(payload: Payload, s: State) -> u32
 {
     match payload {
         Payload::Nothing => s.tadr,
-        Payload::Words { at, count } => { if count == 0 { s.tadr } else { at } }
+        Payload::Words { at, count } => if count == 0 { s.tadr } else { at },
     }
 }
 
 // Of the tag, the VIF word or the GIF quadword.
+#[tactic(auto, unfolding(crate::specs::Reason::next_place))]
 pub fn next_place(s: State) -> u32
     ensures { result ≡ next_place s }
 {
-    let tags = s.tags;
-    let payload = s.payload;
-    match tags {
-        TagWords::Nothing => payload_place(payload, s),
-        TagWords::From(a) => a,
+    match s.tags {
+        None => payload_place(s.payload, s),
+        Some(a) => a,
     }
 }

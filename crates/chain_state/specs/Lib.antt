@@ -3,3 +3,4 @@ pub mod Setters
 pub mod Pending
 pub mod Range
 pub mod Start
+pub mod StartAnswer

@@ -1,16 +1,14 @@
 -- What is pending: document 01's "Pending means words of the last tag's payload, or its two transferred tag words, not yet taken; they are read from main
 -- memory when taken."
-use Rattle.std.specs.Prelude.{ℕ, ◌+◌, ◌*◌, ◌-◌, ◌/◌, ◌%◌, Bool, true, false, ◌&&◌, eqb, leb}
+use Rattle.std.specs.Prelude.{ℕ, ◌+◌, ◌*◌, ◌-◌, ◌/◌, ◌%◌, Bool, true, false, ◌&&◌, eqb, leb, None, Option, Some}
 use Rattle.fields.specs.Fields.{if}
-use Rattle.chain_state.specs.declared.TagWords.{TagWords}
-use Rattle.chain_state.specs.declared.TagWords.TheVariants.{Nothing as NoTagWords, From}
 use Rattle.chain_state.specs.declared.Payload.{Payload}
 use Rattle.chain_state.specs.declared.Payload.TheVariants.{Nothing as NoPayload, Words}
 use Rattle.chain_state.specs.declared.State.{State}
 
-abbrev pub no_tags : TagWords → Bool
-no_tags NoTagWords = true
-no_tags (From a) = false
+abbrev pub no_tags : Option ℕ → Bool
+no_tags None = true
+no_tags (Some a) = false
 
 -- a count of 0 is nothing pending, whatever the address
 abbrev pub no_payload : Payload → Bool
@@ -26,8 +24,8 @@ abbrev pub nothing_pending : State → Bool
 nothing_pending s = no_tags s.tags && no_payload s.payload
 
 -- after a tag word: word 3 is the last
-unfoldable pub tags_after : ℕ → TagWords
-tags_after a = if (eqb (a / 4 % 4) 3) NoTagWords (From (a + 4))
+unfoldable pub tags_after : ℕ → Option ℕ
+tags_after a = if (eqb (a / 4 % 4) 3) None (Some (a + 4))
 
 -- after k words of the payload
 unfoldable pub payload_after : ℕ → ℕ → ℕ → Payload

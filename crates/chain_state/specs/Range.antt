@@ -1,5 +1,5 @@
 -- The ranges behind refusal 5, and the entry refusals: document 01's "Entry, in this order, zero steps".
-use Rattle.std.specs.Prelude.{ℕ, ◌+◌, ◌*◌, ◌/◌, ◌%◌, ◌^◌, Bool, true, not, ◌&&◌, ◌||◌, List, length, eqb, leb, ltb}
+use Rattle.std.specs.Prelude.{ℕ, ◌+◌, ◌*◌, ◌/◌, ◌%◌, ◌^◌, Bool, true, not, ◌&&◌, ◌||◌, List, length, eqb, leb, ltb, None, Option, Some}
 use Rattle.fields.specs.Fields.{if}
 use Rattle.fields.specs.Refusals.{main_length, out_of_range, payload_outside}
 use Rattle.gif.specs.Range.{path_in_range}
@@ -9,8 +9,6 @@ use Rattle.memories.specs.Lengths.{Lent, lengths_refusal}
 use Rattle.vif_codes.specs.Range.{unit_in_range}
 use Rattle.chain_state.specs.declared.Stack.{Stack}
 use Rattle.chain_state.specs.declared.Stack.TheVariants.{Empty, One, Two}
-use Rattle.chain_state.specs.declared.TagWords.{TagWords}
-use Rattle.chain_state.specs.declared.TagWords.TheVariants.{Nothing as NoTagWords, From}
 use Rattle.chain_state.specs.declared.Payload.{Payload}
 use Rattle.chain_state.specs.declared.Payload.TheVariants.{Nothing as NoPayload, Words}
 use Rattle.chain_state.specs.declared.State.{State}
@@ -42,9 +40,9 @@ stack_in_range (Two a b) = entry_in_range a && entry_in_range b
 unfoldable pub tag_word_in_range : ℕ → Bool → Bool
 tag_word_in_range a tte = tte && (eqb (a % 4) 0 && leb 2 (a / 4 % 4))
 
-unfoldable pub tags_in_range : TagWords → Bool → Bool
-tags_in_range NoTagWords tte = true
-tags_in_range (From a) tte = tag_word_in_range a tte
+unfoldable pub tags_in_range : Option ℕ → Bool → Bool
+tags_in_range None tte = true
+tags_in_range (Some a) tte = tag_word_in_range a tte
 
 -- "pending payload if it starts at a word (channel 2: a quadword), ends with a quadword and is at most 65,535 quadwords"
 unfoldable pub words_in_range : ℕ → ℕ → ℕ → Bool
@@ -69,9 +67,9 @@ unfoldable pub main_refused : ℕ → Bool
 main_refused size = eqb size 0 || (not (eqb (size % 16) 0) || ltb 1048576 size)
 
 -- "14 pending words outside this main memory"; "the last being word 3": the whole quadword of pending tag words lies inside
-unfoldable pub tags_inside : TagWords → ℕ → Bool
-tags_inside NoTagWords size = true
-tags_inside (From a) size = leb (16 * (a / 16 + 1)) size
+unfoldable pub tags_inside : Option ℕ → ℕ → Bool
+tags_inside None size = true
+tags_inside (Some a) size = leb (16 * (a / 16 + 1)) size
 
 unfoldable pub payload_inside : Payload → ℕ → Bool
 payload_inside NoPayload size = true

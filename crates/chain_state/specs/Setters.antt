@@ -1,16 +1,15 @@
 -- The state with some of its parts replaced.
-use Rattle.std.specs.Prelude.{ℕ, Bool}
+use Rattle.std.specs.Prelude.{ℕ, Bool, Option}
 use Rattle.gif.specs.declared.Path.{Path}
 use Rattle.memories.specs.declared.VifUnit.{VifUnit}
 use Rattle.memories.specs.declared.VifUnit.TheVariants.{Vif0, Vif1}
 use Rattle.vif_codes.specs.declared.Vif.{Vif}
 use Rattle.chain_state.specs.declared.Stack.{Stack}
-use Rattle.chain_state.specs.declared.TagWords.{TagWords}
 use Rattle.chain_state.specs.declared.Payload.{Payload}
 use Rattle.chain_state.specs.declared.State.{State}
 
 -- what a tag sets
-abbrev pub with_tag : State → ℕ → Bool → Stack → TagWords → Payload → State
+abbrev pub with_tag : State → ℕ → Bool → Stack → Option ℕ → Payload → State
 with_tag s a e k t p =
     record {
       channel = s.channel;
@@ -28,7 +27,7 @@ with_tag s a e k t p =
     }
 
 -- what is pending
-abbrev pub with_pending : State → TagWords → Payload → State
+abbrev pub with_pending : State → Option ℕ → Payload → State
 with_pending s t p =
     record {
       channel = s.channel;
@@ -91,7 +90,7 @@ with_path3 s p n =
     }
 
 -- what a start sets
-abbrev pub with_start : State → ℕ → ℕ → Bool → Bool → Stack → TagWords → Payload → State
+abbrev pub with_start : State → ℕ → ℕ → Bool → Bool → Stack → Option ℕ → Payload → State
 with_start s c a b e k t p =
     record {
       channel = c;

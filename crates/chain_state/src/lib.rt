@@ -6,8 +6,7 @@ mod range;
 mod setters;
 
 pub use control::{reset, start};
-pub use range::{entry_refusal, unit_of};
-pub use setters::{held_by, with_path3, with_pending, with_tag, with_unit};
+pub use range::{main_refused, test_entry, unit_of};
 
 // The addresses that calls pushed, the last one last.
 #[derive(Clone, Copy)]
@@ -15,13 +14,6 @@ pub enum Stack {
     Empty,
     One(u32),
     Two(u32, u32),
-}
-
-// Transferred tag words not yet taken: the address of the next one.
-#[derive(Clone, Copy)]
-pub enum TagWords {
-    Nothing,
-    From(u32),
 }
 
 // Payload not yet taken: the address of its next word and the number of words.
@@ -38,23 +30,12 @@ pub struct State {
     pub tte: bool,
     pub ended: bool,
     pub stack: Stack,
-    pub tags: TagWords,
+    // Transferred tag words not yet taken: the address of the next one.
+    pub tags: Option<u32>,
     pub payload: Payload,
     pub used: u64,
     pub vif0: vif_codes::Vif,
     pub vif1: vif_codes::Vif,
     pub path2: gif::Path,
     pub path3: gif::Path,
-}
-
-#[derive(Clone, Copy)]
-pub enum StartAnswer {
-    Started,
-    Refused(u32),
-}
-
-#[derive(Clone, Copy)]
-pub struct StartResult {
-    pub answer: StartAnswer,
-    pub state: State,
 }

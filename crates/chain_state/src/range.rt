@@ -1,126 +1,90 @@
 // The ranges behind refusal 5, and the entry refusals.
 ghost use Rattle.std.specs.Prelude.{◌≡◌, not, ◌&&◌, ◌||◌, ◌+◌, ◌*◌, ◌%◌, eqb, leb};
+ghost use Rattle.fields.specs.Refusals.{refusal_in};
 ghost use Rattle.gif.specs.Range.{path_in_range};
 ghost use Rattle.memories.specs.declared.VifUnit.TheVariants.{Vif0, Vif1};
 ghost use Rattle.memories.specs.Lengths.{lent};
 ghost use Rattle.vif_codes.specs.Range.{unit_in_range};
 ghost use Rattle.chain_state.specs.Range.{unit_of, channel_in_range, start_in_range, entry_in_range, stack_in_range, tag_word_in_range, tags_in_range, words_in_range, payload_in_range, state_in_range, main_refused, tags_inside, payload_inside, entry_refusal};
 
-use super::{Payload, Stack, State, TagWords};
-use fields::refusals;
-use memories::{VifUnit, lengths_refusal};
+use super::{Payload, Stack, State};
+use fields::{MAIN_MOST, Refusal};
+use memories::{VifUnit, test_lengths};
 
 // The unit by the channel.
 pub fn unit_of(channel: u32) -> VifUnit
     ensures { result ≡ unit_of channel }
 {
     if channel == 0 {
-        return VifUnit::Vif0;
+        VifUnit::Vif0
+    } else {
+        VifUnit::Vif1
     }
-    VifUnit::Vif1
 }
 
+#[tactic(auto, unfolding(crate::specs::Range::channel_in_range))]
 fn channel_in_range(channel: u32, tte: bool) -> bool
     ensures { result ≡ channel_in_range channel tte }
 {
-    if channel == 0 {
-        return true;
+    match channel {
+        0 | 1 => true,
+        2 => !tte,
+        _ => false,
     }
-    if channel == 1 {
-        return true;
-    }
-    if channel == 2 {
-        return !tte;
-    }
-    false
 }
 
 // The start values, and the same fields of a state.
+#[tactic(auto, unfolding(crate::specs::Range::start_in_range))]
 pub(crate) fn start_in_range(channel: u32, tadr: u32, tte: bool) -> bool
     ensures { result ≡ start_in_range channel tadr tte }
 {
-    if channel_in_range(channel, tte) {
-        if tadr % 16 == 0 {
-            return tadr < 0x8000_0000;
-        }
-    }
-    false
+    channel_in_range(channel, tte) && tadr % 16 == 0 && tadr < 0x8000_0000
 }
 
+#[tactic(auto, unfolding(crate::specs::Range::entry_in_range))]
 fn entry_in_range(a: u32) -> bool
     ensures { result ≡ entry_in_range a }
 {
-    if a % 16 == 0 {
-        return a <= 1048576;
-    }
-    false
+    a % 16 == 0 && a <= 1048576
 }
 
-fn both_in_range(a: u32, b: u32) -> bool
-    ensures { result ≡ (entry_in_range a && entry_in_range b) }
-{
-    if entry_in_range(a) {
-        return entry_in_range(b);
-    }
-    false
-}
-
+#[tactic(auto, unfolding(crate::specs::Range::stack_in_range))]
 fn stack_in_range(stack: Stack) -> bool
     ensures { result ≡ stack_in_range stack }
 {
     match stack {
         Stack::Empty => true,
         Stack::One(a) => entry_in_range(a),
-        Stack::Two(a, b) => both_in_range(a, b),
+        Stack::Two(a, b) => entry_in_range(a) && entry_in_range(b),
     }
 }
 
+#[tactic(auto, unfolding(crate::specs::Range::tag_word_in_range))]
 fn tag_word_in_range(a: u32, tte: bool) -> bool
     ensures { result ≡ tag_word_in_range a tte }
 {
-    if tte {
-        if a % 4 == 0 {
-            return 2 <= a / 4 % 4;
-        }
-    }
-    false
+    tte && a % 4 == 0 && 2 <= a / 4 % 4
 }
 
-fn tags_in_range(tags: TagWords, tte: bool) -> bool
+#[tactic(auto, unfolding(crate::specs::Range::tags_in_range))]
+fn tags_in_range(tags: Option<u32>, tte: bool) -> bool
     ensures { result ≡ tags_in_range tags tte }
 {
     match tags {
-        TagWords::Nothing => true,
-        TagWords::From(a) => tag_word_in_range(a, tte),
+        None => true,
+        Some(a) => tag_word_in_range(a, tte),
     }
 }
 
-fn aligned(channel: u32, at: u32) -> bool
-    ensures { result ≡ (not (eqb channel 2) || eqb (at % 16) 0) }
-{
-    if channel != 2 {
-        return true;
-    }
-    at % 16 == 0
-}
-
+#[tactic(auto, unfolding(crate::specs::Range::words_in_range))]
 fn words_in_range(channel: u32, at: u32, n: u32) -> bool
     ensures { result ≡ words_in_range channel at n }
 {
-    if n == 0 {
-        return true;
-    }
-    if at % 4 != 0 {
-        return false;
-    }
-    if aligned(channel, at) {
-        if n <= 262140 {
-            return (at / 4 + n) % 4 == 0;
-        }
-    }
-    false
+    n == 0
+        || (at % 4 == 0 && (channel != 2 || at % 16 == 0) && n <= 262140 && (at / 4 + n) % 4 == 0)
 }
 
+#[tactic(auto, unfolding(crate::specs::Range::payload_in_range))]
 fn payload_in_range(payload: Payload, channel: u32) -> bool
     ensures { result ≡ payload_in_range payload channel }
 {
@@ -130,123 +94,77 @@ fn payload_in_range(payload: Payload, channel: u32) -> bool
     }
 }
 
-fn units_in_range(s: State) -> bool
-    ensures { result ≡ (unit_in_range Vif0 s.vif0 && unit_in_range Vif1 s.vif1) }
-{
-    let vif0 = s.vif0;
-    let vif1 = s.vif1;
-    if vif_codes::unit_in_range(VifUnit::Vif0, vif0) {
-        return vif_codes::unit_in_range(VifUnit::Vif1, vif1);
-    }
-    false
-}
-
 fn devices_in_range(s: State) -> bool
     ensures { result ≡ ((unit_in_range Vif0 s.vif0 && unit_in_range Vif1 s.vif1) && (path_in_range s.path2 && path_in_range s.path3)) }
 {
-    let path2 = s.path2;
-    let path3 = s.path3;
-    if units_in_range(s) {
-        if gif::path_in_range(path2) {
-            return gif::path_in_range(path3);
-        }
-    }
-    false
-}
-
-fn pending_in_range(s: State) -> bool
-    ensures { result ≡ (tags_in_range s.tags s.tte && payload_in_range s.payload s.channel) }
-{
-    let tags = s.tags;
-    let payload = s.payload;
-    if tags_in_range(tags, s.tte) {
-        return payload_in_range(payload, s.channel);
-    }
-    false
+    vif_codes::unit_in_range(VifUnit::Vif0, s.vif0)
+        && vif_codes::unit_in_range(VifUnit::Vif1, s.vif1)
+        && gif::path_in_range(s.path2)
+        && gif::path_in_range(s.path3)
 }
 
 // Whether every field of a state is in its range.
+#[tactic(auto, unfolding(crate::specs::Range::state_in_range))]
 pub(crate) fn state_in_range(s: State) -> bool
     ensures { result ≡ state_in_range s }
 {
-    let stack = s.stack;
-    if start_in_range(s.channel, s.tadr, s.tte) {
-        if stack_in_range(stack) {
-            if pending_in_range(s) {
-                return devices_in_range(s);
-            }
-        }
-    }
-    false
+    start_in_range(s.channel, s.tadr, s.tte)
+        && stack_in_range(s.stack)
+        && tags_in_range(s.tags, s.tte)
+        && payload_in_range(s.payload, s.channel)
+        && devices_in_range(s)
 }
 
-fn main_refused(size: usize) -> bool
+// Whether main memory of so many bytes is refused.
+#[tactic(auto, unfolding(crate::specs::Range::main_refused))]
+pub fn main_refused(size: usize) -> bool
     ensures { result ≡ main_refused size }
 {
-    if size == 0 {
-        return true;
-    }
-    if size % 16 != 0 {
-        return true;
-    }
-    1048576 < size
+    size == 0 || size % 16 != 0 || MAIN_MOST < size
 }
 
-fn tags_inside(tags: TagWords, size: usize) -> bool
+#[tactic(auto, unfolding(crate::specs::Range::tags_inside))]
+fn tags_inside(tags: Option<u32>, size: usize) -> bool
     ensures { result ≡ tags_inside tags size }
 {
     match tags {
-        TagWords::Nothing => true,
-        TagWords::From(a) => 16 * (a as u64 / 16 + 1) <= size as u64,
+        None => true,
+        Some(a) => 16 * (u64::from(a) / 16 + 1) <= size as u64,
     }
 }
 
-fn words_inside(at: u32, n: u32, size: usize) -> bool
-    ensures { result ≡ (eqb n 0 || leb (at + 4 * n) size) }
-{
-    if n == 0 {
-        return true;
-    }
-    at as u64 + 4 * n as u64 <= size as u64
-}
-
+#[tactic(auto, unfolding(crate::specs::Range::payload_inside))]
 fn payload_inside(payload: Payload, size: usize) -> bool
     ensures { result ≡ payload_inside payload size }
 {
     match payload {
         Payload::Nothing => true,
-        Payload::Words { at, count } => words_inside(at, count, size),
+        Payload::Words { at, count } => {
+            count == 0 || u64::from(at) + 4 * u64::from(count) <= size as u64
+        }
     }
 }
 
-fn pending_inside(s: State, size: usize) -> bool
-    ensures { result ≡ (tags_inside s.tags size && payload_inside s.payload size) }
-{
-    let tags = s.tags;
-    let payload = s.payload;
-    if tags_inside(tags, size) {
-        return payload_inside(payload, size);
-    }
-    false
-}
-
-// The entry refusal, 0 for none.
-pub fn entry_refusal(main: &[u8], data: &[u32], code: &[u8], log: &[u64], s: State) -> u32
-    ensures { result
+// The entry refusal.
+pub fn test_entry(
+    main: &[u8],
+    data: &[u32],
+    code: &[u8],
+    log: &[u64],
+    s: State,
+) -> Result<(), Refusal>
+    ensures { refusal_in result
         ≡ entry_refusal main.now (lent «data».now code.now log.now) s }
 {
     if main_refused(main.len()) {
-        return refusals::MAIN_LENGTH;
+        return Err(Refusal::MainLength);
     }
-    let refusal = lengths_refusal(unit_of(s.channel), data, code, log, s.used);
-    if refusal != 0 {
-        return refusal;
+    test_lengths(unit_of(s.channel), data, code, log, s.used)?;
+    if !state_in_range(s) {
+        return Err(Refusal::OutOfRange);
     }
-    if state_in_range(s) {
-        if pending_inside(s, main.len()) {
-            return 0;
-        }
-        return refusals::PAYLOAD_OUTSIDE;
+    if !(tags_inside(s.tags, main.len()) && payload_inside(s.payload, main.len())) {
+        return Err(Refusal::PayloadOutside);
     }
-    refusals::OUT_OF_RANGE
+    Ok(())
 }

@@ -1,100 +1,81 @@
 // The state with some of its parts replaced.
 ghost use Rattle.std.specs.Prelude.{◌≡◌};
-ghost use Rattle.chain_state.specs.Setters.{with_tag, with_pending, held_by, with_unit, with_path3, with_start};
+ghost use Rattle.chain_state.specs.Setters.{with_tag, with_pending, held_by, with_unit, with_path3};
 
-use super::{Payload, Stack, State, TagWords};
+use super::{Payload, Stack, State};
 use gif::Path;
 use memories::VifUnit;
 use vif_codes::Vif;
 
-// What a tag sets.
-pub fn with_tag(
-    s: State,
-    tadr: u32,
-    ended: bool,
-    stack: Stack,
-    tags: TagWords,
-    payload: Payload,
-) -> State
-    ensures { result ≡ with_tag s tadr ended stack tags payload }
-{
-    State {
-        tadr,
-        ended,
-        stack,
-        tags,
-        payload,
-        ..s
+impl State {
+    // What a tag sets.
+    pub fn with_tag(
+        self,
+        tadr: u32,
+        ended: bool,
+        stack: Stack,
+        tags: Option<u32>,
+        payload: Payload,
+    ) -> State
+        ensures { result ≡ with_tag self tadr ended stack tags payload }
+    {
+        State {
+            tadr,
+            ended,
+            stack,
+            ..self.with_pending(tags, payload)
+        }
     }
-}
 
-// What is pending.
-pub fn with_pending(s: State, tags: TagWords, payload: Payload) -> State
-    ensures { result ≡ with_pending s tags payload }
-{
-    State { tags, payload, ..s }
-}
-
-// A unit's registers and waiting code.
-pub fn held_by(which: VifUnit, s: State) -> Vif
-    ensures { result ≡ held_by which s }
-{
-    let vif0 = s.vif0;
-    let vif1 = s.vif1;
-    match which {
-        VifUnit::Vif0 => vif0,
-        VifUnit::Vif1 => vif1,
+    // What is pending.
+    pub fn with_pending(self, tags: Option<u32>, payload: Payload) -> State
+        ensures { result ≡ with_pending self tags payload }
+    {
+        State {
+            tags,
+            payload,
+            ..self
+        }
     }
-}
 
-// What a unit's step leaves.
-pub fn with_unit(which: VifUnit, s: State, unit: Vif, path2: Path, used: u64) -> State
-    ensures { result ≡ with_unit which s unit path2 used }
-{
-    match which {
-        VifUnit::Vif0 => State {
-            vif0: unit,
-            path2,
+    // A unit's registers and waiting code.
+    pub fn held_by(self, which: VifUnit) -> Vif
+        ensures { result ≡ held_by which self }
+    {
+        match which {
+            VifUnit::Vif0 => self.vif0,
+            VifUnit::Vif1 => self.vif1,
+        }
+    }
+
+    // What a unit's step leaves.
+    pub fn with_unit(self, which: VifUnit, unit: Vif, path2: Path, used: u64) -> State
+        ensures { result ≡ with_unit which self unit path2 used }
+    {
+        match which {
+            VifUnit::Vif0 => State {
+                vif0: unit,
+                path2,
+                used,
+                ..self
+            },
+            VifUnit::Vif1 => State {
+                vif1: unit,
+                path2,
+                used,
+                ..self
+            },
+        }
+    }
+
+    // What the GIF's step on path 3 leaves.
+    pub fn with_path3(self, path3: Path, used: u64) -> State
+        ensures { result ≡ with_path3 self path3 used }
+    {
+        State {
+            path3,
             used,
-            ..s
-        },
-        VifUnit::Vif1 => State {
-            vif1: unit,
-            path2,
-            used,
-            ..s
-        },
-    }
-}
-
-// What the GIF's step on path 3 leaves.
-pub fn with_path3(s: State, path3: Path, used: u64) -> State
-    ensures { result ≡ with_path3 s path3 used }
-{
-    State { path3, used, ..s }
-}
-
-// What a start sets.
-pub(crate) fn with_start(
-    s: State,
-    channel: u32,
-    tadr: u32,
-    tte: bool,
-    ended: bool,
-    stack: Stack,
-    tags: TagWords,
-    payload: Payload,
-) -> State
-    ensures { result ≡ with_start s channel tadr tte ended stack tags payload }
-{
-    State {
-        channel,
-        tadr,
-        tte,
-        ended,
-        stack,
-        tags,
-        payload,
-        ..s
+            ..self
+        }
     }
 }

@@ -1,16 +1,19 @@
 -- The answers of the comparison.
-use mathlib.Core.Path.{◌≡◌, refl}
+use mathlib.Core.Path.{◌≡◌, refl, ◌∙◌}
 use mathlib.Core.Bool.{Bool, true, false, ◌&&◌}
 use mathlib.Core.List.{List}
-use Prim.Native.Nat.{ℕ, ◌*◌, ◌≤◌}
+use Prim.Native.Nat.{ℕ, ◌*◌, ◌≤◌, min}
 use native.Mathlib.Nat.{mul-zero}
 use native.Mathlib.Omega.{arith}
 use lib.ListN.{length}
 use lib.Dec.{ltb}
 use borrow.Author.Rules.{rules}
-use borrow.Author.Tests.{ne_eqb, ltb-true, ltb-false}
+use borrow.Author.Tests.{ltb-true, ltb-false}
 use Rattle.fields.specs.Fields.{if}
+use Rattle.fields.specs.declared.refusals.Refusal.{Refusal}
+use Rattle.fields.specs.Refusals.{refusal_number}
 use Rattle.fields.proofs.ChoiceLaws.{if_ind_by}
+use Rattle.fields.proofs.RefusalLaws.{refusal_not_none}
 use Rattle.gif.specs.Log.{entry_size, log_most}
 use Rattle.memories.specs.declared.VifUnit.{VifUnit}
 use Rattle.memories.specs.declared.VifUnit.TheVariants.{Vif0, Vif1}
@@ -19,7 +22,7 @@ use Rattle.memories.proofs.UnitLaws.{quadwords_most, instructions_most}
 use Rattle.compare.specs.declared.Comparison.{Comparison}
 use Rattle.compare.specs.declared.Found.{Found}
 use Rattle.compare.specs.declared.UnitFound.{UnitFound}
-use Rattle.compare.specs.declared.CompareAnswer.TheVariants.{Compared, Refused}
+use Rattle.compare.specs.CompareAnswer.{Compared, Refused}
 use Rattle.compare.specs.Elements.{found_in}
 use Rattle.compare.specs.Parts.{data_part, code_part, log_part, asks, looked_at}
 use Rattle.compare.specs.Boards.{Memories, Board, other_length, data_refused, code_refused, refusal}
@@ -32,6 +35,11 @@ pub smaller_below : (x y : ℕ) → (smaller x y ≤ x) × (smaller x y ≤ y)
 unfolding smaller
 smaller_below x y =
     if_ind_by (λ (k : ℕ). (k ≤ x) × (k ≤ y)) (ltb x y) (λ t. omega (arith, ltb-true)) (λ f. omega (arith, ltb-false))
+
+pub min_smaller : (x y : ℕ) → min x y ≡ smaller x y
+unfolding smaller
+min_smaller x y =
+    if_ind_by (λ (k : ℕ). min x y ≡ k) (ltb x y) (λ t. omega (arith, ltb-true)) (λ f. omega (arith, ltb-false))
 
 pub smaller_same : (x : ℕ) → smaller x x ≡ x
 unfolding smaller
@@ -94,9 +102,9 @@ unit_found_is parts u a b p q e d = rw (← p, ← q, e, d)
 
 -- the entries that both boards have, by how many of each are looked at
 module _ (parts : ℕ) (a b : Board) {asked : Bool} {k l n : ℕ} (t : asked ≡ asks parts log_part) (p : k ≡ looked_at asked a.used)
-    (q : l ≡ looked_at asked b.used) (e : n ≡ smaller k l) where
+    (q : l ≡ looked_at asked b.used) (e : n ≡ min k l) where
   entries_looked_at : n ≡ smaller (entries_asked parts a) (entries_asked parts b)
-  entries_looked_at = rw (← t, ← p, ← q) e
+  entries_looked_at = rw (← t, ← p, ← q) (e ∙ min_smaller k l)
 
   pub entries_inside : refusal parts a b ≡ 0 → Inside (entry_size * n) a.log b.log
   entries_inside z = rw entries_looked_at (entries_in_logs parts a b z)
@@ -110,11 +118,11 @@ module _ (parts : ℕ) (a b : Board) {asked : Bool} {k l n : ℕ} (t : asked ≡
 
 -- ---- the answers
 
-module _ (parts : ℕ) (a b : Board) {n : ℕ} (e : n ≡ refusal parts a b) where
-  pub boards_refused : (n ≡ 0 → ⊥) → Refused n ≡ compare_of parts a b
+module _ (parts : ℕ) (a b : Board) where
+  pub boards_refused : (e : Refusal) → refusal_number e ≡ refusal parts a b → Refused (refusal_number e) ≡ compare_of parts a b
   unfolding compare_of if
-  boards_refused z = rw (← e, ne_eqb n 0 z)
+  boards_refused e p = rw (← p, refusal_not_none e)
 
-  pub boards_compared : n ≡ 0 → {c : Comparison} → c ≡ comparison_of parts a b → Compared c ≡ compare_of parts a b
+  pub boards_compared : {c : Comparison} → 0 ≡ refusal parts a b → c ≡ comparison_of parts a b → Compared c ≡ compare_of parts a b
   unfolding compare_of if
-  boards_compared z q = rw (← e, z, q)
+  boards_compared z q = rw (← z, q)

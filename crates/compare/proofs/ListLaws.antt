@@ -1,20 +1,23 @@
 -- Elements that are equal, as parts of lists.
-use mathlib.Core.Path.{◌≡◌, sym, ap, ◌∙◌}
-use mathlib.Core.Bool.{false, not}
+use mathlib.Core.Path.{◌≡◌, refl, sym, ap, ◌∙◌}
+use mathlib.Core.Bool.{Bool, true, false, not}
 use mathlib.Core.List.{List}
-use Prim.Native.Nat.{ℕ, ◌+◌, ◌*◌, ◌/◌, ◌%◌, ◌<◌, ◌≤◌}
+use Prim.Native.Nat.{ℕ, ◌+◌, ◌-◌, ◌*◌, ◌/◌, ◌%◌, ◌<◌, ◌≤◌}
 use native.Mathlib.Nat.{mul_comm, mul-le-mul_left, mod-lt, div-add-mod, div-lt_iff_lt-mul}
 use native.Mathlib.Omega.{arith}
-use lib.ListN.{length, get_or, take, drop}
+use lib.ListN.{length, get_or, take, drop, length-drop}
 use lib.Seq.{ext_get_or, get_or-take, get_or-drop, length-take-le}
 use borrow.Author.Rules.{rules}
 use borrow.Author.Tests.{eq-eqb, eqb-true, not-false}
+use Rattle.std.specs.Prelude.{nat_eq, slice_range}
+use Rattle.std.specs.Cmp.Lexicographic.{pointwise}
+use Rattle.std.proofs.lemmas.Slice.Eq.{bytes_eq-Decides}
 use Rattle.compare.specs.Elements.{number_differs, differs, found_in}
-use Rattle.compare.specs.Inner.{Inside}
+use Rattle.compare.specs.Inner.{Inside, unequal, found_by}
 use Rattle.compare.specs.Equal.{EqualTo, FirstDifference, Says}
 use Rattle.compare.specs.Tests.{first_of, how_many}
-use Rattle.compare.proofs.ElementLaws.{element_room}
-use Rattle.compare.proofs.TestLaws.{None, never, some_none, none_some, zero_none, none_zero_count, first_is, end_none, none_end}
+use Rattle.compare.proofs.ElementLaws.{element_room, element_inside}
+use Rattle.compare.proofs.TestLaws.{first_alike, count_alike, None, never, some_none, none_some, zero_none, none_zero_count, first_is, end_none, none_end}
 
 -- ---- lists that are equal in their first numbers
 
@@ -47,6 +50,46 @@ module _ (size : ℕ) (a b : List ℕ) (i : ℕ) where
   equal_element e =
       numbers_element
       (λ j l. sym (get_or-drop (size * i) a j 0) ∙ take_numbers (drop (size * i) a) (drop (size * i) b) size e j l ∙ get_or-drop (size * i) b j 0)
+
+-- ---- one element, by what == says of its numbers
+
+opposite : (p d : Bool) → (p ≡ true → d ≡ false) → (d ≡ false → p ≡ true) → not p ≡ d
+opposite true true f g = sym (f refl)
+opposite true false f g = refl
+opposite false true f g = refl
+opposite false false f g = sym (g refl)
+
+module _ (size : ℕ) (a b : List ℕ) where
+  element_taken : (i : ℕ) → Inside (size * i + size) a b → differs size a b i ≡ false
+      → slice_range a (size * i) (size * i + size) ≡ slice_range b (size * i) (size * i + size)
+  element_taken i p h =
+      let x = length-drop (size * i) a in
+      let y = length-drop (size * i) b in
+      let z : size * i + size - size * i ≡ size = omega arith in
+      let l = p.left in
+      let r = p.right in
+      rw z
+      (numbers_take (drop (size * i) a) (drop (size * i) b) size (omega arith) (omega arith)
+      (λ j k. get_or-drop (size * i) a j 0 ∙ element_numbers size a b i h j k ∙ sym (get_or-drop (size * i) b j 0)))
+
+  taken_element : (i : ℕ) → slice_range a (size * i) (size * i + size) ≡ slice_range b (size * i) (size * i + size) → differs size a b i ≡ false
+  taken_element i e =
+      let z : size * i + size - size * i ≡ size = omega arith in
+      equal_element size a b i (rw z at e)
+
+  unequal_differs : (i : ℕ) → Inside (size * i + size) a b → unequal nat_eq size a b i ≡ differs size a b i
+  unequal_differs i p =
+      let x = slice_range a (size * i) (size * i + size) in
+      let y = slice_range b (size * i) (size * i + size) in
+      let d = bytes_eq-Decides x y in
+      opposite (pointwise nat_eq x y) (differs size a b i) (λ t. taken_element i (d.0 t)) (λ f. d.1 (element_taken i p f))
+
+  -- what is found in lists of numbers
+  pub numbers_found : (n : ℕ) → Inside (size * n) a b → found_by (unequal nat_eq size a b) n ≡ found_in size a b n
+  unfolding found_by found_in
+  numbers_found n p =
+      let same : (i : ℕ) → i < n → unequal nat_eq size a b i ≡ differs size a b i = λ i h. unequal_differs i (element_inside size n i a b h p) in
+      rw (first_alike (unequal nat_eq size a b) (differs size a b) n same, count_alike (unequal nat_eq size a b) (differs size a b) n same)
 
 -- ---- n elements
 

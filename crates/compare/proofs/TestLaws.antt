@@ -95,3 +95,15 @@ module _ (test : ℕ → Bool) where
       let f = first_is n in
       let l : first_of test n < n → ⊥ = λ l. never (f.holds l) (h.not _ l) in
       omega arith
+
+-- two tests that answer alike below n
+module _ (f g : ℕ → Bool) where
+  pub first_alike : (n : ℕ) → ((i : ℕ) → i < n → f i ≡ g i) → first_of f n ≡ first_of g n
+  unfolding first_of
+  first_alike zero h = refl
+  first_alike (suc n) h = rw (first_alike n (λ i l. h i (omega arith)), h n (omega arith))
+
+  pub count_alike : (n : ℕ) → ((i : ℕ) → i < n → f i ≡ g i) → how_many f n ≡ how_many g n
+  unfolding how_many
+  count_alike zero h = refl
+  count_alike (suc n) h = rw (count_alike n (λ i l. h i (omega arith)), h n (omega arith))

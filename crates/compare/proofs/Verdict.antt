@@ -20,8 +20,7 @@ use Rattle.memories.specs.declared.VifUnit.TheVariants.{Vif0, Vif1}
 use Rattle.memories.specs.Units.{quadwords, instructions}
 use Rattle.compare.specs.declared.UnitFound.{UnitFound}
 use Rattle.compare.specs.declared.Comparison.{Comparison}
-use Rattle.compare.specs.declared.CompareAnswer.{CompareAnswer}
-use Rattle.compare.specs.declared.CompareAnswer.TheVariants.{Compared, Refused}
+use Rattle.compare.specs.CompareAnswer.{CompareAnswer, Compared, Refused}
 use Rattle.compare.specs.Tests.{how_many, first_of}
 use Rattle.compare.specs.Elements.{found, found_in}
 use Rattle.compare.specs.Parts.{data_part, code_part, log_part, all_parts, asks, looked_at, Asked}

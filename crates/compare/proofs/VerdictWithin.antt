@@ -14,8 +14,7 @@ use Rattle.memories.specs.declared.VifUnit.{VifUnit}
 use Rattle.memories.specs.declared.VifUnit.TheVariants.{Vif0, Vif1}
 use Rattle.memories.specs.Units.{quadwords}
 use Rattle.compare.specs.declared.Comparison.{Comparison}
-use Rattle.compare.specs.declared.CompareAnswer.{CompareAnswer}
-use Rattle.compare.specs.declared.CompareAnswer.TheVariants.{Compared, Refused}
+use Rattle.compare.specs.CompareAnswer.{CompareAnswer, Compared, Refused}
 use Rattle.compare.specs.Elements.{found, found_in, found_from}
 use Rattle.compare.specs.Parts.{data_part, code_part, log_part, asks, Asked}
 use Rattle.compare.specs.Boards.{Board, memories_of, found_of, compare_of, comparison_of, same_of}
@@ -131,7 +130,7 @@ module _ (parts first last : ℕ) (a b : Board) (c : Comparison) where
     whole = whole_of (compare_of parts a b) compared_within.1
 
     fits : (u : VifUnit) → RangeFits parts u first last (memories_of u a).mem (memories_of u b).mem
-    fits = range_fits parts first last a b refl compared_within.0 refl whole.1.0 refl
+    fits = range_fits parts first last a b refl compared_within.0 refl whole.1.0
 
     module _ (u : VifUnit) where
       quadwords_are : (found_of u c).quadwords ≡ quadwords_within parts u first last (memories_of u a).mem (memories_of u b).mem

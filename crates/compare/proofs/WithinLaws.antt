@@ -8,6 +8,7 @@ use lib.ListN.{length, take, drop, length-drop}
 use lib.Seq.{take_all}
 use lib.Dec.{ltb}
 use borrow.Author.Tests.{leb-false, ltb-false, not-false}
+use Rattle.std.specs.Prelude.{slice_range}
 use Rattle.fields.specs.Fields.{if}
 use Rattle.fields.specs.Refusals.{out_of_range}
 use Rattle.fields.proofs.ChoiceLaws.{or_left, or_right}
@@ -17,8 +18,7 @@ use Rattle.memories.specs.Units.{quadwords, data_words}
 use Rattle.memories.proofs.UnitLaws.{quadwords_most}
 use Rattle.compare.specs.declared.Found.{Found}
 use Rattle.compare.specs.declared.Comparison.{Comparison}
-use Rattle.compare.specs.declared.CompareAnswer.{CompareAnswer}
-use Rattle.compare.specs.declared.CompareAnswer.TheVariants.{Compared, Refused}
+use Rattle.compare.specs.CompareAnswer.{CompareAnswer, Compared, Refused}
 use Rattle.compare.specs.Elements.{differs, found, found_in, found_from}
 use Rattle.compare.specs.Parts.{data_part, asks}
 use Rattle.compare.specs.Boards.{Board, memories_of, data_refused, compare_of}
@@ -35,6 +35,17 @@ to_end : (a : List ℕ) (k : ℕ) → take (length a - k) (drop k a) ≡ drop k 
 to_end a k =
     let l = length-drop k a in
     take_all (length a - k) (drop k a) (omega arith)
+
+-- elements from one on lie within those to the end
+pub inside_from : (from n : ℕ) (a b : List ℕ) → Inside (4 * (from + n)) a b
+    → Inside (4 * n) (slice_range a (4 * from) (length a)) (slice_range b (4 * from) (length b))
+inside_from from n a b p =
+    let x = length-drop (4 * from) a in
+    let y = length-drop (4 * from) b in
+    let s = p.small in
+    let l = p.left in
+    let r = p.right in
+    rw (to_end a (4 * from), to_end b (4 * from)) (record { small = omega arith; left = omega arith; right = omega arith })
 
 module _ (from n : ℕ) (a b : List ℕ) {f : Found}
     (e : f ≡ found_in 4 (take (length a - 4 * from) (drop (4 * from) a)) (take (length b - 4 * from) (drop (4 * from) b)) n) where
@@ -112,16 +123,16 @@ module _ (parts first last : ℕ) (a b : Board) {t : Bool} (e : t ≡ range_refu
   unfolding compare_within if
   range_out h = rw (← e, h)
 
-  module _ (h : t ≡ false) {x y : CompareAnswer} (q : x ≡ compare_of parts a b) (k : x ≡ y) where
-    pub answer_within_lem : answer_within parts first last a b y ≡ compare_within parts first last a b
+  module _ (h : t ≡ false) {x : CompareAnswer} (q : x ≡ compare_of parts a b) where
+    pub answer_within_lem : answer_within parts first last a b x ≡ compare_within parts first last a b
     unfolding compare_within if
-    answer_within_lem = rw (← e, h, ← q, k)
+    answer_within_lem = rw (← e, h, ← q)
 
-    pub range_fits : {c : Comparison} → y ≡ Compared c → (u : VifUnit) → RangeFits parts u first last (memories_of u a).mem (memories_of u b).mem
+    pub range_fits : {c : Comparison} → x ≡ Compared c → (u : VifUnit) → RangeFits parts u first last (memories_of u a).mem (memories_of u b).mem
     range_fits {c} z u =
         let r = range_passed parts first last (sym e ∙ h) in
         record {
           order = r.order;
           inside = r.inside u;
-          mem = ((accepted parts a b (compared parts a b c (sym q ∙ k ∙ z)).0).units u).mem;
+          mem = ((accepted parts a b (compared parts a b c (sym q ∙ z)).0).units u).mem;
         }

@@ -6,10 +6,11 @@ use Rattle.gif.specs.Log.{entry_size, log_refused}
 use Rattle.memories.specs.declared.VifUnit.{VifUnit}
 use Rattle.memories.specs.declared.VifUnit.TheVariants.{Vif0, Vif1}
 use Rattle.memories.specs.Units.{quadwords, instructions, data_words, code_bytes}
+use Rattle.compare.specs.declared.Memories.{Memories as LentMemories}
+use Rattle.compare.specs.declared.Board.{Board as LentBoard}
 use Rattle.compare.specs.declared.UnitFound.{UnitFound}
 use Rattle.compare.specs.declared.Comparison.{Comparison}
-use Rattle.compare.specs.declared.CompareAnswer.{CompareAnswer}
-use Rattle.compare.specs.declared.CompareAnswer.TheVariants.{Compared, Refused}
+use Rattle.compare.specs.CompareAnswer.{CompareAnswer, Compared, Refused}
 use Rattle.compare.specs.Elements.{found_in}
 use Rattle.compare.specs.Parts.{data_part, code_part, log_part, all_parts, asks, looked_at}
 
@@ -34,6 +35,14 @@ board vif1 vif0 log used = record { vif1 = vif1; vif0 = vif0; log = log; used = 
 abbrev pub memories_of : VifUnit → Board → Memories
 memories_of Vif1 a = a.vif1
 memories_of Vif0 a = a.vif0
+
+-- ---- boards as they are lent
+
+abbrev pub memories_now : LentMemories → Memories
+memories_now m = memories m.«data».now m.code.now
+
+abbrev pub board_now : LentBoard → Board
+board_now a = board (memories_now a.vif1) (memories_now a.vif0) a.log.now a.used
 
 -- ---- refusals
 

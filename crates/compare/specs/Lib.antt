@@ -6,3 +6,4 @@ pub mod Boards
 pub mod Within
 pub mod Equal
 pub mod Inner
+pub mod CompareAnswer

@@ -8,8 +8,7 @@ use Rattle.memories.specs.Units.{quadwords}
 use Rattle.compare.specs.declared.Found.{Found}
 use Rattle.compare.specs.declared.UnitFound.{UnitFound}
 use Rattle.compare.specs.declared.Comparison.{Comparison}
-use Rattle.compare.specs.declared.CompareAnswer.{CompareAnswer}
-use Rattle.compare.specs.declared.CompareAnswer.TheVariants.{Compared, Refused}
+use Rattle.compare.specs.CompareAnswer.{CompareAnswer, Compared, Refused}
 use Rattle.compare.specs.Elements.{found, found_from}
 use Rattle.compare.specs.Parts.{data_part, asks}
 use Rattle.compare.specs.Boards.{Board, compare_of}

@@ -1,28 +1,19 @@
 // Two boards that are not refused, in the parts that are asked for.
 ghost use Rattle.std.specs.Prelude.{◌≡◌};
-ghost use Rattle.compare.specs.Boards.{memories, board, refusal, smaller, unit_found, comparison_of};
+ghost use Rattle.compare.specs.Boards.{memories_now, board_now, refusal, unit_found, comparison_of};
 ghost use Rattle.compare.specs.Inner.{UnitFits};
 
-use super::elements::{Memory, found_in};
+use super::elements::found_in;
 use super::parts::{asks, code_part, data_part, looked_at};
-use super::{Comparison, LOG, UnitFound, Used};
+use super::{Board, Comparison, LOG, Memories, UnitFound, Used};
 use memories::VifUnit;
 
 const ENTRY_SIZE: usize = gif::ENTRY_SIZE as usize;
 
 // What is found in a unit's memories.
-fn unit_found(
-    parts: u32,
-    unit: VifUnit,
-    da: &[u32],
-    ca: &[u8],
-    la: &[u64],
-    db: &[u32],
-    cb: &[u8],
-    lb: &[u64],
-) -> UnitFound
-    requires { UnitFits parts unit (memories da.now ca.now) (memories db.now cb.now) }
-    ensures { result ≡ unit_found parts unit (memories da.now ca.now) (memories db.now cb.now) }
+fn unit_found(parts: u32, unit: VifUnit, a: Memories<'_>, b: Memories<'_>) -> UnitFound
+    requires { UnitFits parts unit (memories_now a) (memories_now b) }
+    ensures { result ≡ unit_found parts unit (memories_now a.entry) (memories_now b.entry) }
 {
     let q = looked_at(
         asks(parts, data_part(unit)),
@@ -33,55 +24,26 @@ fn unit_found(
         memories::instructions(unit) as u64,
     ) as usize;
     UnitFound {
-        quadwords: found_in(Memory::Data, 4, q, da, ca, la, db, cb, lb),
-        instructions: found_in(Memory::Code, 8, i, da, ca, la, db, cb, lb),
+        quadwords: found_in(4, a.data, b.data, q),
+        instructions: found_in(8, a.code, b.code, i),
     }
-}
-
-fn smaller(x: u64, y: u64) -> u64
-    ensures { result ≡ smaller x y }
-{
-    if x < y {
-        return x;
-    }
-    y
 }
 
 // Compares two boards that are not refused.
-pub(crate) fn compare_asked(
-    d1a: &[u32],
-    c1a: &[u8],
-    d0a: &[u32],
-    c0a: &[u8],
-    la: &[u64],
-    ua: u64,
-    d1b: &[u32],
-    c1b: &[u8],
-    d0b: &[u32],
-    c0b: &[u8],
-    lb: &[u64],
-    ub: u64,
-    parts: u32,
-) -> Comparison
-    requires { refusal parts
-        (board (memories d1a.now c1a.now) (memories d0a.now c0a.now) la.now ua)
-        (board (memories d1b.now c1b.now) (memories d0b.now c0b.now) lb.now ub)
-        ≡ 0 }
-    ensures { result
-        ≡ comparison_of parts
-        (board (memories d1a.now c1a.now) (memories d0a.now c0a.now) la.now ua)
-        (board (memories d1b.now c1b.now) (memories d0b.now c0b.now) lb.now ub) }
+pub(crate) fn compare_asked(a: Board<'_>, b: Board<'_>, parts: u32) -> Comparison
+    requires { refusal parts (board_now a) (board_now b) ≡ 0 }
+    ensures { result ≡ comparison_of parts (board_now a.entry) (board_now b.entry) }
 {
     let asked = asks(parts, LOG);
     let used = Used {
-        first: looked_at(asked, ua),
-        second: looked_at(asked, ub),
+        first: looked_at(asked, a.used),
+        second: looked_at(asked, b.used),
     };
-    let both = smaller(used.first, used.second) as usize;
+    let both = used.first.min(used.second) as usize;
     Comparison {
-        vif1: unit_found(parts, VifUnit::Vif1, d1a, c1a, la, d1b, c1b, lb),
-        vif0: unit_found(parts, VifUnit::Vif0, d0a, c0a, la, d0b, c0b, lb),
-        entries: found_in(Memory::Log, ENTRY_SIZE, both, d1a, c1a, la, d1b, c1b, lb),
-        used: used,
+        vif1: unit_found(parts, VifUnit::Vif1, a.vif1, b.vif1),
+        vif0: unit_found(parts, VifUnit::Vif0, a.vif0, b.vif0),
+        entries: found_in(ENTRY_SIZE, a.log, b.log, both),
+        used,
     }
 }

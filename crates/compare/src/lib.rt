@@ -9,12 +9,13 @@ mod parts;
 mod within;
 
 ghost use Rattle.std.specs.Prelude.{◌≡◌};
-ghost use Rattle.compare.specs.Boards.{memories, board, compare_of, unit_same, same_of};
+ghost use Rattle.compare.specs.Boards.{board_now, compare_of, unit_same, same_of};
+ghost use Rattle.compare.specs.CompareAnswer.{compare_answer};
 ghost use Rattle.compare.specs.Within.{compare_within};
 
 use boards::compare_asked;
-use fields::refusals;
-use lengths::refusal;
+use fields::Refusal;
+use lengths::test_boards;
 use within::{comparison_within, range_refused};
 
 // The parts of a board, which are asked for by their sum.
@@ -60,94 +61,62 @@ pub struct Comparison {
     pub used: Used,
 }
 
+// The memories of a unit, as they are lent.
 #[derive(Clone, Copy)]
-pub enum CompareAnswer {
-    Compared(Comparison),
-    Refused(u32),
+pub struct Memories<'a> {
+    pub data: &'a [u32],
+    pub code: &'a [u8],
 }
 
-// Compares two boards, or refuses the parts or one of their memories or logs. Here d1 and d0 are the data memories of VIF1 and VIF0, c1 and c0 their code
-// memories, l is a log and u its entries used, each of board a and of board b.
-pub fn compare(
-    d1a: &[u32],
-    c1a: &[u8],
-    d0a: &[u32],
-    c0a: &[u8],
-    la: &[u64],
-    ua: u64,
-    d1b: &[u32],
-    c1b: &[u8],
-    d0b: &[u32],
-    c0b: &[u8],
-    lb: &[u64],
-    ub: u64,
-    parts: u32,
-) -> CompareAnswer
-    ensures { result
-        ≡ compare_of parts
-        (board (memories d1a.now c1a.now) (memories d0a.now c0a.now) la.now ua)
-        (board (memories d1b.now c1b.now) (memories d0b.now c0b.now) lb.now ub) }
+// A board: both units' memories, its log, and how many entries of the log are used.
+#[derive(Clone, Copy)]
+pub struct Board<'a> {
+    pub vif1: Memories<'a>,
+    pub vif0: Memories<'a>,
+    pub log: &'a [u64],
+    pub used: u64,
+}
+
+// Compares two boards, or refuses the parts or one of their memories or logs.
+pub fn compare(a: Board<'_>, b: Board<'_>, parts: u32) -> Result<Comparison, Refusal>
+    ensures { compare_answer result ≡ compare_of parts (board_now a.entry) (board_now b.entry) }
 {
-    let number = refusal(
-        d1a, c1a, d0a, c0a, la, ua, d1b, c1b, d0b, c0b, lb, ub, parts,
-    );
-    if number != 0 {
-        return CompareAnswer::Refused(number);
-    }
-    let found = compare_asked(
-        d1a, c1a, d0a, c0a, la, ua, d1b, c1b, d0b, c0b, lb, ub, parts,
-    );
-    CompareAnswer::Compared(found)
+    test_boards(a, b, parts)?;
+    Ok(compare_asked(a, b, parts))
 }
 
 // The same with data memories compared in quadwords first to last alone. A range that is none, of no data memory, or not inside one that is asked for is refused
 // with the parts.
 pub fn compare_within(
-    d1a: &[u32],
-    c1a: &[u8],
-    d0a: &[u32],
-    c0a: &[u8],
-    la: &[u64],
-    ua: u64,
-    d1b: &[u32],
-    c1b: &[u8],
-    d0b: &[u32],
-    c0b: &[u8],
-    lb: &[u64],
-    ub: u64,
+    a: Board<'_>,
+    b: Board<'_>,
     parts: u32,
     first: u64,
     last: u64,
-) -> CompareAnswer
-    ensures { result
-        ≡ compare_within parts first last
-        (board (memories d1a.now c1a.now) (memories d0a.now c0a.now) la.now ua)
-        (board (memories d1b.now c1b.now) (memories d0b.now c0b.now) lb.now ub) }
+) -> Result<Comparison, Refusal>
+    ensures { compare_answer result
+        ≡ compare_within parts first last (board_now a.entry) (board_now b.entry) }
 {
     if range_refused(parts, first, last) {
-        return CompareAnswer::Refused(refusals::OUT_OF_RANGE);
+        return Err(Refusal::OutOfRange);
     }
-    match compare(
-        d1a, c1a, d0a, c0a, la, ua, d1b, c1b, d0b, c0b, lb, ub, parts,
-    ) {
-        CompareAnswer::Compared(whole) => CompareAnswer::Compared(comparison_within(
-            d1a, c1a, d0a, c0a, la, ua, d1b, c1b, d0b, c0b, lb, ub, parts, first, last, whole,
-        )),
-        CompareAnswer::Refused(number) => CompareAnswer::Refused(number),
-    }
+    let whole = compare(a, b, parts)?;
+    Ok(comparison_within(a, b, parts, first, last, whole))
 }
 
+#[tactic(auto, unfolding(crate::specs::Boards::unit_same))]
 fn unit_same(found: UnitFound) -> bool
     ensures { result ≡ unit_same found }
 {
-    (found.quadwords.count == 0) & (found.instructions.count == 0)
+    found.quadwords.count == 0 && found.instructions.count == 0
 }
 
 // The verdict: whether the boards are the same in the parts that were asked for.
+#[tactic(auto, unfolding(crate::specs::Boards::same_of))]
 pub fn same(comparison: Comparison) -> bool
     ensures { result ≡ same_of comparison }
 {
-    let memories = unit_same(comparison.vif1) & unit_same(comparison.vif0);
+    let memories = unit_same(comparison.vif1) && unit_same(comparison.vif0);
     let entries = comparison.entries.count == 0;
-    memories & entries & (comparison.used.first == comparison.used.second)
+    memories && entries && comparison.used.first == comparison.used.second
 }

@@ -24,6 +24,7 @@ pub(crate) fn code_part(unit: VifUnit) -> u32
 }
 
 // Whether a sum has a part.
+#[tactic(auto, unfolding(crate::specs::Parts::asks))]
 pub(crate) fn asks(parts: u32, part: u32) -> bool
     requires { 1 ≤ part }
     ensures { result ≡ asks parts part }

@@ -1,43 +1,48 @@
 -- The answers of building and running, in their order.
+use Rattle.std.specs.Prelude.{Result, Ok, Err}
+use Rattle.std.specs.Result.{MatchResult, IsErrAnd}
+use Rattle.std.proofs.lemmas.Result.{err_from_is_err_and}
 use mathlib.Core.Path.{◌≡◌, refl, sym, ap, ◌∙◌}
 use mathlib.Core.Bool.{Bool, true, false, not, ◌&&◌}
 use mathlib.Core.List.{List, [], ◌++◌, append-nil}
-use Prim.Native.Nat.{ℕ, ◌-◌, ◌%◌, ◌<◌, ◌≤◌}
+use Prim.Native.Nat.{ℕ, ◌-◌, ◌<◌, min}
 use native.Mathlib.Omega.{arith}
-use borrow.Author.Tests.{ltb-true, le-ltb, eq-eqb, ne_eqb}
+use borrow.Author.Tests.{ltb-true, ltb-false}
 use lib.ListN.{length, take, drop, take-append-drop, length-drop, drop_of_length-le}
 use lib.Seq.{take_all}
 use lib.Dec.{eqb, ltb}
-use Rattle.fields.specs.Counts.{none}
 use Rattle.fields.specs.Fields.{if}
-use Rattle.fields.specs.Refusals.{main_length, out_of_range}
+use Rattle.fields.specs.declared.refusals.Refusal.{Refusal}
+use Rattle.fields.specs.Refusals.{refusal_number, main_length, out_of_range}
 use Rattle.fields.proofs.ChoiceLaws.{if_ind_by}
+use Rattle.fields.proofs.RefusalLaws.{refusal_not_none}
 use Rattle.memories.specs.declared.VifUnit.TheVariants.{Vif1}
 use Rattle.memories.specs.Lengths.{Lent, lengths_refusal}
+use Rattle.chain.specs.declared.Ending.{Ending}
 use Rattle.chain.specs.declared.RunResult.{RunResult}
-use Rattle.chain_state.specs.declared.StartAnswer.TheVariants.{Started, Refused as StartRefused}
-use Rattle.chain_state.specs.declared.StartResult.{StartResult}
+use Rattle.chain.specs.Run.{Ran, left_by}
+use Rattle.chain.specs.Answer.{run_answer}
+use Rattle.chain_state.specs.StartAnswer.{Started, Refused as StartRefused}
 use Rattle.chain_state.specs.declared.State.{State}
 use Rattle.chain_state.specs.Range.{main_refused, state_in_range, start_in_range}
-use Rattle.chain_state.specs.Start.{start_of}
-use Rattle.chain.specs.Run.{Ran, left_by, run_of}
-use Rattle.sheet.specs.declared.BuildAnswer.{BuildAnswer}
-use Rattle.sheet.specs.declared.BuildAnswer.TheVariants.{Built, Refused as BuildRefused}
+use Rattle.chain_state.specs.Start.{StartResult, started_by, start_of}
+use Rattle.sheet.specs.BuildAnswer.{BuildAnswer, Built, Refused as BuildRefused, build_answer}
+use Rattle.sheet.specs.declared.SheetError.{SheetError}
 use Rattle.sheet.specs.Reader.{Contents, valid, refused}
 use Rattle.sheet.specs.Editions.{contents_of}
 use Rattle.sheet.specs.Layout.{chain_of}
 use Rattle.sheet.specs.Build.{Left, left, built_from, build_of}
-use Rattle.conformance.specs.declared.PlayAnswer.TheVariants.{Ended, Refused}
-use Rattle.conformance.specs.Play.{played, play_ran, play_refusal, play_of}
-use Rattle.conformance.specs.Inner.{memories_refusal, place_of, built_at}
-
--- ---- the lengths
-
-pub main_passes : (n : ℕ) → (n ≡ 0 → ⊥) → n % 16 ≡ 0 → n ≤ 1048576 → main_refused n ≡ false
-unfolding main_refused
-main_passes n some whole most = rw (ne_eqb n 0 some, eq-eqb (n % 16) 0 whole, le-ltb 1048576 n most)
+use Rattle.conformance.specs.declared.PlayError.{PlayError}
+use Rattle.conformance.specs.declared.PlayError.TheVariants.{Run}
+use Rattle.conformance.specs.PlayAnswer.{Ended, play_answer}
+use Rattle.conformance.specs.Play.{played, play_refused, play_ran, play_refusal, play_of}
+use Rattle.conformance.specs.Inner.{memories_refusal, place_of, built_at, Begins}
 
 -- ---- the place
+
+pub place_is : (a size : ℕ) → min size a ≡ place_of a size
+unfolding place_of
+place_is a size = if_ind_by (λ (k : ℕ). min size a ≡ k) (ltb size a) (λ t. omega (arith, ltb-true)) (λ t. omega (arith, ltb-false))
 
 -- memory is parted at an address as at its place
 parted_at : (main : List ℕ) (a : ℕ) → (take (place_of a (length main)) main ≡ take a main) × (drop (place_of a (length main)) main ≡ drop a main)
@@ -102,36 +107,79 @@ built_placed sheet main a {p} e b =
     let b' = rw (w, q.1) at b in
     rw (z, append-nil, q.0, ← b')
 
-module _ (sheet main : List ℕ) (a : ℕ) (s : State) (m : Lent) (allowance : ℕ) {n : ℕ} (l : n ≡ memories_refusal main m s.used) where
-  refusal_is : play_refusal main m s a ≡ if (eqb n 0) (if (not (state_in_range s && start_in_range 1 a false)) out_of_range 0) n
+-- ---- what is done before the run
+
+-- a refusal is the whole answer
+refuses : {sheet main after : List ℕ} {a : ℕ} {s : State} {m : Lent} {r : Result State SheetError} {e : SheetError} → r ≡ Err e
+    → ((allowance : ℕ) → play_refused (refusal_number e.refusal) e.offset s after m ≡ play_of sheet main a s m allowance)
+    → Begins r sheet main after a s m
+refuses {e = e} q h =
+    record {
+      refused = λ x p allowance. (let z : x ≡ e = cc in rw z (h allowance));
+      begun = λ t p allowance. absurd (let z : ◌≡◌ {A = ℕ} 0 1 = cc in omega arith);
+    }
+
+-- a refusal that is not the sheet's has the offset 0
+abbrev pub whole : Refusal → SheetError
+whole e = record { refusal = e; offset = 0 }
+
+module _ (sheet main : List ℕ) (a : ℕ) (s : State) (m : Lent) where
+  refusal_is : {n : ℕ} → n ≡ memories_refusal main m s.used
+      → play_refusal main m s a ≡ if (eqb n 0) (if (not (state_in_range s && start_in_range 1 a false)) out_of_range 0) n
   unfolding play_refusal memories_refusal
-  refusal_is = rw l (lengths_first (main_refused (length main)) (lengths_refusal Vif1 m s.used) _)
+  refusal_is l = rw l (lengths_first (main_refused (length main)) (lengths_refusal Vif1 m s.used) _)
 
-  pub play_lengths : (n ≡ 0 → ⊥) → played (Refused n 0) s none main m ≡ play_of sheet main a s m allowance
+  pub begins_lengths : (e : Refusal) → refusal_number e ≡ memories_refusal main m s.used → {r : Result State SheetError} → IsErrAnd r (λ x. x ≡ whole e)
+      → Begins r sheet main main a s m
   unfolding play_of if
-  play_lengths z = simp (refusal_is, ne_eqb n 0 z)
+  begins_lengths e l {r} p =
+      let q = err_from_is_err_and r p in
+      refuses (rw q.2 at q.1) (λ allowance. simp (refusal_is l, refusal_not_none e))
 
-  module _ (z : n ≡ 0) {r : StartResult} (e : r ≡ start_of s 1 a false) where
-    pub play_start : {k : ℕ} → r.answer ≡ StartRefused k → played (Refused k 0) s none main m ≡ play_of sheet main a s m allowance
+  module _ (z : 0 ≡ memories_refusal main m s.used) where
+    pub begins_start : (e : Refusal) → started_by s (Err e) ≡ start_of s 1 a false → {r : Result State SheetError} → IsErrAnd r (λ x. x ≡ whole e)
+        → Begins r sheet main main a s m
     unfolding play_of if
-    play_start q = let f = start_refused s a (rw e at q) in simp (refusal_is, z, f.0, f.1)
+    begins_start e b {r} p =
+        let q = err_from_is_err_and r p in
+        let f = start_refused s a (sym (ap (λ (x : StartResult). x.answer) b)) in
+        refuses (rw q.2 at q.1) (λ allowance. simp (refusal_is z, f.0, f.1))
 
-    module _ (q : r.answer ≡ Started) {x : BuildAnswer} {main' : List ℕ} (b : left x main' ≡ built_at sheet main a) where
+    module _ {t : State} (b : started_by s (Ok t) ≡ start_of s 1 a false) where
       accepted : play_refusal main m s a ≡ 0
       unfolding if
-      accepted = let f = start_passed s a (rw e at q) in simp (refusal_is, z, f)
+      accepted = let f = start_passed s a (sym (ap (λ (x : StartResult). x.answer) b)) in simp (refusal_is z, f)
 
-      pub play_build : {k offset : ℕ} → x ≡ BuildRefused k offset → played (Refused k offset) s none main' m ≡ play_of sheet main a s m allowance
+      pub begins_build : {after : List ℕ} (e : SheetError) → left (build_answer (Err e)) after ≡ built_at sheet main a
+          → {r : Result State SheetError}
+          → IsErrAnd r (λ x. x ≡ e)
+          → Begins r sheet main after a s m
       unfolding play_of built_at if
-      play_build y =
-          let f : (build_of sheet (drop a main)).answer ≡ BuildRefused _ _ = sym (ap (λ (o : Left). o.answer) b) ∙ y in
-          let o : main' ≡ main = ap (λ (o : Left). o.output) b ∙ rw (build_keeps sheet (drop a main) f) (take-append-drop a main) in
-          simp (accepted, f, o)
+      begins_build {after} e y {r} p =
+          let q = err_from_is_err_and r p in
+          let f : (build_of sheet (drop a main)).answer ≡ BuildRefused _ _ = sym (ap (λ (o : Left). o.answer) y) in
+          let o : after ≡ main = ap (λ (o : Left). o.output) y ∙ rw (build_keeps sheet (drop a main) f) (take-append-drop a main) in
+          refuses (rw q.2 at q.1) (λ allowance. simp (accepted, f, o))
 
-      pub play_run : {size : ℕ} → x ≡ Built size → {u : RunResult} {m' : Lent} → left_by u m' ≡ run_of main' allowance r.state m
-          → played (Ended u.answer) u.state u.counts main' m' ≡ play_of sheet main a s m allowance
+      pub begins_run : {after : List ℕ} {size : ℕ} → left (build_answer (Ok size)) after ≡ built_at sheet main a → Begins (Ok t) sheet main after a s m
       unfolding play_of built_at if
-      play_run {size} y v =
-          let f : (build_of sheet (drop a main)).answer ≡ Built size = sym (ap (λ (o : Left). o.answer) b) ∙ y in
-          let o : main' ≡ take a main ++ (build_of sheet (drop a main)).output = ap (λ (o : Left). o.output) b in
-          simp (accepted, f, ← o, ← e) (ap (λ (r : Ran). play_ran r main') v)
+      begins_run {after} {size} y =
+          let f : (build_of sheet (drop a main)).answer ≡ Built size = sym (ap (λ (o : Left). o.answer) y) in
+          let o : after ≡ take a main ++ (build_of sheet (drop a main)).output = ap (λ (o : Left). o.output) y in
+          record {
+            refused = λ e p allowance. absurd (let z : ◌≡◌ {A = ℕ} 0 1 = cc in omega arith);
+            begun = λ x p allowance. (let e : x ≡ t = cc in simp (accepted, f, ← o, ← b, e));
+          }
+
+-- ---- the run
+
+-- a run's refusal is one of the play's
+run_played : (r : Result Ending Refusal) (x : Result Ending PlayError) → MatchResult r (λ y. x ≡ Ok y) (λ e. IsErrAnd x (λ d. d ≡ Run e))
+    → play_answer x ≡ Ended (run_answer r)
+run_played (Ok y) x p = rw p
+run_played (Err e) x p = let q = err_from_is_err_and x p in rw (q.1, q.2)
+
+pub play_is : (main : List ℕ) {x : Ran} (u : RunResult) {m : Lent} → left_by u m ≡ x → (r : Result Ending PlayError)
+    → MatchResult u.answer (λ y. r ≡ Ok y) (λ e. IsErrAnd r (λ d. d ≡ Run e))
+    → played (play_answer r) u.state u.counts main m ≡ play_ran x main
+play_is main u e r p = rw (run_played u.answer r p) (ap (λ (k : Ran). play_ran k main) e)

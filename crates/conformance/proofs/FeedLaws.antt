@@ -1,4 +1,5 @@
 -- Steps of VIF1 as steps of the chain.
+use Rattle.std.specs.Prelude.{None}
 use mathlib.Core.Path.{◌≡◌, refl, sym, ◌∙◌}
 use mathlib.Core.Bool.{Bool, false}
 use mathlib.Core.List.{List, [], ◌∷◌}
@@ -14,15 +15,14 @@ use Rattle.gif.specs.declared.Path.{Path}
 use Rattle.memories.specs.declared.VifUnit.TheVariants.{Vif1}
 use Rattle.memories.specs.Lengths.{Lent}
 use Rattle.vif_codes.specs.declared.Vif.{Vif}
-use Rattle.vif_codes.specs.declared.VifAnswer.{VifAnswer}
+use Rattle.vif_codes.specs.VifAnswer.{VifAnswer}
 use Rattle.vif_codes.specs.declared.Incoming.{Incoming}
 use Rattle.vif_codes.specs.Counting.{counts_in}
 use Rattle.vif.specs.Step.{leaves, vif_step}
 use Rattle.vif.specs.Feeds.{Fed, Feeds, none, more, a_word, a_quadword}
-use Rattle.chain_state.specs.declared.TagWords.TheVariants.{Nothing as NoTagWords}
 use Rattle.chain_state.specs.declared.Payload.{Payload}
 use Rattle.chain_state.specs.declared.Payload.TheVariants.{Nothing as NoPayload, Words as PayloadWords}
-use Rattle.chain.specs.declared.StepAnswer.TheVariants.{Completed}
+use Rattle.chain.specs.StepAnswer.{Completed}
 use Rattle.chain_state.specs.declared.State.{State}
 use Rattle.chain_state.specs.Setters.{with_pending, with_unit}
 use Rattle.vif_codes.specs.Words.{incoming_at}
@@ -83,8 +83,8 @@ steps_join p q =
 pub record Takes (b : Bool → VifAnswer) (w : ℕ) : Type 0 where
   pub some : 1 ≤ w
   pub given : (closed : Bool) (v : Vif) (q : Path) (used : ℕ) (m' : Lent) (p : ℕ → Payload) (s : State) (m : Lent)
-      → (c : UnitCounts) → after_vif Vif1 (b closed) c (leaves (b closed) v q used m') NoTagWords p s m
-      ≡ stepped (Completed false) (of_unit c) (with_pending (with_unit Vif1 s v q used) NoTagWords (p w)) m'
+      → (c : UnitCounts) → after_vif Vif1 (b closed) c (leaves (b closed) v q used m') None p s m
+      ≡ stepped (Completed false) (of_unit c) (with_pending (with_unit Vif1 s v q used) None (p w)) m'
 
 pub word_takes : Takes a_word 1
 word_takes = record { some = omega arith; given = λ closed v q used m' p s m c. refl }

@@ -15,11 +15,10 @@ use Rattle.memories.specs.declared.VifUnit.TheVariants.{Vif1}
 use Rattle.memories.specs.Units.{data_words, code_bytes}
 use Rattle.memories.specs.Lengths.{Lent, LengthsFit}
 use Rattle.vif_codes.specs.Range.{registers_in_range, waiting_in_range, unit_in_range}
-use Rattle.chain_state.specs.declared.StartAnswer.TheVariants.{Started}
-use Rattle.chain_state.specs.declared.StartResult.{StartResult}
+use Rattle.chain_state.specs.StartAnswer.{Started}
 use Rattle.chain_state.specs.Range.{main_refused, channel_in_range, state_in_range, start_in_range, stack_in_range, tags_in_range, payload_in_range}
-use Rattle.chain_state.specs.Start.{reset_state, start_result, started_from, start_of}
-use Rattle.sheet.specs.declared.BuildAnswer.TheVariants.{Built}
+use Rattle.chain_state.specs.Start.{StartResult, reset_state, start_result, started_from, start_of}
+use Rattle.sheet.specs.BuildAnswer.{Built}
 use Rattle.sheet.specs.Records.{Record, longest}
 use Rattle.sheet.specs.Reader.{valid}
 use Rattle.sheet.specs.Items.{Items, expanded}
@@ -37,8 +36,7 @@ use Rattle.sheet.proofs.LayoutLaws.{chain_length}
 use Rattle.sheet.proofs.MeaningLaws.{meaning_count}
 use Rattle.conformance.specs.Demand.{records_of, means_from, Premises}
 use Rattle.conformance.specs.Play.{PlayPremises}
-use Rattle.conformance.proofs.StartLaws.{start_accepted, start_ready}
-use Rattle.conformance.proofs.AnswerLaws.{main_passes}
+use Rattle.conformance.proofs.StartLaws.{start_accepted, start_ready, main_passes}
 use Rattle.conformance.proofs.PlayLaws.{passed_by}
 
 -- ---- the reset state

@@ -14,20 +14,19 @@ use Rattle.fields.proofs.ChoiceLaws.{if_ind_by, if_zero, and_left, and_right}
 use Rattle.memories.specs.declared.VifUnit.TheVariants.{Vif1}
 use Rattle.memories.specs.Lengths.{Lent, LengthsFit}
 use Rattle.memories.proofs.LengthLaws.{fit_lengths, fit_first}
-use Rattle.chain_state.specs.declared.StartAnswer.TheVariants.{Started}
-use Rattle.chain_state.specs.declared.StartResult.{StartResult}
+use Rattle.chain_state.specs.StartAnswer.{Started}
 use Rattle.chain_state.specs.declared.State.{State}
 use Rattle.chain_state.specs.Range.{main_refused, state_in_range, start_in_range}
-use Rattle.chain_state.specs.Start.{start_result, started_from, start_of}
+use Rattle.chain_state.specs.Start.{StartResult, start_result, started_from, start_of}
 use Rattle.chain.specs.Inner.{Ready}
 use Rattle.chain.proofs.ReadyLaws.{tadr_whole}
-use Rattle.sheet.specs.declared.BuildAnswer.TheVariants.{Built}
+use Rattle.sheet.specs.BuildAnswer.{Built}
 use Rattle.sheet.specs.Records.{Record}
 use Rattle.sheet.specs.Reader.{Contents, valid, refused}
 use Rattle.sheet.specs.Editions.{contents_of}
 use Rattle.sheet.specs.Layout.{laid_out, chain_of}
 use Rattle.sheet.specs.Build.{Left, built_from, build_of}
-use Rattle.conformance.specs.declared.PlayAnswer.TheVariants.{Ended}
+use Rattle.conformance.specs.PlayAnswer.{Ended}
 use Rattle.conformance.specs.Demand.{Typed, Premises, run_from}
 use Rattle.conformance.specs.Play.{play_ran, play_refusal, play_of, PlayPremises, PlayConclusion}
 use Rattle.conformance.proofs.StartLaws.{start_accepted, start_ready}

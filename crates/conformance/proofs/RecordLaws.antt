@@ -1,4 +1,5 @@
 -- What the chain does with each record's part: from an idle VIF1 at its tag, the record's steps lead to an idle VIF1 at the next tag with its meaning done.
+use Rattle.std.specs.Prelude.{None}
 use mathlib.Core.Path.{◌≡◌, refl, sym, ap, ◌∙◌}
 use mathlib.Core.Bool.{Bool, false}
 use mathlib.Core.List.{List, [], ◌∷◌, ◌++◌, append_assoc}
@@ -10,7 +11,6 @@ use lib.ListN.{length, get_or, take, drop, length-append, length-drop}
 use lib.Seq.{sets, drop-drop, drop-append-le, take-append-le, take-add, length-take-le}
 use Rattle.fields.specs.Fields.{if, quadword}
 use Rattle.gif.specs.declared.Path.{Path}
-use Rattle.gif.specs.declared.Place.TheVariants.{Idle}
 use Rattle.gif.specs.declared.Entry.{Entry}
 use Rattle.gif.specs.Log.{entry_size, start_entry, numbers, logged}
 use Rattle.gif.specs.Tag.{path_of}
@@ -22,12 +22,11 @@ use Rattle.memories.specs.Lengths.{Lent, lent}
 use Rattle.vif_codes.specs.declared.Incoming.{Incoming}
 use Rattle.vif_codes.specs.declared.Incoming.TheVariants.{Word0}
 use Rattle.vif_codes.specs.declared.Waiting.TheVariants.{Nothing}
-use Rattle.vif_codes.specs.declared.VifAnswer.{VifAnswer}
+use Rattle.vif_codes.specs.VifAnswer.{VifAnswer}
 use Rattle.vif_codes.specs.Setters.{with_waiting}
 use Rattle.vif.specs.Feeds.{Fed, fed, Feeds, a_word, a_quadword, words_in, QuadwordsIn, no_quadword, one_quadword_lem, Zeros, no_zero, one_zero}
 use Rattle.vif.proofs.BurstLaws.{incoming_word}
 use Rattle.vif.proofs.SheetLaws.{first_odd, feeds_data, feeds_code, feeds_start, feeds_direct, feeds_entries, direct_waits}
-use Rattle.chain_state.specs.declared.TagWords.TheVariants.{Nothing as NoTagWords}
 use Rattle.chain_state.specs.declared.Payload.TheVariants.{Nothing as NoPayload}
 use Rattle.chain_state.specs.declared.State.{State}
 use Rattle.fields.specs.Memory.{word_at, long_at, quadword_at}
@@ -101,7 +100,7 @@ module _ (main : List ℕ) (a : ℕ) (s : State) (m : Lent) (i : IdleAt a s) (q 
     (room : a + 16 + 16 * q ≤ length main) where
   -- the state after the tag, but for its payload
   abbrev pub tagged : State
-  tagged = with_tag s (a + 16 + 16 * q) false s.stack NoTagWords NoPayload
+  tagged = with_tag s (a + 16 + 16 * q) false s.stack None NoPayload
 
   abbrev pub unit_fed : Fed
   unit_fed = fed s.vif1 s.path2 s.used m
@@ -134,7 +133,7 @@ module _ (main : List ℕ) (a : ℕ) (s : State) (m : Lent) (i : IdleAt a s) (q 
       (rw d at (feeds_reach main tagged i.channel quadword_takes k (a + 32) 0 g))))
 
   -- afterwards VIF1 is idle at the next tag
-  pub idle_after : (y : Fed) → y.unit.waiting ≡ Nothing → length y.unit.row ≡ 4 → y.path2.place ≡ Idle
+  pub idle_after : (y : Fed) → y.unit.waiting ≡ Nothing → length y.unit.row ≡ 4 → y.path2.place ≡ None
       → IdleAt (a + 16 + 16 * q) (feeding tagged y NoPayload).state
   idle_after y w r p =
       rw fed_vif1
@@ -262,7 +261,7 @@ module _ (main : List ℕ) (a : ℕ) (s : State) (m : Lent) (i : IdleAt a s) whe
   arrived : {k q b : ℕ} {mem code : List ℕ} {es : List Entry} (some : 1 ≤ q) (few : q < 65536) (tag : long_at main a ≡ 268435456 + q)
       (room : a + 16 + 16 * q ≤ length main) (y : Fed)
       → InSteps main k (machine s m) (feeding (tagged main a s m i q some few tag room) y NoPayload)
-      → y.unit.waiting ≡ Nothing → length y.unit.row ≡ 4 → y.path2.place ≡ Idle → b ≡ a + 16 + 16 * q
+      → y.unit.waiting ≡ Nothing → length y.unit.row ≡ 4 → y.path2.place ≡ None → b ≡ a + 16 + 16 * q
       → y.memories.mem ≡ mem → y.memories.code ≡ code
       → y.used ≡ s.used + length es → y.memories.log ≡ sets m.log (entry_size * s.used) (numbers es)
       → Arrived main k b s m mem code es
@@ -377,7 +376,7 @@ module _ (main : List ℕ) (a : ℕ) (s : State) (m : Lent) (i : IdleAt a s) whe
       let qs : quadwords_from main (a + 48) n ≡ body_quadwords body n 0 = quadwords_read main body rest n 0 (a + 48) (omega arith) after in
       let inner = placed_inside main (a + 48) body rest after (omega arith) in
       let within : a + 16 + 16 * (n + 2) ≤ length main = omega arith in
-      let idle : s.path2 ≡ path_of s.path2.q Idle = ap (path_of s.path2.q) i.path_idle in
+      let idle : s.path2 ≡ path_of s.path2.q None = ap (path_of s.path2.q) i.path_idle in
       let f = feeds_direct Vif1 refl s.vif1 s.path2 s.used m n (incomings 1 main (a + 16) 4) i.waiting few (d.words 0) in
       let in_place : QuadwordsIn (incomings 4 main (a + 32) (suc n)) (sheet_tag n ∷ body_quadwords body n 0) = rw (t, c, qs) at (incoming_quadwords main (suc n) (a + 32) (omega arith)) in
       let h = feeds_from (ap (λ (x : Path). fed (with_waiting s.vif1 (direct_waits (suc n))) x s.used m) idle) (feeds_entries Vif1 s.vif1 s.path2.q s.used m n (body_quadwords body n 0) (incomings 4 main (a + 32) (suc n)) i.waiting (quadwords_length body n 0) some few room in_place) in

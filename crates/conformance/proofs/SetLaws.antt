@@ -9,11 +9,10 @@ use Rattle.memories.specs.declared.VifUnit.TheVariants.{Vif0, Vif1}
 use Rattle.memories.specs.Lengths.{Lent}
 use Rattle.vif_codes.specs.declared.Vif.{Vif}
 use Rattle.vif_codes.specs.declared.Waiting.TheVariants.{Nothing}
-use Rattle.chain_state.specs.declared.StartResult.{StartResult}
 use Rattle.chain_state.specs.declared.State.{State}
 use Rattle.chain_state.specs.Range.{unit_of, entry_refusal}
 use Rattle.chain_state.specs.Setters.{pick_unit}
-use Rattle.chain_state.specs.Start.{start_of}
+use Rattle.chain_state.specs.Start.{StartResult, start_of}
 use Rattle.console.specs.Register.{number_set}
 use Rattle.console.specs.Block.{state_set}
 use Rattle.console.proofs.RegisterLaws.{waiting_kept, row_length}

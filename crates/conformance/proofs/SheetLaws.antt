@@ -1,4 +1,5 @@
 -- What the chain of a whole sheet does: by its records, then the end tag.
+use Rattle.std.specs.Prelude.{None}
 use mathlib.Core.Path.{◌≡◌, refl, ap, ◌∙◌}
 use mathlib.Core.Bool.{true, ◌&&◌}
 use mathlib.Core.List.{List, [], ◌∷◌, ◌++◌, append_assoc}
@@ -14,7 +15,6 @@ use Rattle.gif.specs.Log.{entry_size, numbers}
 use Rattle.memories.specs.declared.VifUnit.TheVariants.{Vif1}
 use Rattle.memories.specs.Units.{quadwords, instructions}
 use Rattle.memories.specs.Lengths.{Lent, lent}
-use Rattle.chain_state.specs.declared.TagWords.TheVariants.{Nothing as NoTagWords}
 use Rattle.chain_state.specs.declared.Payload.TheVariants.{Nothing as NoPayload}
 use Rattle.chain_state.specs.declared.State.{State}
 use Rattle.chain_state.specs.Setters.{with_tag}
@@ -85,7 +85,7 @@ end_arrives : (main : List ℕ) (a : ℕ) (s : State) (m : Lent) → IdleAt a s 
 unfolding done
 end_arrives main a s m i rest e =
     record {
-      state = with_tag s a true s.stack NoTagWords NoPayload;
+      state = with_tag s a true s.stack None NoPayload;
       reached = step_first (idle_going main a s m i) (end_step main a s m i (tag_placed main a 7 0 rest (omega arith) (omega arith) e) (placed_inside main a end_tag rest e (omega arith))) refl no_steps;
       done = refl;
       used = refl;

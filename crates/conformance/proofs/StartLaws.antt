@@ -2,12 +2,13 @@
 use mathlib.Core.Path.{◌≡◌, refl}
 use mathlib.Core.Bool.{true, false}
 use mathlib.Core.List.{List}
-use Prim.Native.Nat.{ℕ}
+use Prim.Native.Nat.{ℕ, ◌%◌, ◌≤◌}
+use borrow.Author.Tests.{le-ltb, eq-eqb, ne_eqb}
 use lib.ListN.{length}
 use Rattle.fields.specs.Fields.{if}
 use Rattle.memories.specs.declared.VifUnit.TheVariants.{Vif1}
 use Rattle.memories.specs.Lengths.{Lent, LengthsFit}
-use Rattle.chain_state.specs.declared.StartAnswer.TheVariants.{Started}
+use Rattle.chain_state.specs.StartAnswer.{Started}
 use Rattle.chain_state.specs.declared.State.{State}
 use Rattle.chain_state.specs.Range.{unit_of, main_refused, state_in_range, start_in_range, stack_in_range, tags_in_range, payload_in_range, tags_inside, payload_inside}
 use Rattle.chain_state.specs.Start.{start_result, started_from, start_of}
@@ -33,3 +34,8 @@ module _ (s : State) (a : ℕ) (ranged : state_in_range s ≡ true) (starts : st
         tags_in = refl;
         payload_in_lem = refl;
       })
+
+-- main memory's test
+pub main_passes : (n : ℕ) → (n ≡ 0 → ⊥) → n % 16 ≡ 0 → n ≤ 1048576 → main_refused n ≡ false
+unfolding main_refused
+main_passes n some whole most = rw (ne_eqb n 0 some, eq-eqb (n % 16) 0 whole, le-ltb 1048576 n most)

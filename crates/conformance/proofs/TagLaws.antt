@@ -1,4 +1,5 @@
 -- The tags of a sheet's chain.
+use Rattle.std.specs.Prelude.{None, Option}
 use mathlib.Core.Path.{◌≡◌, ◌∙◌}
 use mathlib.Core.Bool.{true, false}
 use mathlib.Core.List.{List}
@@ -7,16 +8,12 @@ use native.Mathlib.Omega.{arith}
 use borrow.Author.Tests.{ne_eqb, le-ltb}
 use lib.ListN.{length}
 use Rattle.fields.specs.Fields.{if, bits}
-use Rattle.gif.specs.declared.Place.TheVariants.{Idle}
 use Rattle.vif_codes.specs.declared.Waiting.TheVariants.{Nothing}
 use Rattle.memories.specs.Lengths.{Lent}
 use Rattle.fields.specs.Counts.{one_tag}
-use Rattle.chain_state.specs.declared.TagWords.{TagWords}
-use Rattle.chain_state.specs.declared.TagWords.TheVariants.{Nothing as NoTagWords}
 use Rattle.chain_state.specs.declared.Payload.{Payload}
 use Rattle.chain_state.specs.declared.Payload.TheVariants.{Nothing as NoPayload}
-use Rattle.chain.specs.declared.StepAnswer.TheVariants.{Completed}
-use Rattle.chain.specs.declared.StepResult.{StepResult}
+use Rattle.chain.specs.StepAnswer.{Completed, StateStepped}
 use Rattle.chain_state.specs.declared.State.{State}
 use Rattle.fields.specs.Memory.{long_at}
 use Rattle.chain_state.specs.Setters.{with_tag}
@@ -31,11 +28,11 @@ pub record IdleAt (a : ℕ) (s : State) : Type 0 where
   pub tadr : s.tadr ≡ a
   pub tte : s.tte ≡ false
   pub ended : s.ended ≡ false
-  pub tags : s.tags ≡ NoTagWords
+  pub tags : s.tags ≡ None
   pub payload : s.payload ≡ NoPayload
   pub waiting : s.vif1.waiting ≡ Nothing
   pub row : length s.vif1.row ≡ 4
-  pub path_idle : s.path2.place ≡ Idle
+  pub path_idle : s.path2.place ≡ None
 
 -- the fields of a tag with an ID and QWC, the rest 0
 module _ (id q : ℕ) (few : q < 65536) (known : id < 8) where
@@ -62,12 +59,12 @@ module _ (id q : ℕ) (few : q < 65536) (known : id < 8) where
   tag_taken size s h = rw (tag_id, tag_addr, tag_spr, tag_qwc, h)
 
 -- where nothing is pending, the step is a tag's
-no_pending : {t : TagWords} {p : Payload} → t ≡ NoTagWords → p ≡ NoPayload → (main : List ℕ) (s : State) (m : Lent)
+no_pending : {t : Option ℕ} {p : Payload} → t ≡ None → p ≡ NoPayload → (main : List ℕ) (s : State) (m : Lent)
     → pending_or_tag t p main s m ≡ stepped_by (tag_step main s) m
 no_pending e q main s m = rw (e, q)
 
 -- a tag by its address
-tag_at : {d a : ℕ} → d ≡ a → (main : List ℕ) (s : State) (m : Lent) {x : StepResult} → tag_read (length main) (long_at main a) s ≡ x
+tag_at : {d a : ℕ} → d ≡ a → (main : List ℕ) (s : State) (m : Lent) {x : StateStepped} → tag_read (length main) (long_at main a) s ≡ x
     → stepped_by (tag_read (length main) (long_at main d) s) m ≡ stepped_by x m
 tag_at e main s m h = rw (e, h)
 
@@ -85,7 +82,7 @@ module _ (main : List ℕ) (a : ℕ) (s : State) (m : Lent) (i : IdleAt a s) whe
 
   -- a cnt tag: its payload is pending, and the next tag is after it
   pub cnt_step : (q : ℕ) → 1 ≤ q → q < 65536 → long_at main a ≡ 268435456 + q → a + 16 + 16 * q ≤ length main
-      → step_of main s m ≡ stepped (Completed false) (one_tag 1 q) (with_tag s (a + 16 + 16 * q) false s.stack NoTagWords (pending (a + 16) (4 * q))) m
+      → step_of main s m ≡ stepped (Completed false) (one_tag 1 q) (with_tag s (a + 16 + 16 * q) false s.stack None (pending (a + 16) (4 * q))) m
   unfolding tag_state tag_refusal uses_addr payload_at next_tadr ends_chain next_stack tag_words_of payload_of if
   cnt_step q some few e room =
       tag_is_read 1 q few (omega arith) e (rw (i.tadr, le-ltb (length main) (a + 16) (omega arith), ne_eqb q 0 (λ z. omega arith), le-ltb (length main) (a + 16 + 16 * q) room))
@@ -93,7 +90,7 @@ module _ (main : List ℕ) (a : ℕ) (s : State) (m : Lent) (i : IdleAt a s) whe
 
   -- the end tag: the chain has ended
   pub end_step : long_at main a ≡ 1879048192 → a + 16 ≤ length main
-      → step_of main s m ≡ stepped (Completed false) (one_tag 7 0) (with_tag s a true s.stack NoTagWords NoPayload) m
+      → step_of main s m ≡ stepped (Completed false) (one_tag 7 0) (with_tag s a true s.stack None NoPayload) m
   unfolding tag_state tag_refusal uses_addr payload_at next_tadr ends_chain next_stack tag_words_of payload_of if
   end_step e room =
       tag_is_read 7 0 (omega arith) (omega arith) e (rw (i.tadr, le-ltb (length main) (a + 16) room))

@@ -16,17 +16,16 @@ use Rattle.gif.specs.declared.Entry.{Entry}
 use Rattle.gif.specs.Log.{entry_size, numbers, entries_in}
 use Rattle.gif.proofs.LogLaws.{numbers_length, in_count}
 use Rattle.memories.specs.Lengths.{Lent, lent}
-use Rattle.chain.specs.declared.Answer.TheVariants.{Done}
-use Rattle.chain_state.specs.declared.StartAnswer.TheVariants.{Started}
-use Rattle.chain_state.specs.declared.StartResult.{StartResult}
+use Rattle.chain.specs.Answer.{Done}
+use Rattle.chain_state.specs.StartAnswer.{Started}
 use Rattle.chain_state.specs.declared.State.{State}
 use Rattle.chain_state.specs.Range.{entry_refusal, state_in_range, start_in_range}
-use Rattle.chain_state.specs.Start.{started_from, start_of}
+use Rattle.chain_state.specs.Start.{StartResult, started_from, start_of}
 use Rattle.chain.specs.Run.{Ran, ran, counted, steps_of, run_of}
 use Rattle.chain.proofs.ReadyLaws.{facts_of}
 use Rattle.chain.proofs.RunLaws.{run_done}
 use Rattle.chain.proofs.Theorems.{run_from_lem}
-use Rattle.sheet.specs.declared.BuildAnswer.TheVariants.{Built}
+use Rattle.sheet.specs.BuildAnswer.{Built}
 use Rattle.sheet.specs.Records.{Record}
 use Rattle.sheet.specs.Reader.{Contents, valid, refused}
 use Rattle.sheet.specs.Editions.{contents_of}

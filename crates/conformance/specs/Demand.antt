@@ -1,17 +1,16 @@
 -- Demand 3: a built chain anywhere in main memory, started and run from any acceptable saved state, ends with done in exactly the sheet's steps and leaves
 -- exactly the sheet's plain meaning.
-use Rattle.std.specs.Prelude.{ℕ, ◌*◌, ◌%◌, ◌≤◌, false, List, [], ◌++◌, ◌≡◌, length, take, drop}
-use Rattle.gif.specs.declared.Place.TheVariants.{Idle}
+use Rattle.std.specs.Prelude.{ℕ, ◌*◌, ◌%◌, ◌≤◌, false, List, [], ◌++◌, ◌≡◌, length, take, drop, None}
 use Rattle.gif.specs.Log.{entry_size, entries_in}
 use Rattle.memories.specs.Lengths.{Lent}
 use Rattle.vif_codes.specs.declared.Waiting.TheVariants.{Nothing}
-use Rattle.chain.specs.declared.Answer.TheVariants.{Done}
-use Rattle.chain_state.specs.declared.StartAnswer.TheVariants.{Started}
+use Rattle.chain.specs.Answer.{Done}
+use Rattle.chain_state.specs.StartAnswer.{Started}
 use Rattle.chain_state.specs.declared.State.{State}
 use Rattle.chain_state.specs.Range.{entry_refusal}
 use Rattle.chain_state.specs.Start.{start_of}
 use Rattle.chain.specs.Run.{Ran, run_of}
-use Rattle.sheet.specs.declared.BuildAnswer.TheVariants.{Built}
+use Rattle.sheet.specs.BuildAnswer.{Built}
 use Rattle.sheet.specs.Records.{Record}
 use Rattle.sheet.specs.Reader.{Contents, valid, refused}
 use Rattle.sheet.specs.Editions.{contents_of}
@@ -54,7 +53,7 @@ pub record Premises (sheet output main : List ℕ) (a size allowance : ℕ) (s :
   pub entered : entry_refusal main m (start_of s 1 a false).state ≡ 0
   -- nothing waits in VIF1, and path 2 is idle
   pub idle : s.vif1.waiting ≡ Nothing
-  pub path_idle : s.path2.place ≡ Idle
+  pub path_idle : s.path2.place ≡ None
   -- the log has room for every entry of the meaning
   pub room : entry_size * length (means_from sheet s m).entries ≤ length m.log
   -- the allowance is at least the sheet's steps

@@ -3,3 +3,4 @@ pub mod Demand
 pub mod Play
 pub mod Inner
 pub mod Points
+pub mod PlayAnswer

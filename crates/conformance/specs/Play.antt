@@ -1,25 +1,22 @@
 -- A sheet built in main memory, started and run: the builder, the start and the run one after another.
-use Rattle.std.specs.Prelude.{ℕ, ◌*◌, ◌≤◌, false, not, ◌&&◌, List, ◌++◌, ◌≡◌, length, take, drop, eqb}
+use Rattle.std.specs.Prelude.{ℕ, ◌*◌, ◌≤◌, false, not, ◌&&◌, List, ◌++◌, ◌≡◌, length, take, drop, eqb, None}
 use Rattle.fields.specs.declared.Counts.{Counts}
 use Rattle.fields.specs.Counts.{none}
 use Rattle.fields.specs.Fields.{if}
 use Rattle.fields.specs.Refusals.{main_length, out_of_range}
-use Rattle.gif.specs.declared.Place.TheVariants.{Idle}
 use Rattle.gif.specs.Log.{entry_size, entries_in}
 use Rattle.memories.specs.declared.VifUnit.TheVariants.{Vif1}
 use Rattle.memories.specs.Lengths.{Lent, lengths_refusal}
 use Rattle.vif_codes.specs.declared.Waiting.TheVariants.{Nothing}
-use Rattle.chain.specs.declared.Answer.TheVariants.{Done}
+use Rattle.chain.specs.Answer.{Done}
 use Rattle.chain_state.specs.declared.State.{State}
 use Rattle.chain_state.specs.Range.{main_refused, state_in_range, start_in_range}
 use Rattle.chain_state.specs.Start.{start_of}
 use Rattle.chain.specs.Run.{Ran, number_of, run_of}
-use Rattle.sheet.specs.declared.BuildAnswer.{BuildAnswer}
-use Rattle.sheet.specs.declared.BuildAnswer.TheVariants.{Built, Refused as BuildRefused}
+use Rattle.sheet.specs.BuildAnswer.{BuildAnswer, Built, Refused as BuildRefused}
 use Rattle.sheet.specs.Build.{Left, build_of}
 use Rattle.conformance.specs.Demand.{steps_meant, means_from}
-use Rattle.conformance.specs.declared.PlayAnswer.{PlayAnswer}
-use Rattle.conformance.specs.declared.PlayAnswer.TheVariants.{Ended, Refused}
+use Rattle.conformance.specs.PlayAnswer.{PlayAnswer, Ended, Refused}
 
 -- the refusals before the sheet's: 1 to 4 as a run refuses lengths, 5 as a start refuses the state or the address; 0 where there is none
 unfoldable pub play_refusal : List ℕ → Lent → State → ℕ → ℕ
@@ -76,7 +73,7 @@ pub record PlayPremises (sheet main : List ℕ) (a allowance : ℕ) (s : State) 
   pub built : (build_of sheet (drop a main)).answer ≡ Built size
   -- nothing waits in VIF1, and path 2 is idle
   pub idle : s.vif1.waiting ≡ Nothing
-  pub path_idle : s.path2.place ≡ Idle
+  pub path_idle : s.path2.place ≡ None
   -- the log has room for every entry of the meaning
   pub room : entry_size * length (means_from sheet s m).entries ≤ length m.log
   -- the allowance is at least the sheet's steps

@@ -1,6 +1,6 @@
 -- The bench points that document 01 marks (P), as one table. Each value is computed through the definitions that the promises of the builder, the start and
 -- the run cite: a sheet is built and its chain run, or words are given to VIF1 by a chain of two tags.
-use Rattle.std.specs.Prelude.{ℕ, zero, suc, ◌+◌, ◌*◌, ◌-◌, ◌/◌, Bool, true, false, ◌&&◌, List, [], ◌∷◌, ◌++◌, ◌≡◌, take, drop, replicate, eqb}
+use Rattle.std.specs.Prelude.{ℕ, zero, suc, ◌+◌, ◌*◌, ◌-◌, ◌/◌, Bool, true, false, ◌&&◌, List, [], ◌∷◌, ◌++◌, ◌≡◌, take, drop, replicate, eqb, None}
 use Rattle.fields.specs.Counts.{count_numbers}
 use Rattle.fields.specs.Fields.{if}
 use Rattle.gif.specs.Log.{entry_size}
@@ -14,7 +14,6 @@ use Rattle.fields.specs.Memory.{word_at}
 use Rattle.vif_codes.specs.declared.Vif.{Vif}
 use Rattle.vif_codes.specs.Setters.{with_itops, with_start, with_waiting}
 use Rattle.chain_state.specs.declared.Stack.TheVariants.{Empty}
-use Rattle.chain_state.specs.declared.TagWords.TheVariants.{Nothing as NoTagWords}
 use Rattle.chain_state.specs.declared.Payload.TheVariants.{Nothing as NoPayload, Words as PayloadWords}
 use Rattle.chain_state.specs.declared.State.{State}
 use Rattle.chain_state.specs.Setters.{with_pending}
@@ -316,7 +315,7 @@ left_on channel used v u =
       tte = false;
       ended = true;
       stack = Empty;
-      tags = NoTagWords;
+      tags = None;
       payload = NoPayload;
       used = used;
       vif0 = v;
@@ -400,8 +399,8 @@ upload_across_tags =
 
 -- a saved state of a unit: an MPG of one instruction with so many words due, and word w of a quadword of NOPs pending next
 abbrev pub upload_saved : VifUnit → ℕ → ℕ → State
-upload_saved Vif0 due w = with_pending (left_on 0 0 (with_waiting reset_unit (MpgDue 4 1 due false)) reset_unit) NoTagWords (PayloadWords (16 + 4 * w) (4 - w))
-upload_saved Vif1 due w = with_pending (left_on 1 0 reset_unit (with_waiting reset_unit (MpgDue 4 1 due false))) NoTagWords (PayloadWords (16 + 4 * w) (4 - w))
+upload_saved Vif0 due w = with_pending (left_on 0 0 (with_waiting reset_unit (MpgDue 4 1 due false)) reset_unit) None (PayloadWords (16 + 4 * w) (4 - w))
+upload_saved Vif1 due w = with_pending (left_on 1 0 reset_unit (with_waiting reset_unit (MpgDue 4 1 due false))) None (PayloadWords (16 + 4 * w) (4 - w))
 
 abbrev pub blank_of : VifUnit → Lent
 blank_of Vif0 = blank0

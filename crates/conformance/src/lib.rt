@@ -3,18 +3,22 @@
 
 mod play;
 
+use chain::Ending;
+use chain_state::State;
+use fields::{Counts, Refusal};
 pub use play::build_and_run;
+use sheet::SheetError;
 
-// How a run ended, or the refusal before it with the record's offset (0 for all but 40 to 45).
-#[derive(Clone, Copy)]
-pub enum PlayAnswer {
-    Ended(chain::Answer),
-    Refused { number: u32, offset: usize },
+// Why a sheet on the board came to no ending: the refusal before the run, with the record's offset (0 for all but 40 to 45), or the run's.
+#[derive(Debug, Clone, Copy, PartialEq, Eq)]
+pub enum PlayError {
+    Sheet(SheetError),
+    Run(Refusal),
 }
 
 #[derive(Clone, Copy)]
 pub struct PlayResult {
-    pub answer: PlayAnswer,
-    pub state: chain_state::State,
-    pub counts: fields::Counts,
+    pub answer: Result<Ending, PlayError>,
+    pub state: State,
+    pub counts: Counts,
 }

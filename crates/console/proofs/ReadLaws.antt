@@ -16,16 +16,15 @@ use Rattle.vif_codes.specs.declared.Vif.{Vif}
 use Rattle.chain_state.specs.declared.State.{State}
 use Rattle.chain_state.specs.Range.{unit_of}
 use Rattle.chain_state.specs.Setters.{with_unit, held_by}
-use Rattle.state_block.specs.declared.ReadUnit.{ReadUnit}
-use Rattle.state_block.specs.declared.ReadPath.{ReadPath}
-use Rattle.state_block.specs.declared.ReadState.{ReadState}
+use Rattle.state_block.specs.Read.{ReadUnit}
+use Rattle.state_block.specs.Read.{ReadPath}
+use Rattle.state_block.specs.Read.{ReadState}
 use Rattle.state_block.specs.Sizes.{chain_size, unit_size, path_size, vif1_at, path2_at, path3_at, vif0_at, state_size, part}
 use Rattle.state_block.specs.Words.{is_bit}
 use Rattle.state_block.specs.PathBlock.{path_in_block}
 use Rattle.state_block.specs.UnitBlock.{waitings, waiting_in_block, held_unit, no_unit, read_unit, unit_with, unit_in_block}
 use Rattle.state_block.specs.StateBlock.{chain_exists, stack_in_block, tags_in_block, payload_in_block, held_state, read_state, state_with, state_in_block}
-use Rattle.console.specs.declared.SetResult.{SetResult}
-use Rattle.console.specs.Register.{is_waiting, number_set, set_of}
+use Rattle.console.specs.Register.{SetResult, is_waiting, number_set, set_of}
 use Rattle.console.specs.Block.{row_at, number_at, state_set, unit_held, SetBlock, set_in_block}
 
 -- ---- parts of a block with one word replaced

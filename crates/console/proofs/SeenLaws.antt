@@ -9,11 +9,10 @@ use Rattle.memories.specs.declared.VifUnit.{VifUnit}
 use Rattle.memories.specs.declared.VifUnit.TheVariants.{Vif0, Vif1}
 use Rattle.memories.specs.Lengths.{Lent}
 use Rattle.chain_state.specs.declared.State.{State}
-use Rattle.chain_state.specs.declared.StartAnswer.TheVariants.{Started, Refused}
-use Rattle.chain_state.specs.declared.StartResult.{StartResult}
+use Rattle.chain_state.specs.StartAnswer.{Started, Refused}
 use Rattle.chain_state.specs.Range.{unit_of, start_in_range, state_in_range, entry_refusal}
 use Rattle.chain_state.specs.Setters.{with_unit, held_by}
-use Rattle.chain_state.specs.Start.{start_result, started_from, start_of}
+use Rattle.chain_state.specs.Start.{StartResult, start_result, started_from, start_of}
 use Rattle.console.specs.Register.{number_set}
 use Rattle.console.specs.Block.{state_set}
 use Rattle.console.proofs.RegisterLaws.{unit_range_kept}

@@ -8,8 +8,7 @@ use Rattle.chain_state.specs.Range.{unit_of}
 use Rattle.chain_state.specs.Setters.{with_unit, held_by}
 use Rattle.state_block.specs.Sizes.{vif1_at, vif0_at}
 use Rattle.state_block.specs.StateBlock.{state_in_block}
-use Rattle.console.specs.declared.SetAnswer.{SetAnswer}
-use Rattle.console.specs.declared.SetAnswer.TheVariants.{Set, Refused}
+use Rattle.console.specs.SetAnswer.{SetAnswer, Set, Refused}
 use Rattle.console.specs.Register.{is_waiting, number_set}
 
 -- unit 0 is VIF0 and unit 1 VIF1; the registers of one, and the state with one of its eight numbers replaced

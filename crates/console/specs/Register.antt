@@ -1,14 +1,13 @@
 -- Request 7: "Setting ROW and COL from the console." The register block of a unit holds its registers and the code that waits.
-use Rattle.std.specs.Prelude.{ℕ, ◌-◌, Bool, true, false, set, ltb}
+use Rattle.std.specs.Prelude.{ℕ, ◌-◌, Bool, true, false, set, ltb, Result, Ok, Err}
 use Rattle.fields.specs.Fields.{if}
-use Rattle.fields.specs.Refusals.{number_missing, code_waits}
+use Rattle.fields.specs.declared.refusals.Refusal.{Refusal}
+use Rattle.fields.specs.Refusals.{refusal_number, number_missing, code_waits}
 use Rattle.vif_codes.specs.declared.Waiting.{Waiting}
 use Rattle.vif_codes.specs.declared.Waiting.TheVariants.{Nothing, MaskDue, RowDue, ColDue, MpgDue, DirectDue, DirecthlDue, UnpackDue}
 use Rattle.vif_codes.specs.declared.Vif.{Vif}
 use Rattle.vif_codes.specs.Setters.{with_row, with_col}
-use Rattle.console.specs.declared.SetAnswer.{SetAnswer}
-use Rattle.console.specs.declared.SetAnswer.TheVariants.{Set, Refused}
-use Rattle.console.specs.declared.SetResult.{SetResult}
+use Rattle.console.specs.SetAnswer.{SetAnswer, Set, Refused}
 
 -- "if a code is waiting for payload"
 unfoldable pub is_waiting : Waiting → Bool
@@ -27,8 +26,18 @@ unfoldable pub number_set : Vif → ℕ → ℕ → Vif
 number_set v number value =
     if (ltb number 4) (with_row v (set v.row number value)) (with_col v (set v.col (number - 4) value))
 
+-- the answer, and the registers afterwards
+pub record SetResult : Type 0 where
+  pub answer : SetAnswer
+  pub block : Vif
+
 abbrev pub set_result : SetAnswer → Vif → SetResult
 set_result a v = record { answer = a; block = v }
+
+-- what a call by value leaves: on a refusal, the registers that it was given
+abbrev pub set_by : Vif → Result Vif Refusal → SetResult
+set_by v (Ok w) = set_result Set w
+set_by v (Err e) = set_result (Refused (refusal_number e)) v
 
 -- the number of an answer
 abbrev pub set_number : SetAnswer → ℕ

@@ -7,16 +7,3 @@ mod register;
 
 pub use block::set_in_block;
 pub use register::{set_register, with_register};
-
-// What the console is told.
-#[derive(Clone, Copy)]
-pub enum SetAnswer {
-    Set,
-    Refused(u32),
-}
-
-#[derive(Clone, Copy)]
-pub struct SetResult {
-    pub answer: SetAnswer,
-    pub block: vif_codes::Vif,
-}

@@ -1,86 +1,49 @@
 // A unit's register block, with one of its eight numbers set.
-ghost use Rattle.std.specs.Prelude.{◌≡◌, set, ◌<◌};
-ghost use Rattle.vif_codes.specs.Setters.{with_row, with_col};
-ghost use Rattle.console.specs.Register.{is_waiting, number_set, set_of};
+ghost use Rattle.std.specs.Prelude.{◌≡◌, ◌<◌};
+ghost use Rattle.console.specs.Register.{is_waiting, number_set, set_by, set_of};
+ghost use Rattle.console.specs.SetAnswer.{set_answer};
 
-use super::{SetAnswer, SetResult};
-use fields::refusals;
+use fields::Refusal;
 use vif_codes::{Vif, Waiting};
 
 // Whether a code waits for payload.
+#[tactic(auto, unfolding(crate::specs::Register::is_waiting))]
 pub(crate) fn is_waiting(w: Waiting) -> bool
     ensures { result ≡ is_waiting w }
 {
-    match w {
-        Waiting::Nothing => false,
-        Waiting::MaskDue(_) => true,
-        Waiting::RowDue { .. } => true,
-        Waiting::ColDue { .. } => true,
-        Waiting::MpgDue { .. } => true,
-        Waiting::DirectDue { .. } => true,
-        Waiting::DirecthlDue { .. } => true,
-        Waiting::UnpackDue(_, _) => true,
-    }
-}
-
-fn with_row_at(block: Vif, j: usize, value: u32) -> Vif
-    requires { j < 4 }
-    ensures { result ≡ with_row block (set block.row j value) }
-{
-    let mut n = block;
-    n.row[j] = value;
-    n
-}
-
-fn with_col_at(block: Vif, j: usize, value: u32) -> Vif
-    requires { j < 4 }
-    ensures { result ≡ with_col block (set block.col j value) }
-{
-    let mut n = block;
-    n.col[j] = value;
-    n
+    !matches!(w, Waiting::Nothing)
 }
 
 // The block with one of the eight numbers replaced.
-fn with_number(block: Vif, number: u32, value: u32) -> Vif
+fn with_number(mut block: Vif, number: u32, value: u32) -> Vif
     requires { number < 8 }
     ensures { result ≡ number_set block number value }
 {
     if number < 4 {
-        with_row_at(block, number as usize, value)
+        block.row[number as usize] = value;
     } else {
-        with_col_at(block, (number - 4) as usize, value)
+        block.col[(number - 4) as usize] = value;
     }
+    block
 }
 
-// By value: the block with the number set, or as it was.
-pub fn with_register(block: Vif, number: u32, value: u32) -> SetResult
-    ensures { result ≡ set_of block number value }
+// By value: the block with the number set.
+pub fn with_register(block: Vif, number: u32, value: u32) -> Result<Vif, Refusal>
+    ensures { set_by block result ≡ set_of block number value }
 {
-    if number > 7 {
-        return SetResult {
-            answer: SetAnswer::Refused(refusals::NUMBER_MISSING),
-            block,
-        };
+    if 7 < number {
+        return Err(Refusal::NumberMissing);
     }
-    let waiting = block.waiting;
-    if is_waiting(waiting) {
-        return SetResult {
-            answer: SetAnswer::Refused(refusals::CODE_WAITS),
-            block,
-        };
+    if is_waiting(block.waiting) {
+        return Err(Refusal::CodeWaits);
     }
-    SetResult {
-        answer: SetAnswer::Set,
-        block: with_number(block, number, value),
-    }
+    Ok(with_number(block, number, value))
 }
 
 // In place: the block that is lent.
-pub fn set_register(block: &mut Vif, number: u32, value: u32) -> SetAnswer
-    ensures { record { answer = result; block = block.new } ≡ set_of block.old number value }
+pub fn set_register(block: &mut Vif, number: u32, value: u32) -> Result<(), Refusal>
+    ensures { record { answer = set_answer result; block = block.new } ≡ set_of block.old number value }
 {
-    let r = with_register(*block, number, value);
-    *block = r.block;
-    r.answer
+    *block = with_register(*block, number, value)?;
+    Ok(())
 }

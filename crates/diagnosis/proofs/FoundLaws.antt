@@ -1,4 +1,5 @@
 -- The place that a refused step reads, and what is found there.
+use Rattle.std.specs.Prelude.{None, Option, Some}
 use mathlib.Core.Path.{◌≡◌, refl, sym, ap, ◌∙◌}
 use mathlib.Core.Bool.{Bool, true, false}
 use mathlib.Core.List.{List}
@@ -10,20 +11,16 @@ use Rattle.fields.specs.Fields.{if}
 use Rattle.fields.specs.Memory.{quadword_at}
 use Rattle.fields.specs.declared.UnitCounts.{UnitCounts}
 use Rattle.gif.specs.declared.GifPath.TheVariants.{Three}
-use Rattle.gif.specs.declared.GifAnswer.{GifAnswer}
-use Rattle.gif.specs.declared.GifAnswer.TheVariants.{Taken, Refused as GifRefused}
+use Rattle.gif.specs.GifAnswer.{GifAnswer, Taken, Refused as GifRefused}
 use Rattle.gif.specs.Step.{Left as GifLeft, gif_step}
 use Rattle.memories.specs.declared.VifUnit.{VifUnit}
 use Rattle.memories.specs.Lengths.{Lent}
-use Rattle.vif_codes.specs.declared.VifAnswer.{VifAnswer}
-use Rattle.vif_codes.specs.declared.VifAnswer.TheVariants.{Word, Quadword, Refused as VifRefused}
+use Rattle.vif_codes.specs.VifAnswer.{VifAnswer, Word, Quadword, Refused as VifRefused}
 use Rattle.vif_codes.specs.Words.{incoming_at}
 use Rattle.vif.specs.Step.{Left as VifLeft}
-use Rattle.chain_state.specs.declared.TagWords.{TagWords}
-use Rattle.chain_state.specs.declared.TagWords.TheVariants.{Nothing as NoTagWords, From}
 use Rattle.chain_state.specs.declared.Payload.{Payload}
 use Rattle.chain_state.specs.declared.Payload.TheVariants.{Nothing as NoPayload, Words}
-use Rattle.chain.specs.declared.StepAnswer.TheVariants.{Completed, Refused}
+use Rattle.chain.specs.StepAnswer.{Completed, Refused}
 use Rattle.chain_state.specs.declared.State.{State}
 use Rattle.chain_state.specs.Pending.{tags_after, payload_after}
 use Rattle.chain.specs.Tags.{tag_step}
@@ -44,7 +41,7 @@ no_completed : {i : Bool} {n : ℕ} → Completed i ≡ Refused n → ⊥
 no_completed e = let z : ◌≡◌ {A = ℕ} 0 1 = cc in omega arith
 
 -- a step that is refused was refused by the unit, or by path 3
-vif_refused : (which : VifUnit) (b : VifAnswer) (d : UnitCounts) (o : VifLeft) (t : TagWords) (p : ℕ → Payload) (s : State) (m : Lent) (k : ℕ)
+vif_refused : (which : VifUnit) (b : VifAnswer) (d : UnitCounts) (o : VifLeft) (t : Option ℕ) (p : ℕ → Payload) (s : State) (m : Lent) (k : ℕ)
     → (after_vif which b d o t p s m).answer ≡ Refused k → b ≡ VifRefused k
 vif_refused which (Word i) d o t p s m k e = absurd (no_completed e)
 vif_refused which (Quadword i c) d o t p s m k e = absurd (no_completed e)
@@ -54,7 +51,7 @@ gif_refused : (b : GifAnswer) (o : GifLeft) (p : Payload) (s : State) (m : Lent)
 gif_refused (Taken c) o p s m k e = absurd (no_completed e)
 gif_refused (GifRefused j) o p s m k e = let q : j ≡ k = cc in ap (λ (n : ℕ). GifRefused n) q
 
-given_by : (main : List ℕ) (a : ℕ) (t : TagWords) (p : ℕ → Payload) (s : State) (m : Lent) (k : ℕ) → (vif_given main a t p s m).answer ≡ Refused k
+given_by : (main : List ℕ) (a : ℕ) (t : Option ℕ) (p : ℕ → Payload) (s : State) (m : Lent) (k : ℕ) → (vif_given main a t p s m).answer ≡ Refused k
     → (vif_took (fed_unit s) main a s m).answer ≡ VifRefused k
 unfolding vif_given
 given_by main a t p s m k e = vif_refused (fed_unit s) (vif_took (fed_unit s) main a s m).answer _ (vif_took (fed_unit s) main a s m) t p s m k e
@@ -76,7 +73,7 @@ module _ (main : List ℕ) (s : State) (m : Lent) (h : entry_refusal main m s �
   found_tag : NothingPending s → Is (stepped_by (tag_step main s) m) → FoundAt main s m k s.tadr (tag_numbers k main s)
   found_tag w q = in_tag w q (tag_told main s k (answered q))
 
-  found_word : (a : ℕ) (t : TagWords) (p : ℕ → Payload) → WordPending s a → Is (vif_given main a t p s m)
+  found_word : (a : ℕ) (t : Option ℕ) (p : ℕ → Payload) → WordPending s a → Is (vif_given main a t p s m)
       → FoundAt main s m k a (unit_numbers k (unit_needs main a s) main a s m.log)
   found_word a t p w q =
       in_word a t p w q
@@ -98,7 +95,7 @@ module _ (main : List ℕ) (s : State) (m : Lent) (h : entry_refusal main m s �
       go true r = found_quadword at (payload_after at n 4) w r
       go false r = found_word at s.tags (payload_after at n) (payload_word w) r
 
-  found_payload_or_tag : (p : Payload) → s.tags ≡ NoTagWords → s.payload ≡ p → Is (payload_or_tag p main s m)
+  found_payload_or_tag : (p : Payload) → s.tags ≡ None → s.payload ≡ p → Is (payload_or_tag p main s m)
       → FoundAt main s m k (payload_place p s) (payload_or_tag_numbers p k (payload_or_tag_needs p main s) main s m.log)
   unfolding if
   found_payload_or_tag NoPayload f g q = found_tag (no_payload f g) q
@@ -109,10 +106,10 @@ module _ (main : List ℕ) (s : State) (m : Lent) (h : entry_refusal main m s �
       go true z r = found_tag (no_words f g (eqb-true n 0 z)) r
       go false z r = found_payload at n (record { count = n; no_tags_lem = f; words = g; some = eqb-false n 0 z }) r
 
-  found_pending : (t : TagWords) (p : Payload) → s.tags ≡ t → s.payload ≡ p → Is (pending_or_tag t p main s m)
+  found_pending : (t : Option ℕ) (p : Payload) → s.tags ≡ t → s.payload ≡ p → Is (pending_or_tag t p main s m)
       → FoundAt main s m k (pending_place t p s) (pending_numbers t p k (pending_needs t p main s) main s m.log)
-  found_pending NoTagWords p f g q = found_payload_or_tag p f g q
-  found_pending (From a) p f g q = found_word a (tags_after a) (λ j. s.payload) (tag_word f) q
+  found_pending None p f g q = found_payload_or_tag p f g q
+  found_pending (Some a) p f g q = found_word a (tags_after a) (λ j. s.payload) (tag_word f) q
 
   pub found_next : FoundAt main s m k (next_place s) (next_numbers k (next_needs main s) main s m.log)
   unfolding step_of next_place next_numbers next_needs

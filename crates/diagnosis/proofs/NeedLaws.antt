@@ -1,4 +1,5 @@
 -- The entries that a step needs are shown with 31 alone.
+use Rattle.std.specs.Prelude.{None, Option, Some}
 use mathlib.Core.Path.{◌≡◌, refl}
 use mathlib.Core.List.{List}
 use Prim.Native.Nat.{ℕ}
@@ -12,8 +13,6 @@ use Rattle.vif_codes.specs.declared.Waiting.{Waiting}
 use Rattle.vif_codes.specs.declared.Waiting.TheVariants.{Nothing, MaskDue, RowDue, ColDue, MpgDue, DirectDue, DirecthlDue, UnpackDue}
 use Rattle.vif_codes.specs.declared.Vif.{Vif}
 use Rattle.vif_codes.specs.Words.{incoming_at}
-use Rattle.chain_state.specs.declared.TagWords.{TagWords}
-use Rattle.chain_state.specs.declared.TagWords.TheVariants.{Nothing as NoTagWords, From}
 use Rattle.chain_state.specs.declared.Payload.{Payload}
 use Rattle.chain_state.specs.declared.Payload.TheVariants.{Nothing as NoPayload, Words}
 use Rattle.chain_state.specs.declared.State.{State}
@@ -64,9 +63,9 @@ module _ (r : ℕ) (h : r ≡ log_full → ⊥) (j k : ℕ) (main : List ℕ) (s
   payload_or_tag_needless NoPayload = refl
   payload_or_tag_needless (Words at n) = rw (payload_needless at)
 
-  pending_needless : (t : TagWords) (p : Payload) → pending_numbers t p r j main s log ≡ pending_numbers t p r k main s log
-  pending_needless NoTagWords p = payload_or_tag_needless p
-  pending_needless (From a) p = unit_needless a
+  pending_needless : (t : Option ℕ) (p : Payload) → pending_numbers t p r j main s log ≡ pending_numbers t p r k main s log
+  pending_needless None p = payload_or_tag_needless p
+  pending_needless (Some a) p = unit_needless a
 
   pub next_needless : next_numbers r j main s log ≡ next_numbers r k main s log
   unfolding next_numbers

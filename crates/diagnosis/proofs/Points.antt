@@ -22,7 +22,8 @@ use Rattle.chain_state.specs.Range.{unit_of, channel_in_range, start_in_range, e
 use Rattle.chain.specs.Tags.{uses_addr, payload_at, tag_refusal, tag_state, tag_read}
 use Rattle.chain.specs.Step.{vif_given, gif_given, payload_step, step_of}
 use Rattle.chain.specs.Run.{done}
-use Rattle.gif_reason.specs.Reason.{free_entries, quadword_writes, reglist_met, met_descriptor, quadword_numbers}
+use Rattle.gif_reason.specs.Reason.{free_entries, quadword_writes, quadword_numbers}
+use Rattle.gif.specs.Met.{reglist_met, met_descriptor}
 use Rattle.vif_reason.specs.Reason.{code_numbers, word_numbers, word_needs}
 use Rattle.chain_reason.specs.Reason.{most_fits, read_numbers, next_place}
 use Rattle.diagnosis.specs.Why.{payload_numbers, next_numbers, payload_needs, next_needs, why_of}

@@ -9,8 +9,7 @@ use lib.Dec.{eqb}
 use Rattle.fields.specs.Fields.{if}
 use Rattle.fields.specs.Counts.{none}
 use Rattle.memories.specs.Lengths.{Lent}
-use Rattle.chain.specs.declared.Answer.{Answer}
-use Rattle.chain.specs.declared.Answer.TheVariants.{Done, Allowance, Interrupt, Refused as RunRefused}
+use Rattle.chain.specs.Answer.{Answer, Done, Allowance, Interrupt, Refused as RunRefused}
 use Rattle.chain_state.specs.declared.State.{State}
 use Rattle.chain_state.specs.Range.{entry_refusal}
 use Rattle.chain.specs.Step.{Machine, machine}
@@ -18,7 +17,7 @@ use Rattle.chain.specs.Run.{Ran, ran, done, steps_of, run_of}
 use Rattle.chain.specs.Stops.{Stops, at_end, at_allowance, at_interrupt, at_refusal}
 use Rattle.chain.proofs.RunLaws.{run_refuses}
 use Rattle.chain.proofs.Theorems.{run_stops, run_accepted}
-use Rattle.diagnosis.specs.declared.Reason.TheVariants.{Ended}
+use Rattle.diagnosis.specs.Reason.{Ended}
 use Rattle.diagnosis.specs.Why.{why_of}
 use Rattle.diagnosis.specs.Truth.{NextGives, RunsSo}
 use Rattle.diagnosis.proofs.Theorems.{says_true, to_end, named, gives}

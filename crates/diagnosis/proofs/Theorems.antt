@@ -8,16 +8,14 @@ use borrow.Author.Tests.{eqb-true, eqb-false, ne_eqb}
 use lib.Dec.{eqb}
 use Rattle.fields.specs.Fields.{if}
 use Rattle.memories.specs.Lengths.{Lent}
-use Rattle.chain.specs.declared.StepAnswer.{StepAnswer}
-use Rattle.chain.specs.declared.StepAnswer.TheVariants.{Completed, Refused}
+use Rattle.chain.specs.StepAnswer.{StepAnswer, Completed, Refused}
 use Rattle.chain_state.specs.declared.State.{State}
 use Rattle.chain_state.specs.Range.{entry_refusal}
 use Rattle.chain.specs.Step.{step_of}
 use Rattle.chain.specs.Run.{done}
 use Rattle.chain_reason.specs.Reason.{next_place}
 use Rattle.gif_reason.specs.Reason.{numbers}
-use Rattle.diagnosis.specs.declared.Reason.{Reason}
-use Rattle.diagnosis.specs.declared.Reason.TheVariants.{Entry, Ended, NoComplaint, Step}
+use Rattle.diagnosis.specs.Reason.{Reason, Entry, Ended, NoComplaint, Step}
 use Rattle.diagnosis.specs.Why.{next_numbers, next_needs, step_reason, on_answer, why_of}
 use Rattle.diagnosis.specs.Truth.{NextGives, Names, FoundAt, SaysTrue}
 use Rattle.diagnosis.proofs.FoundLaws.{found_next}

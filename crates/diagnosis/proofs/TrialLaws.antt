@@ -1,36 +1,35 @@
 -- The next step tried on memories and a log of its own tells what it answers on others.
-use mathlib.Core.Path.{◌≡◌, refl, sym, ap}
+use Rattle.std.specs.Prelude.{None, Option, Some, Ok}
+use mathlib.Core.Path.{◌≡◌, refl, sym, ap, ◌∙◌}
 use mathlib.Core.Bool.{Bool, true, false, not, ◌&&◌}
 use mathlib.Core.List.{List}
 use Prim.Native.Nat.{ℕ, ◌+◌, ◌*◌, ◌%◌, ◌≤◌}
 use native.Mathlib.Omega.{arith}
-use lib.ListN.{length}
+use lib.ListN.{length, take}
+use lib.Seq.{length-take-le}
 use lib.Dec.{eqb, ltb}
 use Rattle.fields.specs.Fields.{if}
 use Rattle.fields.specs.Refusals.{log_full}
 use Rattle.fields.specs.Memory.{long_at, quadword_at}
 use Rattle.fields.proofs.ChoiceLaws.{if_ind}
 use Rattle.gif.specs.declared.GifPath.TheVariants.{Three}
-use Rattle.gif.specs.declared.GifAnswer.{GifAnswer}
-use Rattle.gif.specs.declared.GifAnswer.TheVariants.{Taken, Refused as GifRefused}
+use Rattle.gif.specs.GifAnswer.{GifAnswer, Taken, Refused as GifRefused}
 use Rattle.gif.specs.Log.{entry_size, lacks_room, log_refused}
 use Rattle.gif.specs.Step.{Left as GifLeft, gif_step}
 use Rattle.gif.proofs.RangeLaws.{log_fits}
 use Rattle.memories.specs.declared.VifUnit.{VifUnit}
-use Rattle.memories.specs.Units.{data_words, code_bytes}
-use Rattle.memories.specs.Lengths.{Lent}
-use Rattle.vif_codes.specs.declared.VifAnswer.{VifAnswer}
-use Rattle.vif_codes.specs.declared.VifAnswer.TheVariants.{Word, Quadword, Refused as VifRefused}
+use Rattle.memories.specs.Units.{quadwords, instructions, data_words, code_bytes}
+use Rattle.memories.specs.Lengths.{Lent, lent}
+use Rattle.vif_codes.specs.VifAnswer.{VifAnswer, Word, Quadword, Refused as VifRefused}
 use Rattle.vif_codes.specs.Words.{incoming_at}
 use Rattle.vif.specs.Step.{Left as VifLeft}
-use Rattle.chain.specs.declared.Answer.TheVariants.{Done, Allowance}
-use Rattle.chain_state.specs.declared.TagWords.{TagWords}
-use Rattle.chain_state.specs.declared.TagWords.TheVariants.{Nothing as NoTagWords, From}
+use Rattle.chain.specs.declared.Ending.{Ending}
+use Rattle.chain.specs.declared.Ending.TheVariants.{Done as EndingDone, Allowance as EndingAllowance, Interrupt as EndingInterrupt}
+use Rattle.chain.specs.Answer.{Done, Allowance, run_answer}
 use Rattle.chain_state.specs.declared.Payload.{Payload}
 use Rattle.chain_state.specs.declared.Payload.TheVariants.{Nothing as NoPayload, Words}
 use Rattle.chain_state.specs.declared.Stack.{Stack}
-use Rattle.chain.specs.declared.StepAnswer.{StepAnswer}
-use Rattle.chain.specs.declared.StepAnswer.TheVariants.{Completed, Refused}
+use Rattle.chain.specs.StepAnswer.{StepAnswer, Completed, Refused}
 use Rattle.chain_state.specs.declared.State.{State}
 use Rattle.chain_state.specs.Pending.{tags_after, payload_after}
 use Rattle.chain.specs.Tags.{qwc_of, id_of, addr_of, spr_of, uses_addr, payload_at, is_full, tag_refusal, tag_state, completed_result, refused_result, tag_read, tag_step}
@@ -47,9 +46,8 @@ use Rattle.gif_reason.specs.Reason.{quadword_needs}
 use Rattle.chain_reason.specs.Reason.{next_place}
 use Rattle.gif_reason.proofs.Trial.{Outcome, goes, refuses, no_goes, same_number, Tried as TriedOn, refuses_tried, goes_tried, carried, outcome_of as gifOutcome, quadword_tried}
 use Rattle.vif_reason.proofs.Trial.{outcome_of as vifOutcome, word_tried}
-use Rattle.diagnosis.specs.declared.Trial.{Trial}
-use Rattle.diagnosis.specs.declared.Trial.TheVariants.{Needs, Refused as TrialRefused}
-use Rattle.diagnosis.specs.declared.Outlook.TheVariants.{Clear, Refuses}
+use Rattle.diagnosis.specs.Inner.{Trial, Needs, Refused as TrialRefused}
+use Rattle.diagnosis.specs.Inner.{Clear, Refuses}
 use Rattle.diagnosis.specs.Why.{unit_needs, payload_needs, payload_or_tag_needs, pending_needs, next_needs, step_reason, on_answer}
 use Rattle.diagnosis.specs.Inner.{with_none_used, trial_of, roomed, told_by, Tried}
 use Rattle.diagnosis.proofs.NeedLaws.{next_needless}
@@ -100,7 +98,7 @@ module _ (main : List ℕ) (s : State) (m : Lent) (fits : entry_size * s.used �
       go true = record { tried = goes_tried m.log s.used 0 fits }
       go false = record { tried = refuses_tried m.log s.used 0 n 0 (tag_otherwise (length main) s.tadr (id_of tag) (addr_of tag) (spr_of tag) (qwc_of tag) s.stack) }
 
-  tried_after_vif : (k : ℕ) (which : VifUnit) (a b : VifAnswer) (e f : UnitCounts) (o q : VifLeft) (t : TagWords) (p : ℕ → Payload)
+  tried_after_vif : (k : ℕ) (which : VifUnit) (a b : VifAnswer) (e f : UnitCounts) (o q : VifLeft) (t : Option ℕ) (p : ℕ → Payload)
       → TriedOn m.log s.used k (vifOutcome a) (vifOutcome b) q.used → TriedStep k (after_vif which a e o t p s m) (after_vif which b f q t p (with_none_used s) m')
   tried_after_vif k which a b e f o q t p h = record { tried = rw (same s m o e a, same (with_none_used s) m' q f b) (carried m.log s.used k (vifOutcome b) _ h (count b)) }
     where
@@ -114,7 +112,7 @@ module _ (main : List ℕ) (s : State) (m : Lent) (fits : entry_size * s.used �
       count (Quadword i c) e = refl
       count (VifRefused n) e = absurd (no_goes (sym e))
 
-  tried_vif : (a : ℕ) (t : TagWords) (p : ℕ → Payload) → TriedStep (unit_needs main a s) (vif_given main a t p s m) (vif_given main a t p (with_none_used s) m')
+  tried_vif : (a : ℕ) (t : Option ℕ) (p : ℕ → Payload) → TriedStep (unit_needs main a s) (vif_given main a t p s m) (vif_given main a t p (with_none_used s) m')
   unfolding vif_given
   tried_vif a t p =
       tried_after_vif (unit_needs main a s) (fed_unit s) (vif_took (fed_unit s) main a s m).answer (vif_took (fed_unit s) main a (with_none_used s) m').answer _ _ (vif_took (fed_unit s) main a s m) (vif_took (fed_unit s) main a (with_none_used s) m') t p
@@ -156,9 +154,9 @@ module _ (main : List ℕ) (s : State) (m : Lent) (fits : entry_size * s.used �
       go true = tried_tag
       go false = tried_payload at n
 
-  tried_pending : (t : TagWords) (p : Payload) → TriedStep (pending_needs t p main s) (pending_or_tag t p main s m) (pending_or_tag t p main (with_none_used s) m')
-  tried_pending NoTagWords p = tried_payload_or_tag p
-  tried_pending (From a) p = tried_vif a (tags_after a) (λ k. s.payload)
+  tried_pending : (t : Option ℕ) (p : Payload) → TriedStep (pending_needs t p main s) (pending_or_tag t p main s m) (pending_or_tag t p main (with_none_used s) m')
+  tried_pending None p = tried_payload_or_tag p
+  tried_pending (Some a) p = tried_vif a (tags_after a) (λ k. s.payload)
 
   step_tried : TriedStep (next_needs main s) (step_of main s m) (step_of main (with_none_used s) m')
   unfolding step_of next_needs
@@ -211,6 +209,14 @@ pub record Spare (which : VifUnit) (m : Lent) : Type 0 where
   pub code_length_lem : length m.code ≡ code_bytes which
   pub log_length_lem : length m.log ≡ 6
 
+-- they are the first parts of memories that are large enough for either unit
+pub spare : {u : VifUnit} {q i : ℕ} → q ≡ quadwords u → q ≤ 1024 → i ≡ instructions u → i ≤ 2048 → (words bytes log : List ℕ) → length words ≡ 4096
+    → length bytes ≡ 16384
+    → length log ≡ 6
+    → Spare u (lent (take (4 * q) words) (take (8 * i) bytes) log)
+spare e k f l words bytes log m n h =
+    record { mem_length = length-take-le _ words (omega arith) ∙ omega arith; code_length_lem = length-take-le _ bytes (omega arith) ∙ omega arith; log_length_lem = h }
+
 spare_ready : (main : List ℕ) (s : State) (m m' : Lent) → Spare (fed_unit s) m' → entry_refusal main m s ≡ 0 → entry_refusal main m' (with_none_used s) ≡ 0
 unfolding log_refused
 spare_ready main s m m' p h =
@@ -249,3 +255,9 @@ trial_tells {main} {s} {m'} w p e ex er =
           rw (er, ex, e, run_tried main (with_none_used s) m' (spare_ready main s m m' (rw w p) h) d)
           (told_as main s m.log (step_of main s m).answer (step_of main (with_none_used s) m').answer (step_of main (with_none_used s) m').after.state.used k);
     }
+
+-- by what a run answered
+pub trial_of_ok : (e : Ending) (k : ℕ) → Needs k ≡ trial_of (run_answer (Ok e)) k
+trial_of_ok EndingDone k = refl
+trial_of_ok EndingAllowance k = refl
+trial_of_ok EndingInterrupt k = refl

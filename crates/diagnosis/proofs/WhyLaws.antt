@@ -1,4 +1,5 @@
 -- The reason from what its parts give; what holds at the case that an arm knows holds at the value itself.
+use Rattle.std.specs.Prelude.{Option}
 use mathlib.Core.Path.{◌≡◌, sym, ◌∙◌}
 use mathlib.Core.Bool.{true, false}
 use mathlib.Core.List.{List}
@@ -11,34 +12,21 @@ use Rattle.fields.specs.Refusals.{log_full}
 use Rattle.gif.specs.Log.{entry_size, lacks_room}
 use Rattle.memories.specs.Lengths.{Lent}
 use Rattle.chain_state.specs.declared.Payload.{Payload}
-use Rattle.chain_state.specs.declared.TagWords.{TagWords}
 use Rattle.chain_state.specs.declared.State.{State}
 use Rattle.chain_state.specs.Range.{entry_refusal}
 use Rattle.chain.specs.Run.{done}
 use Rattle.gif_reason.specs.declared.Numbers.{Numbers}
 use Rattle.gif_reason.specs.Reason.{free_entries}
-use Rattle.diagnosis.specs.declared.Reason.{Reason}
-use Rattle.diagnosis.specs.declared.Reason.TheVariants.{Entry, Ended}
-use Rattle.diagnosis.specs.declared.Trial.{Trial}
-use Rattle.diagnosis.specs.declared.Trial.TheVariants.{Needs}
-use Rattle.diagnosis.specs.declared.Outlook.{Outlook}
-use Rattle.diagnosis.specs.declared.Outlook.TheVariants.{Clear, Refuses}
+use Rattle.diagnosis.specs.Reason.{Reason, Entry, Ended}
+use Rattle.diagnosis.specs.Inner.{Trial, Needs}
+use Rattle.diagnosis.specs.Inner.{Outlook}
+use Rattle.diagnosis.specs.Inner.{Clear, Refuses}
 use Rattle.diagnosis.specs.Why.{payload_or_tag_numbers, pending_numbers, why_of}
 use Rattle.diagnosis.specs.Inner.{roomed, told_by, Tried}
 
-pub by_payload : {p q : Payload} → p ≡ q → (r needed : ℕ) (main : List ℕ) (s : State) (log : List ℕ) {x : Numbers} → x ≡ payload_or_tag_numbers q r needed main s log
-    → x ≡ payload_or_tag_numbers p r needed main s log
-by_payload e r needed main s log h = rw e h
-
-pub by_tags : {t u : TagWords} → t ≡ u → (p : Payload) (r needed : ℕ) (main : List ℕ) (s : State) (log : List ℕ) {x : Numbers}
+pub by_tags : {t u : Option ℕ} → t ≡ u → (p : Payload) (r needed : ℕ) (main : List ℕ) (s : State) (log : List ℕ) {x : Numbers}
     → x ≡ pending_numbers u p r needed main s log → x ≡ pending_numbers t p r needed main s log
 by_tags e p r needed main s log h = rw e h
-
-pub by_trial : {t u : Trial} → t ≡ u → (log : List ℕ) (used : ℕ) {o : Outlook} → o ≡ roomed u log used → o ≡ roomed t log used
-by_trial e log used h = rw e h
-
-pub by_outlook : {o p : Outlook} → o ≡ p → (main : List ℕ) (s : State) (log : List ℕ) {r : Reason} → r ≡ told_by p main s log → r ≡ told_by o main s log
-by_outlook e main s log h = rw e h
 
 module _ (log : List ℕ) (used k : ℕ) (h : entry_size * used ≤ length log) {free : ℕ} (e : free ≡ free_entries log used) where
   pub room_lacking : free < k → Refuses log_full k ≡ roomed (Needs k) log used

@@ -1,21 +1,17 @@
 -- Facts that inner functions promise; no promise of a public function cites them.
-use Rattle.std.specs.Prelude.{ℕ, false, List, ◌≡◌}
+use Rattle.std.specs.Prelude.{ℕ, false, List, ◌≡◌, Result, Ok, Err}
 use Rattle.fields.specs.Fields.{if}
-use Rattle.fields.specs.Refusals.{log_full}
+use Rattle.fields.specs.declared.refusals.Refusal.{Refusal}
+use Rattle.fields.specs.Refusals.{refusal_number, log_full}
 use Rattle.gif.specs.Log.{lacks_room}
 use Rattle.memories.specs.Lengths.{Lent}
-use Rattle.chain.specs.declared.Answer.{Answer}
-use Rattle.chain.specs.declared.Answer.TheVariants.{Done, Allowance, Interrupt, Refused as RunRefused}
+use Rattle.chain.specs.Answer.{Answer, Done, Allowance, Interrupt, Refused as RunRefused}
 use Rattle.chain_state.specs.declared.State.{State}
 use Rattle.chain_state.specs.Range.{entry_refusal}
 use Rattle.chain.specs.Step.{step_of}
 use Rattle.chain.specs.Run.{done}
-use Rattle.diagnosis.specs.declared.Reason.{Reason}
-use Rattle.diagnosis.specs.declared.Reason.TheVariants.{NoComplaint}
-use Rattle.diagnosis.specs.declared.Trial.{Trial}
-use Rattle.diagnosis.specs.declared.Trial.TheVariants.{Needs, Refused}
-use Rattle.diagnosis.specs.declared.Outlook.{Outlook}
-use Rattle.diagnosis.specs.declared.Outlook.TheVariants.{Clear, Refuses}
+use Rattle.diagnosis.specs.Reason.{Reason, NoComplaint}
+use Rattle.diagnosis.specs.declared.Fault.{Fault}
 use Rattle.chain_reason.specs.Reason.{next_place}
 use Rattle.diagnosis.specs.Why.{next_numbers, step_reason, on_answer}
 
@@ -36,6 +32,24 @@ with_none_used s =
       path2 = s.path2;
       path3 = s.path3;
     }
+
+-- what a step that was tried on a log with room says: the entries that it needs, or its refusal
+pub data Trial : Type 0 where
+  Needs : ℕ → Trial
+  Refused : ℕ → Trial
+
+abbrev pub trial : Result ℕ Refusal → Trial
+trial (Ok k) = Needs k
+trial (Err e) = Refused (refusal_number e)
+
+-- what a step does with a log: nothing that is refused, or the refusal and the entries that it needs where it lacks room for them
+pub data Outlook : Type 0 where
+  Clear : Outlook
+  Refuses : ℕ → ℕ → Outlook
+
+abbrev pub outlook : {A : Type 0} → Result A Fault → Outlook
+outlook (Ok u) = Clear
+outlook (Err f) = Refuses (refusal_number f.refusal) f.needed
 
 -- what a run of one step on a log with room says: its refusal, or else the entries that the step needs
 abbrev pub trial_of : Answer → ℕ → Trial

@@ -3,3 +3,4 @@ pub mod Why
 pub mod Truth
 pub mod Points
 pub mod Inner
+pub mod Reason

@@ -1,8 +1,7 @@
 -- Every refusal is reached: a point each, worked out from documents 01 and 02 by hand.
-use Rattle.std.specs.Prelude.{ℕ, Bool, true, false, List, [], ◌∷◌, ◌++◌, ◌≡◌, replicate}
+use Rattle.std.specs.Prelude.{ℕ, Bool, true, false, List, [], ◌∷◌, ◌++◌, ◌≡◌, replicate, Some, None, Option}
 use Rattle.gif.specs.declared.TagFormat.{TagFormat}
 use Rattle.gif.specs.declared.TagFormat.TheVariants.{Packed, Reglist, Image}
-use Rattle.gif.specs.declared.Place.TheVariants.{Data}
 use Rattle.gif.specs.declared.Path.{Path}
 use Rattle.memories.specs.declared.VifUnit.{VifUnit}
 use Rattle.memories.specs.declared.VifUnit.TheVariants.{Vif0, Vif1}
@@ -15,8 +14,6 @@ use Rattle.vif_codes.specs.Setters.{with_cycle, with_waiting}
 use Rattle.vif_codes.specs.Payload.{bytes_of}
 use Rattle.chain_state.specs.declared.Stack.{Stack}
 use Rattle.chain_state.specs.declared.Stack.TheVariants.{Empty, Two}
-use Rattle.chain_state.specs.declared.TagWords.{TagWords}
-use Rattle.chain_state.specs.declared.TagWords.TheVariants.{Nothing as NoTagWords, From}
 use Rattle.chain_state.specs.declared.Payload.{Payload}
 use Rattle.chain_state.specs.declared.Payload.TheVariants.{Nothing as NoPayload, Words}
 use Rattle.chain_state.specs.declared.State.{State}
@@ -35,7 +32,7 @@ abbrev pub blank : VifUnit → ℕ → Lent
 blank which n = lent (replicate (data_words which) 0) (replicate (code_bytes which) 0) (replicate n 0)
 
 -- a state on a channel with TADR, the stack and what is pending; its units and paths are given
-abbrev pub state_with : ℕ → ℕ → Bool → Stack → TagWords → Payload → Vif → Vif → Path → Path → State
+abbrev pub state_with : ℕ → ℕ → Bool → Stack → Option ℕ → Payload → Vif → Vif → Path → Path → State
 state_with channel tadr ended k t p v0 v1 p2 p3 =
     record {
       channel = channel;
@@ -54,15 +51,15 @@ state_with channel tadr ended k t p v0 v1 p2 p3 =
 
 -- the next step reads a tag
 abbrev pub at_tag : ℕ → Stack → State
-at_tag tadr k = state_with 1 tadr false k NoTagWords NoPayload reset_unit reset_unit reset_path reset_path
+at_tag tadr k = state_with 1 tadr false k None NoPayload reset_unit reset_unit reset_path reset_path
 
 -- the next step gives VIF1 the payload word at an address, of which n follow with it
 abbrev pub at_word : ℕ → ℕ → Vif → Path → State
-at_word at n v p = state_with 1 0 false Empty NoTagWords (Words at n) reset_unit v p reset_path
+at_word at n v p = state_with 1 0 false Empty None (Words at n) reset_unit v p reset_path
 
 -- a path that waits for one quadword of a tag
 abbrev pub path_with : TagFormat → ℕ → Path
-path_with f d = record { q = 0; place = Data (record { nloop = 1; eop = false; format = f; nreg = 1; descriptors = d; due = 1 }) }
+path_with f d = record { q = 0; place = Some (record { nloop = 1; eop = false; format = f; nreg = 1; descriptors = d; due = 1 }) }
 
 abbrev pub waiting_for : Waiting → Vif
 waiting_for w = with_waiting reset_unit w
@@ -76,7 +73,7 @@ at_quadword p =
       tte = false;
       ended = false;
       stack = Empty;
-      tags = NoTagWords;
+      tags = None;
       payload = Words 0 4;
       used = 0;
       vif0 = reset_unit;
@@ -87,7 +84,7 @@ at_quadword p =
 
 -- the next step gives VIF0, with CL and WL 1, the tag word at address 12
 abbrev pub at_tag_word : State
-at_tag_word = state_with 0 0 false Empty (From 12) NoPayload (with_cycle reset_unit 1 1) reset_unit reset_path reset_path
+at_tag_word = state_with 0 0 false Empty (Some 12) NoPayload (with_cycle reset_unit 1 1) reset_unit reset_path reset_path
 
 -- ---- the table
 
@@ -119,7 +116,7 @@ points =
     ∷ point (quad 0) (at_word 0 8 reset_unit reset_path) (blank Vif1 3) (2 ∷ 14 ∷ 0 ∷ 0 ∷ 0 ∷ [])
     ∷ point (quad 0x1000_0001) (at_tag 0 Empty) (blank Vif1 3) (3 ∷ 14 ∷ 0 ∷ 1 ∷ 0 ∷ [])
     -- the chain has ended; an end tag has no complaint
-    ∷ point (quad 0) (state_with 1 0 true Empty NoTagWords NoPayload reset_unit reset_unit reset_path reset_path) (blank Vif1 3) (1 ∷ 0 ∷ 0 ∷ 0 ∷ 0 ∷ [])
+    ∷ point (quad 0) (state_with 1 0 true Empty None NoPayload reset_unit reset_unit reset_path reset_path) (blank Vif1 3) (1 ∷ 0 ∷ 0 ∷ 0 ∷ 0 ∷ [])
     ∷ point (quad 0x7000_0000) (at_tag 0 Empty) (blank Vif1 3) (0 ∷ 0 ∷ 0 ∷ 0 ∷ 0 ∷ [])
     -- TADR 16 in a memory of 16 bytes
     ∷ point (quad 0) (at_tag 16 Empty) (blank Vif1 3) (3 ∷ 10 ∷ 16 ∷ 16 ∷ 0 ∷ [])

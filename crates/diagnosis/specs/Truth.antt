@@ -1,15 +1,13 @@
 -- Request 6: "What it says has to be proved true", a sentence each.
-use Rattle.std.specs.Prelude.{ℕ, suc, true, false, List, ◌↔◌, ◌≡◌}
+use Rattle.std.specs.Prelude.{ℕ, suc, true, false, List, ◌↔◌, ◌≡◌, None, Option, Some}
 use Rattle.fields.specs.Counts.{none}
 use Rattle.fields.specs.Memory.{quadword_at}
 use Rattle.memories.specs.Lengths.{Lent}
 use Rattle.vif_codes.specs.Words.{incoming_at}
-use Rattle.chain.specs.declared.Answer.TheVariants.{Done, Refused as RunRefused}
-use Rattle.chain_state.specs.declared.TagWords.{TagWords}
-use Rattle.chain_state.specs.declared.TagWords.TheVariants.{Nothing as NoTagWords, From}
+use Rattle.chain.specs.Answer.{Done, Refused as RunRefused}
 use Rattle.chain_state.specs.declared.Payload.{Payload}
 use Rattle.chain_state.specs.declared.Payload.TheVariants.{Nothing as NoPayload, Words}
-use Rattle.chain.specs.declared.StepAnswer.TheVariants.{Refused}
+use Rattle.chain.specs.StepAnswer.{Refused}
 use Rattle.chain_state.specs.declared.State.{State}
 use Rattle.chain.specs.Tags.{tag_step}
 use Rattle.chain_state.specs.Range.{entry_refusal}
@@ -21,8 +19,7 @@ use Rattle.gif_reason.specs.Reason.{numbers}
 use Rattle.gif_reason.specs.Fault.{QuadwordFault}
 use Rattle.vif_reason.specs.Fault.{WordFault}
 use Rattle.chain_reason.specs.Fault.{TagFault}
-use Rattle.diagnosis.specs.declared.Reason.{Reason}
-use Rattle.diagnosis.specs.declared.Reason.TheVariants.{Entry, Ended, NoComplaint, Step}
+use Rattle.diagnosis.specs.Reason.{Reason, Entry, Ended, NoComplaint, Step}
 use Rattle.diagnosis.specs.Why.{why_of}
 
 -- the entry tests pass, the run is not done, and the next step gives refusal r
@@ -40,17 +37,17 @@ pub record Names (r : ℕ) (x : Reason) : Type 0 where
 
 -- "the place the step reads", by what is pending in the state: transferred tag words come first, then payload, then the tag at TADR
 pub data NothingPending (s : State) : Type 0 where
-  no_payload : s.tags ≡ NoTagWords → s.payload ≡ NoPayload → NothingPending s
-  no_words : {a n : ℕ} → s.tags ≡ NoTagWords → s.payload ≡ Words a n → n ≡ 0 → NothingPending s
+  no_payload : s.tags ≡ None → s.payload ≡ NoPayload → NothingPending s
+  no_words : {a n : ℕ} → s.tags ≡ None → s.payload ≡ Words a n → n ≡ 0 → NothingPending s
 
 pub record PayloadPending (s : State) (a : ℕ) : Type 0 where
   pub count : ℕ
-  pub no_tags_lem : s.tags ≡ NoTagWords
+  pub no_tags_lem : s.tags ≡ None
   pub words : s.payload ≡ Words a count
   pub some : count ≡ 0 → ⊥
 
 pub data WordPending (s : State) (a : ℕ) : Type 0 where
-  tag_word : s.tags ≡ From a → WordPending s a
+  tag_word : s.tags ≡ Some a → WordPending s a
   payload_word : PayloadPending s a → WordPending s a
 
 -- a refusal, an address and what is shown: the address is the place that the step reads, and what is shown is found there and breaks the rule
@@ -58,7 +55,7 @@ pub data FoundAt (main : List ℕ) (s : State) (m : Lent) : ℕ → ℕ → Numb
   -- the step reads the tag at TADR
   in_tag : {r : ℕ} {x : Numbers} → NothingPending s → step_of main s m ≡ stepped_by (tag_step main s) m → TagFault main s r x → FoundAt main s m r s.tadr x
   -- the step gives the channel's unit the word at a
-  in_word : {r : ℕ} {x : Numbers} (a : ℕ) (t : TagWords) (p : ℕ → Payload) → WordPending s a → step_of main s m ≡ vif_given main a t p s m
+  in_word : {r : ℕ} {x : Numbers} (a : ℕ) (t : Option ℕ) (p : ℕ → Payload) → WordPending s a → step_of main s m ≡ vif_given main a t p s m
       → WordFault (fed_unit s) (held_by (fed_unit s) s) s.path2 (incoming_at main a) s.used m.log r x → FoundAt main s m r a x
   -- the step gives path 3 the quadword at a
   in_quadword : {r : ℕ} {x : Numbers} (a : ℕ) (p : Payload) → PayloadPending s a → step_of main s m ≡ gif_given main a p s m

@@ -1,16 +1,13 @@
 -- Request 6: "We want a tool that takes the memories, log and state and tells the reason in numbers: the refusal, the address ... and the contents of the field
 -- at fault".
-use Rattle.std.specs.Prelude.{ℕ, not, List, [], ◌∷◌, eqb}
+use Rattle.std.specs.Prelude.{ℕ, not, List, [], ◌∷◌, eqb, None, Option, Some}
 use Rattle.fields.specs.Fields.{if}
 use Rattle.fields.specs.Memory.{quadword_at}
 use Rattle.memories.specs.Lengths.{Lent}
 use Rattle.vif_codes.specs.Words.{incoming_at}
-use Rattle.chain_state.specs.declared.TagWords.{TagWords}
-use Rattle.chain_state.specs.declared.TagWords.TheVariants.{Nothing as NoTagWords, From}
 use Rattle.chain_state.specs.declared.Payload.{Payload}
 use Rattle.chain_state.specs.declared.Payload.TheVariants.{Nothing as NoPayload, Words}
-use Rattle.chain.specs.declared.StepAnswer.{StepAnswer}
-use Rattle.chain.specs.declared.StepAnswer.TheVariants.{Completed, Refused}
+use Rattle.chain.specs.StepAnswer.{StepAnswer, Completed, Refused}
 use Rattle.chain_state.specs.declared.State.{State}
 use Rattle.chain_state.specs.Range.{entry_refusal}
 use Rattle.chain.specs.Step.{fed_unit, step_of}
@@ -20,8 +17,7 @@ use Rattle.gif_reason.specs.declared.Numbers.{Numbers}
 use Rattle.gif_reason.specs.Reason.{quadword_numbers, quadword_needs}
 use Rattle.vif_reason.specs.Reason.{word_numbers, word_needs}
 use Rattle.chain_reason.specs.Reason.{tag_numbers, next_place}
-use Rattle.diagnosis.specs.declared.Reason.{Reason}
-use Rattle.diagnosis.specs.declared.Reason.TheVariants.{Entry, Ended, NoComplaint, Step}
+use Rattle.diagnosis.specs.Reason.{Reason, Entry, Ended, NoComplaint, Step}
 
 -- ---- what the refusal r of the next step shows, by the number of entries that the step needs
 
@@ -40,9 +36,9 @@ payload_or_tag_numbers NoPayload r needed main s log = tag_numbers r main s
 payload_or_tag_numbers (Words at n) r needed main s log = if (eqb n 0) (tag_numbers r main s) (payload_numbers r needed main at s log)
 
 -- transferred tag words come first
-abbrev pub pending_numbers : TagWords → Payload → ℕ → ℕ → List ℕ → State → List ℕ → Numbers
-pending_numbers NoTagWords p r needed main s log = payload_or_tag_numbers p r needed main s log
-pending_numbers (From a) p r needed main s log = unit_numbers r needed main a s log
+abbrev pub pending_numbers : Option ℕ → Payload → ℕ → ℕ → List ℕ → State → List ℕ → Numbers
+pending_numbers None p r needed main s log = payload_or_tag_numbers p r needed main s log
+pending_numbers (Some a) p r needed main s log = unit_numbers r needed main a s log
 
 unfoldable pub next_numbers : ℕ → ℕ → List ℕ → State → List ℕ → Numbers
 next_numbers r needed main s log = pending_numbers s.tags s.payload r needed main s log
@@ -59,9 +55,9 @@ abbrev pub payload_or_tag_needs : Payload → List ℕ → State → ℕ
 payload_or_tag_needs NoPayload main s = 0
 payload_or_tag_needs (Words at n) main s = if (eqb n 0) 0 (payload_needs main at s)
 
-abbrev pub pending_needs : TagWords → Payload → List ℕ → State → ℕ
-pending_needs NoTagWords p main s = payload_or_tag_needs p main s
-pending_needs (From a) p main s = unit_needs main a s
+abbrev pub pending_needs : Option ℕ → Payload → List ℕ → State → ℕ
+pending_needs None p main s = payload_or_tag_needs p main s
+pending_needs (Some a) p main s = unit_needs main a s
 
 unfoldable pub next_needs : List ℕ → State → ℕ
 next_needs main s = pending_needs s.tags s.payload main s

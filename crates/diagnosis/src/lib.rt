@@ -5,33 +5,27 @@ mod attempt;
 mod shown;
 mod telling;
 
+use fields::Refusal;
 pub use telling::why;
 
 // Why the next step of a run would not be taken: an entry refusal; the chain's end, with nothing pending; no complaint; or the refusal of the step, the address
 // that it reads and the contents of the field at fault, 0 for a second number where there is one.
 #[derive(Clone, Copy)]
 pub enum Reason {
-    Entry(u32),
+    Entry(Refusal),
     Ended,
     NoComplaint,
     Step {
-        refusal: u32,
+        refusal: Refusal,
         address: u32,
         first: u64,
         second: u64,
     },
 }
 
-// A step that was tried on a log with room: the entries that it needs, or its refusal.
+// The refusal of the next step, and the entries that the step needs where it lacks room for them.
 #[derive(Clone, Copy)]
-pub(crate) enum Trial {
-    Needs(u64),
-    Refused(u32),
-}
-
-// The next step: none is refused, or the refusal, and the entries that the step needs where it lacks room for them.
-#[derive(Clone, Copy)]
-pub(crate) enum Outlook {
-    Clear,
-    Refuses { refusal: u32, needed: u64 },
+pub(crate) struct Fault {
+    pub(crate) refusal: Refusal,
+    pub(crate) needed: u64,
 }

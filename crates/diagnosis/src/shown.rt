@@ -1,83 +1,86 @@
 // What the refusal of the next step shows.
 ghost use Rattle.std.specs.Prelude.{◌≡◌};
-ghost use Rattle.chain.specs.Step.{fed_unit};
-ghost use Rattle.chain_state.specs.Setters.{held_by};
+ghost use Rattle.fields.specs.Refusals.{refusal_number};
 ghost use Rattle.diagnosis.specs.Why.{unit_numbers, payload_numbers, payload_or_tag_numbers, next_numbers};
 
+use super::Fault;
 use chain_reason::tag_numbers;
-use chain_state::{Payload, State, TagWords};
+use chain_state::{Payload, State, unit_of};
 use gif_reason::{Numbers, quadword_numbers};
-use vif_codes::{Vif, incoming_at};
+use vif_codes::incoming_at;
 use vif_reason::word_numbers;
 
-// The unit that the channel feeds.
-fn fed_unit(s: State) -> Vif
-    ensures { result ≡ held_by (fed_unit s) s }
-{
-    let vif0 = s.vif0;
-    let vif1 = s.vif1;
-    if s.channel == 0 { vif0 } else { vif1 }
+// A step that is refused, and what it reads.
+#[derive(Clone, Copy)]
+pub(crate) struct Refused<'a> {
+    pub(crate) fault: Fault,
+    pub(crate) main: &'a [u8],
+    pub(crate) state: State,
+    pub(crate) log: &'a [u64],
 }
 
-// The word at an address, which the channel's unit is given.
-fn unit_numbers(refusal: u32, needed: u64, main: &[u8], a: u32, s: State, log: &[u64]) -> Numbers
-    ensures { result ≡ unit_numbers refusal needed main.now a s log.now }
-{
-    let unit = fed_unit(s);
-    let path2 = s.path2;
-    let next = incoming_at(main, a);
-    word_numbers(refusal, unit, path2, next, needed, log, s.used)
-}
-
-// Pending payload.
-fn payload_numbers(
-    refusal: u32,
-    needed: u64,
-    main: &[u8],
-    at: u32,
-    s: State,
-    log: &[u64],
-) -> Numbers
-    ensures { result ≡ payload_numbers refusal needed main.now at s log.now }
-{
-    let path3 = s.path3;
-    if s.channel == 2 {
-        return quadword_numbers(refusal, path3, needed, log, s.used);
+impl Refused<'_> {
+    // The word at an address, which the channel's unit is given.
+    fn unit_numbers(self, a: u32) -> Numbers
+        ensures { result
+            ≡ unit_numbers (refusal_number self.entry.fault.refusal) self.entry.fault.needed self.entry.main.now a self.entry.state self.entry.log.now }
+    {
+        let s = self.state;
+        word_numbers(
+            self.fault.refusal,
+            s.held_by(unit_of(s.channel)),
+            s.path2,
+            incoming_at(self.main, a),
+            self.fault.needed,
+            self.log,
+            s.used,
+        )
     }
-    unit_numbers(refusal, needed, main, at, s, log)
-}
 
-// Pending payload, or a tag where none is pending.
-fn payload_or_tag_numbers(
-    payload: Payload,
-    refusal: u32,
-    needed: u64,
-    main: &[u8],
-    s: State,
-    log: &[u64],
-) -> Numbers
-    ensures { result ≡ payload_or_tag_numbers payload refusal needed main.now s log.now }
-{
-    match payload {
-        Payload::Nothing => tag_numbers(refusal, main, s),
-        Payload::Words { at, count } => {
-            if count == 0 {
-                tag_numbers(refusal, main, s)
-            } else {
-                payload_numbers(refusal, needed, main, at, s, log)
+    // Pending payload.
+    fn payload_numbers(self, at: u32) -> Numbers
+        ensures { result
+            ≡ payload_numbers (refusal_number self.entry.fault.refusal) self.entry.fault.needed self.entry.main.now at self.entry.state self.entry.log.now }
+    {
+        let s = self.state;
+        if s.channel == 2 {
+            quadword_numbers(
+                self.fault.refusal,
+                s.path3,
+                self.fault.needed,
+                self.log,
+                s.used,
+            )
+        } else {
+            self.unit_numbers(at)
+        }
+    }
+
+    // Pending payload, or a tag where none is pending.
+    fn payload_or_tag_numbers(self, payload: Payload) -> Numbers
+        ensures { result
+            ≡ payload_or_tag_numbers payload (refusal_number self.entry.fault.refusal) self.entry.fault.needed self.entry.main.now self.entry.state self.entry.log.now }
+    {
+        match payload {
+            Payload::Nothing => tag_numbers(self.fault.refusal, self.main, self.state),
+            Payload::Words { at, count } => {
+                if count == 0 {
+                    tag_numbers(self.fault.refusal, self.main, self.state)
+                } else {
+                    self.payload_numbers(at)
+                }
             }
         }
     }
-}
 
-// What a refusal of the next step shows; `needed` is the number of entries that the step needs.
-pub(crate) fn next_numbers(refusal: u32, needed: u64, main: &[u8], s: State, log: &[u64]) -> Numbers
-    ensures { result ≡ next_numbers refusal needed main.now s log.now }
-{
-    let tags = s.tags;
-    let payload = s.payload;
-    match tags {
-        TagWords::Nothing => payload_or_tag_numbers(payload, refusal, needed, main, s, log),
-        TagWords::From(a) => unit_numbers(refusal, needed, main, a, s, log),
+    // What the refusal shows.
+    pub(crate) fn numbers(self) -> Numbers
+        ensures { result
+            ≡ next_numbers (refusal_number self.entry.fault.refusal) self.entry.fault.needed self.entry.main.now self.entry.state self.entry.log.now }
+    {
+        match self.state.tags {
+            None => self.payload_or_tag_numbers(self.state.payload),
+            Some(a) => self.unit_numbers(a),
+        }
     }
 }

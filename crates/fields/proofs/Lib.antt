@@ -4,3 +4,4 @@ pub mod ChoiceLaws
 pub mod ListLaws
 pub mod PartLaws
 pub mod CountLaws
+pub mod RefusalLaws

@@ -1,5 +1,7 @@
 -- Blocks of words put together of parts.
-use Rattle.std.proofs.Common.{◌≡◌, ℕ, suc, ◌+◌, ◌<◌, ◌≤◌, List, [], ◌∷◌, ◌++◌, length, get_or, drop, set, refl, ◌∙◌, append-nil, add-zero, arith, length-append, drop_of_length-le, drop-cons, drop-drop, take_at, drop_at}
+use Rattle.std.proofs.Common.{◌≡◌, ℕ, suc, ◌<◌, ◌≤◌, List, [], ◌∷◌, ◌++◌, length, drop, set, refl, ◌∙◌, append-nil, arith, append_assoc, length-append, length-set, drop_of_length-le, drop-drop, take_at, drop_at, sym, min, zero, ◌-◌, take}
+use Rattle.std.proofs.lemmas.List.{length-take-le}
+use borrow.Rule.Slice.PartMut.{put_mid}
 use lib.Seq.{sets, set_out, sets-eq}
 use Rattle.fields.specs.Parts.{with_words}
 
@@ -12,23 +14,23 @@ pub words_out : (l ws : List ℕ) (at : ℕ) → length l ≤ at → l ≡ with_
 unfolding with_words
 words_out l ws at h = rw (sets_out ws l at h)
 
--- what is left to store from word i on: at first all of the words
-pub words_first : (l ws : List ℕ) (at : ℕ) → with_words l (at + 0) (drop 0 ws) ≡ with_words l at ws
-words_first l ws at = rw (add-zero at)
+-- those that lie inside are the first ones
+sets_inside : (ws l : List ℕ) (at n : ℕ) → n ≡ min (length ws) (length l - at) → sets l at (take n ws) ≡ sets l at ws
+sets_inside [] l at zero h = refl
+sets_inside [] l at (suc n) h = refl
+sets_inside (x ∷ ws) l at zero h = rw (sets_out (x ∷ ws) l at (omega arith))
+sets_inside (x ∷ ws) l at (suc n) h =
+    sets_inside ws (set l at x) (suc at) n (omega (arith, length-set l at x))
 
--- after one more word the rest
-pub words_turn : (l ws : List ℕ) (at i : ℕ) {l' : List ℕ} → i < length ws → l' ≡ set l (at + i) (get_or ws i 0)
-    → with_words l' (at + (i + 1)) (drop (i + 1) ws) ≡ with_words l (at + i) (drop i ws)
+-- a part of the block taken whole from the words
+pub words_part : (l ws : List ℕ) (at k n : ℕ) {ys : List ℕ} → at < length l → n ≡ min (length ws) (length l - at) → k ≡ n → ys ≡ take n ws
+    → put_mid at k l ys ≡ with_words l at ws
 unfolding with_words
-words_turn l ws at i h q =
-    let a : at + (i + 1) ≡ suc (at + i) = omega arith in
-    let b : i + 1 ≡ suc i = omega arith in
-    rw (q, a, b, drop-cons ws i 0 h)
-
--- at last none
-pub words_last : (l ws : List ℕ) (at i : ℕ) → length ws ≤ i → l ≡ with_words l (at + i) (drop i ws)
-unfolding with_words
-words_last l ws at i h = rw (drop_of_length-le ws {i = i} h)
+words_part l ws at k n h e q r =
+    let few : n ≤ length ws = omega arith in
+    let long : length (take n ws) ≡ n = length-take-le n ws few in
+    rw (q, r, drop-drop n at l)
+    (sym (sym (sets_inside ws l at n e) ∙ sets-eq (take n ws) l at (omega arith) ∙ rw (long, append_assoc (take at l) (take n ws))))
 
 -- words stored right after a part
 pub words_after : (a b ws : List ℕ) (n : ℕ) → length a ≡ n → length ws ≤ length b → with_words (a ++ b) n ws ≡ (a ++ ws) ++ drop (length ws) b

@@ -1,5 +1,7 @@
 -- The refusals' numbers, in document 01's order, and the two answers of a run that are neither done nor a refusal.
-use Rattle.std.specs.Prelude.{ℕ}
+use Rattle.std.specs.Prelude.{ℕ, Result, Ok, Err}
+use Rattle.fields.specs.declared.refusals.Refusal.{Refusal}
+use Rattle.fields.specs.declared.refusals.Refusal.TheVariants.{MainLength, DataLength, CodeLength, LogLength, OutOfRange, TadrOutside, AddrUnaligned, ScratchpadSet, StackFull, PayloadOutside, CmdUnlisted, FormatMissing, CycleWrong, ModeWrong, DirectUnaligned, MpgUnaligned, TopsMissing, DescriptorB, LogFull, MarkWrong, KindWrong, CountWrong, AddressWrong, RecordCut, PadWrong, SheetLong, OutputShort, ChainLong, NumberMissing, CodeWaits, GroupDeep, TotalFull, KeptExceed, RangesExceed}
 
 -- ---- "Entry, in this order"
 
@@ -164,3 +166,46 @@ allowance_used = 90
 -- "After a step that completes a VIF code with its bit 31 set, payload included, answer 91 at once"
 abbrev pub interrupt_met : ℕ
 interrupt_met = 91
+
+-- ---- the numbers of refusals
+
+abbrev pub refusal_number : Refusal → ℕ
+refusal_number MainLength = main_length
+refusal_number DataLength = data_length
+refusal_number CodeLength = code_length
+refusal_number LogLength = log_length
+refusal_number OutOfRange = out_of_range
+refusal_number TadrOutside = tadr_outside
+refusal_number AddrUnaligned = addr_unaligned
+refusal_number ScratchpadSet = scratchpad_set
+refusal_number StackFull = stack_full
+refusal_number PayloadOutside = payload_outside
+refusal_number CmdUnlisted = cmd_unlisted
+refusal_number FormatMissing = format_missing
+refusal_number CycleWrong = cycle_wrong
+refusal_number ModeWrong = mode_wrong
+refusal_number DirectUnaligned = direct_unaligned
+refusal_number MpgUnaligned = mpg_unaligned
+refusal_number TopsMissing = tops_missing
+refusal_number DescriptorB = descriptor_b
+refusal_number LogFull = log_full
+refusal_number MarkWrong = mark_wrong
+refusal_number KindWrong = kind_wrong
+refusal_number CountWrong = count_wrong
+refusal_number AddressWrong = address_wrong
+refusal_number RecordCut = record_cut
+refusal_number PadWrong = pad_wrong
+refusal_number SheetLong = sheet_long
+refusal_number OutputShort = output_short
+refusal_number ChainLong = chain_long
+refusal_number NumberMissing = number_missing
+refusal_number CodeWaits = code_waits
+refusal_number GroupDeep = group_deep
+refusal_number TotalFull = total_full
+refusal_number KeptExceed = kept_exceed
+refusal_number RangesExceed = ranges_exceed
+
+-- the number of an answer's refusal, 0 for none
+abbrev pub refusal_in : {A : Type 0} → Result A Refusal → ℕ
+refusal_in (Ok x) = 0
+refusal_in (Err e) = refusal_number e

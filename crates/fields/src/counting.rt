@@ -1,16 +1,17 @@
 // What is counted over completed steps.
+#![tactic(auto, unfolding(crate::specs::Counts::one_if, crate::specs::Counts::qwc_under, crate::specs::Counts::plus_units_modulo, crate::specs::Counts::plus_qwc_modulo, crate::specs::Counts::plus_modulo))]
+
 ghost use Rattle.std.specs.Prelude.{◌≡◌, ◌==◌};
 ghost use Rattle.fields.specs.Fields.{if};
 ghost use Rattle.fields.specs.Counts.{one_if, no_units, one_word, words_alone, one_quadword, quadwords_alone, plus_units_modulo, no_qwc, qwc_under, plus_qwc_modulo, none, of_unit, one_tag, plus_modulo, count_numbers};
 
 use super::{Counts, Qwc, UnitCounts};
-use std::num::wrapping_add_u64;
 
 // 1 for what is so, 0 for what is not.
 pub fn one_if(b: bool) -> u64
     ensures { result ≡ one_if b }
 {
-    if b { 1 } else { 0 }
+    u64::from(b)
 }
 
 // Of no step.
@@ -68,10 +69,10 @@ pub fn plus_units(a: UnitCounts, b: UnitCounts) -> UnitCounts
     ensures { result ≡ plus_units_modulo a b }
 {
     UnitCounts {
-        steps: wrapping_add_u64(a.steps, b.steps),
-        packets: wrapping_add_u64(a.packets, b.packets),
-        words: wrapping_add_u64(a.words, b.words),
-        nops: wrapping_add_u64(a.nops, b.nops),
+        steps: a.steps.wrapping_add(b.steps),
+        packets: a.packets.wrapping_add(b.packets),
+        words: a.words.wrapping_add(b.words),
+        nops: a.nops.wrapping_add(b.nops),
     }
 }
 
@@ -116,14 +117,14 @@ fn plus_qwc(a: Qwc, b: Qwc) -> Qwc
     ensures { result ≡ plus_qwc_modulo a b }
 {
     Qwc {
-        id0: wrapping_add_u64(a.id0, b.id0),
-        id1: wrapping_add_u64(a.id1, b.id1),
-        id2: wrapping_add_u64(a.id2, b.id2),
-        id3: wrapping_add_u64(a.id3, b.id3),
-        id4: wrapping_add_u64(a.id4, b.id4),
-        id5: wrapping_add_u64(a.id5, b.id5),
-        id6: wrapping_add_u64(a.id6, b.id6),
-        id7: wrapping_add_u64(a.id7, b.id7),
+        id0: a.id0.wrapping_add(b.id0),
+        id1: a.id1.wrapping_add(b.id1),
+        id2: a.id2.wrapping_add(b.id2),
+        id3: a.id3.wrapping_add(b.id3),
+        id4: a.id4.wrapping_add(b.id4),
+        id5: a.id5.wrapping_add(b.id5),
+        id6: a.id6.wrapping_add(b.id6),
+        id7: a.id7.wrapping_add(b.id7),
     }
 }
 
@@ -156,7 +157,7 @@ pub fn one_tag(id: u32, qwc: u32) -> Counts
         packets: 0,
         words: 0,
         nops: 0,
-        qwc: qwc_under(id, qwc as u64),
+        qwc: qwc_under(id, u64::from(qwc)),
     }
 }
 
@@ -165,10 +166,10 @@ pub fn plus(a: Counts, b: Counts) -> Counts
     ensures { result ≡ plus_modulo a b }
 {
     Counts {
-        steps: wrapping_add_u64(a.steps, b.steps),
-        packets: wrapping_add_u64(a.packets, b.packets),
-        words: wrapping_add_u64(a.words, b.words),
-        nops: wrapping_add_u64(a.nops, b.nops),
+        steps: a.steps.wrapping_add(b.steps),
+        packets: a.packets.wrapping_add(b.packets),
+        words: a.words.wrapping_add(b.words),
+        nops: a.nops.wrapping_add(b.nops),
         qwc: plus_qwc(a.qwc, b.qwc),
     }
 }

@@ -3,9 +3,9 @@
 
 mod counting;
 mod memory;
-pub mod refusals;
+mod refusals;
 
-ghost use Rattle.std.specs.Prelude.{◌≡◌, slice_set};
+ghost use Rattle.std.specs.Prelude.{◌≡◌};
 ghost use Rattle.fields.specs.Parts.{with_words};
 
 pub use counting::{
@@ -13,8 +13,9 @@ pub use counting::{
     plus_units, quadwords_alone, words_alone,
 };
 pub use memory::{MAIN_MOST, lies_inside, long_at, word_at};
+pub use refusals::{ALLOWANCE_USED, BUFFER_SHORT, INTERRUPT_MET, Refusal};
 
-// Sums of QWC, by tag ID.
+// Sums of QWC, by tag ID: eight fields and no array, since the definitions of specs/Counts.antt and those of crates above name each.
 #[derive(Clone, Copy)]
 pub struct Qwc {
     pub id0: u64,
@@ -46,24 +47,12 @@ pub struct UnitCounts {
     pub nops: u64,
 }
 
-fn put_word(block: &mut [u32], at: usize, word: u32)
-    ensures { block.new ≡ slice_set block.old at word }
-{
-    if at < block.len() {
-        block[at] = word;
-    }
-}
-
 // Stores the words one after another from `at` on; those past the block's end are dropped.
 pub fn put_words(block: &mut [u32], at: usize, words: &[u32])
     ensures { block.new ≡ with_words block.old at words.now }
 {
-    if block.len() <= at {
-        return;
-    }
-    let mut i = 0;
-    while i < words.len() {
-        put_word(block, at + i, words[i]);
-        i += 1;
+    if at < block.len() {
+        let n = words.len().min(block.len() - at);
+        block[at..at + n].copy_from_slice(&words[..n]);
     }
 }

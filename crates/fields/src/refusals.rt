@@ -1,74 +1,94 @@
-// The refusals' numbers, as specs/Refusals.antt has them.
-pub const MAIN_LENGTH: u32 = 1;
+// The refusals and their numbers, as specs/Refusals.antt has them.
+ghost use Rattle.std.specs.Prelude.{◌≡◌};
+ghost use Rattle.fields.specs.Refusals.{refusal_number};
 
-pub const DATA_LENGTH: u32 = 2;
+// Why a step, a call or a record is refused.
+#[derive(Debug, Clone, Copy, PartialEq, Eq, Hash)]
+pub enum Refusal {
+    MainLength,
+    DataLength,
+    CodeLength,
+    LogLength,
+    OutOfRange,
+    TadrOutside,
+    AddrUnaligned,
+    ScratchpadSet,
+    StackFull,
+    PayloadOutside,
+    CmdUnlisted,
+    FormatMissing,
+    CycleWrong,
+    ModeWrong,
+    DirectUnaligned,
+    MpgUnaligned,
+    TopsMissing,
+    DescriptorB,
+    LogFull,
+    MarkWrong,
+    KindWrong,
+    CountWrong,
+    AddressWrong,
+    RecordCut,
+    PadWrong,
+    SheetLong,
+    OutputShort,
+    ChainLong,
+    NumberMissing,
+    CodeWaits,
+    GroupDeep,
+    TotalFull,
+    KeptExceed,
+    RangesExceed,
+}
 
-pub const CODE_LENGTH: u32 = 3;
+impl Refusal {
+    // The papers' number.
+    pub fn number(self) -> u32
+        ensures { result ≡ refusal_number self }
+    {
+        match self {
+            Refusal::MainLength => 1,
+            Refusal::DataLength => 2,
+            Refusal::CodeLength => 3,
+            Refusal::LogLength => 4,
+            Refusal::OutOfRange => 5,
+            Refusal::TadrOutside => 10,
+            Refusal::AddrUnaligned => 11,
+            Refusal::ScratchpadSet => 12,
+            Refusal::StackFull => 13,
+            Refusal::PayloadOutside => 14,
+            Refusal::CmdUnlisted => 20,
+            Refusal::FormatMissing => 21,
+            Refusal::CycleWrong => 22,
+            Refusal::ModeWrong => 23,
+            Refusal::DirectUnaligned => 24,
+            Refusal::MpgUnaligned => 25,
+            Refusal::TopsMissing => 26,
+            Refusal::DescriptorB => 30,
+            Refusal::LogFull => 31,
+            Refusal::MarkWrong => 40,
+            Refusal::KindWrong => 41,
+            Refusal::CountWrong => 42,
+            Refusal::AddressWrong => 43,
+            Refusal::RecordCut => 44,
+            Refusal::PadWrong => 45,
+            Refusal::SheetLong => 46,
+            Refusal::OutputShort => 47,
+            Refusal::ChainLong => 49,
+            Refusal::NumberMissing => 50,
+            Refusal::CodeWaits => 51,
+            Refusal::GroupDeep => 52,
+            Refusal::TotalFull => 54,
+            Refusal::KeptExceed => 55,
+            Refusal::RangesExceed => 56,
+        }
+    }
+}
 
-pub const LOG_LENGTH: u32 = 4;
-
-pub const OUT_OF_RANGE: u32 = 5;
-
-pub const TADR_OUTSIDE: u32 = 10;
-
-pub const ADDR_UNALIGNED: u32 = 11;
-
-pub const SCRATCHPAD_SET: u32 = 12;
-
-pub const STACK_FULL: u32 = 13;
-
-pub const PAYLOAD_OUTSIDE: u32 = 14;
-
-pub const CMD_UNLISTED: u32 = 20;
-
-pub const FORMAT_MISSING: u32 = 21;
-
-pub const CYCLE_WRONG: u32 = 22;
-
-pub const MODE_WRONG: u32 = 23;
-
-pub const DIRECT_UNALIGNED: u32 = 24;
-
-pub const MPG_UNALIGNED: u32 = 25;
-
-pub const TOPS_MISSING: u32 = 26;
-
-pub const DESCRIPTOR_B: u32 = 30;
-
-pub const LOG_FULL: u32 = 31;
-
-pub const MARK_WRONG: u32 = 40;
-
-pub const KIND_WRONG: u32 = 41;
-
-pub const COUNT_WRONG: u32 = 42;
-
-pub const ADDRESS_WRONG: u32 = 43;
-
-pub const RECORD_CUT: u32 = 44;
-
-pub const PAD_WRONG: u32 = 45;
-
-pub const SHEET_LONG: u32 = 46;
-
-pub const OUTPUT_SHORT: u32 = 47;
-
-pub const CHAIN_LONG: u32 = 49;
-
-pub const NUMBER_MISSING: u32 = 50;
-
-pub const CODE_WAITS: u32 = 51;
-
-pub const GROUP_DEEP: u32 = 52;
-
-pub const TOTAL_FULL: u32 = 54;
-
-pub const KEPT_EXCEED: u32 = 55;
-
-pub const RANGES_EXCEED: u32 = 56;
-
+// The number of a call whose buffers are too short.
 pub const BUFFER_SHORT: u32 = 60;
 
+// The numbers of the answers of a run that are neither done nor a refusal.
 pub const ALLOWANCE_USED: u32 = 90;
 
 pub const INTERRUPT_MET: u32 = 91;

@@ -1,4 +1,5 @@
 -- Data of a tag taken many quadwords at a time: one more of them.
+use Rattle.std.specs.Prelude.{None, Some, Ok}
 use mathlib.Core.Path.{◌≡◌, refl, ap, ◌∙◌}
 use mathlib.Core.Bool.{Bool, true, false, ◌&&◌}
 use mathlib.Core.List.{List, ◌++◌}
@@ -10,7 +11,7 @@ use lib.ListN.{length}
 use lib.Dec.{eqb, ltb}
 use Rattle.fields.specs.Counts.{one_if}
 use Rattle.fields.specs.Fields.{if, quadword}
-use Rattle.fields.specs.Memory.{long_at}
+use Rattle.fields.specs.Memory.{quadword_at}
 use Rattle.fields.proofs.ChoiceLaws.{if_ind, and_false}
 use Rattle.fields.proofs.CountLaws.{one_most}
 use Rattle.fields.proofs.FieldLaws.{whole_low, whole_high}
@@ -19,7 +20,6 @@ use Rattle.gif.specs.declared.Write.{Write}
 use Rattle.gif.specs.declared.Writes.{Writes}
 use Rattle.gif.specs.declared.TagFormat.TheVariants.{Packed, Reglist, Image}
 use Rattle.gif.specs.declared.HeldTag.{HeldTag}
-use Rattle.gif.specs.declared.Place.TheVariants.{Idle, Data}
 use Rattle.gif.specs.declared.Path.{Path}
 use Rattle.gif.specs.declared.QuadwordsResult.{QuadwordsResult}
 use Rattle.gif.specs.Log.{entry_size, HasRoom, entries_by, logged}
@@ -49,7 +49,7 @@ module _ (t : HeldTag) (k : ℕ) where
 
   module _ (h : k < t.due) where
     -- before its last one
-    place_before : place_after_many t k ≡ Data (with_due t (t.due - k))
+    place_before : place_after_many t k ≡ Some (with_due t (t.due - k))
     unfolding place_after_many if
     place_before = rw (ne_eqb t.due k (λ e. omega arith))
 
@@ -80,7 +80,7 @@ module _ (t : HeldTag) (k : ℕ) where
 -- the step of a data quadword that nothing refuses but a full log
 abbrev Commits : GifPath → ℕ → ℕ → HeldTag → List Write → ℕ → ℕ → List ℕ → Type 0
 Commits which q q' t ws quad used log =
-    commit which (path_of q (Data t)) (path_of q' (place_after t)) (data_closes t) ws used log ≡ gif_step which (path_of q (Data t)) quad used log
+    commit which (path_of q (Some t)) (path_of q' (place_after t)) (data_closes t) ws used log ≡ gif_step which (path_of q (Some t)) quad used log
 
 -- ---- k of n data quadwords that are taken at once
 
@@ -88,7 +88,7 @@ pub record Came (which : GifPath) (main : List ℕ) (a n used₀ : ℕ) (log₀ 
   pub lengths : length log ≡ length log₀
   pub few : k ≤ n
   pub room : HasRoom log used (2 * (n - k))
-  pub leads : Leads which main a k (one_if (many_close t k)) (path_of q₀ (Data t)) used₀ log₀ (path_of q (place_after_many t k)) used log
+  pub leads : Leads which main a k (one_if (many_close t k)) (path_of q₀ (Some t)) used₀ log₀ (path_of q (place_after_many t k)) used log
 
 module _ (which : GifPath) (main : List ℕ) (a n used₀ : ℕ) (log₀ : List ℕ) (q₀ : ℕ) (t : HeldTag) (g : DataFits t main a n log₀ used₀) where
   pub none_came : Came which main a n used₀ log₀ q₀ t 0 q₀ used₀ log₀
@@ -105,12 +105,17 @@ module _ (which : GifPath) (main : List ℕ) (a n used₀ : ℕ) (log₀ : List 
 
   module _ {k q used : ℕ} {log : List ℕ} (i : Came which main a n used₀ log₀ q₀ t k q used log) where
     -- what a call hands back
-    pub came_all : {r : QuadwordsResult} → r ≡ quadwords_result (path_of q (place_after_many t k)) used k (one_if (many_close t k)) 0
-        → TakenAtOnce which main a n (path_of q₀ (Data t)) used₀ log₀ r log
+    pub came_all : {r : QuadwordsResult} → r ≡ quadwords_result (path_of q (place_after_many t k)) used k (one_if (many_close t k)) (Ok tt)
+        → TakenAtOnce which main a n (path_of q₀ (Some t)) used₀ log₀ r log
     came_all e =
         let r = i.room in
         let l = i.lengths in
         rw e (record { few = i.few; closed = closed_few t k g.held.left; holds = omega arith; leads = i.leads })
+
+    -- after the last of them
+    pub came_end : n ≤ k → {r : QuadwordsResult} → r ≡ quadwords_result (path_of q (place_after_many t n)) used n (one_if (many_close t n)) (Ok tt)
+        → TakenAtOnce which main a n (path_of q₀ (Some t)) used₀ log₀ r log
+    came_end l e = let few = i.few in let z : n ≡ k = omega arith in came_all (rw z at e)
 
     pub room_for : k < n → (w : Writes) → HasRoom log used (length (listed w))
     room_for h w =
@@ -119,7 +124,7 @@ module _ (which : GifPath) (main : List ℕ) (a n used₀ : ℕ) (log₀ : List 
         omega arith
 
     -- one more, by what its step writes
-    module _ (h : k < n) {low high : ℕ} (el : low ≡ long_at main (a + 16 * k)) (eh : high ≡ long_at main (a + 16 * k + 8)) (l : low < 2 ^ 64) (m : high < 2 ^ 64)
+    module _ (h : k < n) {low high : ℕ} (eq : quadword low high ≡ quadword_at main (a + 16 * k)) (l : low < 2 ^ 64) (m : high < 2 ^ 64)
         (w : Writes) {used' : ℕ} {log' : List ℕ} (eu : used' ≡ used + length (listed w)) (e : log' ≡ logged log used (entries_by which (listed w))) where
       due : k < t.due
       due = let d = g.due in omega arith
@@ -129,8 +134,8 @@ module _ (which : GifPath) (main : List ℕ) (a n used₀ : ℕ) (log₀ : List 
       unfolding one_if
       one_came {q'} s =
           let rest = with_due t (t.due - k) in
-          let o = commit_fits which (path_of q (Data rest)) (path_of q' (place_after rest)) (data_closes rest) (listed w) used log refl (room_for h w) e ∙ s in
-          let next = leads_one (at_quadword_lem which main (a + 16 * k) el eh (path_of q (Data rest)) used log o) refl in
+          let o = commit_fits which (path_of q (Some rest)) (path_of q' (place_after rest)) (data_closes rest) (listed w) used log refl (room_for h w) e ∙ s in
+          let next = leads_one (at_quadword_lem which main (a + 16 * k) eq (path_of q (Some rest)) used log o) refl in
           let first = rw (place_before t k due, none_closed t k due) at i.leads in
           let b = logged_length log used (entries_by which (listed w)) in
           let c = listed_most w in
@@ -147,10 +152,10 @@ module _ (which : GifPath) (main : List ℕ) (a n used₀ : ℕ) (log₀ : List 
       unfolding gif_step
       packed_came p eb ed f eq ew =
           let rest = with_due t (t.due - k) in
-          let x = path_of q (Data rest) in
+          let x = path_of q (Some rest) in
           one_came
           (by_format p which x rest (quadword low high) used log
-          (packed_taken which x rest (quadword low high) used log (taken_rest t k due g.held) (nibble_descriptor rest (taken_of t + k) eb ed) f refl eq refl ew refl))
+          (packed_taken which x rest (quadword low high) used log (taken_rest t k due g.held) (nibble_descriptor rest (taken_of t + k) eb ed) f eq ew refl))
 
       pub reglist_came : t.format ≡ Reglist → {j d b s : ℕ} → j ≡ 2 * (taken_of t + k) → b ≡ j % t.nreg → d ≡ t.descriptors / 2 ^ (4 * b) % 16
           → s ≡ if (ltb (j + 1) (t.nloop * t.nreg)) (descriptor_at t (j + 1)) 15 → (d ≡ 11 → ⊥) → (s ≡ 11 → ⊥)
@@ -158,17 +163,17 @@ module _ (which : GifPath) (main : List ℕ) (a n used₀ : ℕ) (log₀ : List 
       unfolding gif_step descriptor_at
       reglist_came p {j} ej eb ed es f f' ew =
           let rest = with_due t (t.due - k) in
-          let x = path_of q (Data rest) in
+          let x = path_of q (Some rest) in
           one_came
           (by_format p which x rest (quadword low high) used log
-          (reglist_taken which x rest low high used log (taken_rest t k due g.held) (rw ej at (nibble_descriptor rest j eb ed)) (rw ej at es) (simp (ne_eqb _ _ f, ne_eqb _ _ f')) l m refl refl ew refl))
+          (reglist_taken which x rest low high used log (taken_rest t k due g.held) (rw ej at (nibble_descriptor rest j eb ed)) (rw ej at es) (simp (ne_eqb _ _ f, ne_eqb _ _ f')) l m ew refl))
 
       pub image_came : t.format ≡ Image → listed w ≡ image_writes low high → Came which main a n used₀ log₀ q₀ t (k + 1) q used' log'
       unfolding gif_step image_step
       image_came p ew =
           let rest = with_due t (t.due - k) in
           one_came
-          (by_format p which (path_of q (Data rest)) rest (quadword low high) used log (rw (whole_low low high l, whole_high low high l m, ew)))
+          (by_format p which (path_of q (Some rest)) rest (quadword low high) used log (rw (whole_low low high l, whole_high low high l m, ew)))
 
 -- room for one entry is room for a tag's own writes
 pub tag_room : (log : List ℕ) (used quad : ℕ) {ws : List Write} → ws ≡ tag_writes quad → HasRoom log used 1 → HasRoom log used (length ws)
@@ -182,22 +187,22 @@ module _ {which : GifPath} {main : List ℕ} {a used : ℕ} {p : Path} {log : Li
       → TakenAtOnce which main a left p used log r log'
   taken_fewer l x = let f = x.few in record { few = omega arith; closed = x.closed; holds = x.holds; leads = x.leads }
 
-  pub none_taken : (left : ℕ) → entry_size * used ≤ length log → TakenAtOnce which main a left p used log (quadwords_result p used 0 0 0) log
+  pub none_taken : (left : ℕ) → entry_size * used ≤ length log → TakenAtOnce which main a left p used log (quadwords_result p used 0 0 (Ok tt)) log
   none_taken left h = record { few = omega arith; closed = omega arith; holds = h; leads = leads_none }
 
   -- a tag, where the log has room for one entry
-  pub tag_taken : p.place ≡ Idle → HasRoom log used 1 → {low high used' c : ℕ} {q : Path} {ws : List Write} {log' : List ℕ} → low ≡ long_at main a → high ≡ long_at main (a + 8)
-      → q ≡ path_of tag_q (place_at_tag (quadword low high)) → c ≡ one_if (tag_closes (quadword low high)) → ws ≡ tag_writes (quadword low high)
-      → used' ≡ used + length ws → log' ≡ logged log used (entries_by which ws) → TakenAtOnce which main a 1 p used log (quadwords_result q used' 1 c 0) log'
+  pub tag_taken : p.place ≡ None → HasRoom log used 1 → {quad used' c : ℕ} {q : Path} {ws : List Write} {log' : List ℕ} → quad ≡ quadword_at main a
+      → q ≡ path_of tag_q (place_at_tag quad) → c ≡ one_if (tag_closes quad) → ws ≡ tag_writes quad
+      → used' ≡ used + length ws → log' ≡ logged log used (entries_by which ws) → TakenAtOnce which main a 1 p used log (quadwords_result q used' 1 c (Ok tt)) log'
   unfolding gif_step tag_step
-  tag_taken i h {low} {high} el eh eq ec ew eu e =
-      let quad = quadword low high in
+  tag_taken i h {quad} eq es ec ew eu e =
+      let few : 1 ≤ 1 = omega arith in
       let r = tag_room log used quad refl h in
       let o = commit_fits which p (path_of tag_q (place_at_tag quad)) (tag_closes quad) (tag_writes quad) used log refl r (rw ew at e) in
-      let g = leads_one (at_quadword_lem which main a el eh p used log (by_place i which p quad used log o)) refl in
-      rw (eq, ec, eu, ew) (record { few = omega arith; closed = one_most (tag_closes quad) refl; holds = r; leads = g })
+      let g = leads_one (at_quadword_lem which main a eq p used log (by_place i which p quad used log o)) refl in
+      rw (es, ec, eu, ew) (record { few = few; closed = one_most (tag_closes quad) refl; holds = r; leads = g })
 
   -- what holds of the tag that a path holds holds of the path
-  pub taken_held : {t : HeldTag} → p.place ≡ Data t → {n : ℕ} {r : QuadwordsResult} {log' : List ℕ}
-      → TakenAtOnce which main a n (path_of p.q (Data t)) used log r log' → TakenAtOnce which main a n p used log r log'
+  pub taken_held : {t : HeldTag} → p.place ≡ Some t → {n : ℕ} {r : QuadwordsResult} {log' : List ℕ}
+      → TakenAtOnce which main a n (path_of p.q (Some t)) used log r log' → TakenAtOnce which main a n p used log r log'
   taken_held e h = rw (← e) at h

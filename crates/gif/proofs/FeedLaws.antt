@@ -1,4 +1,5 @@
 -- Quadwords given one after another: the turns, and what the tests give.
+use Rattle.std.specs.Prelude.{Err}
 use mathlib.Core.Path.{◌≡◌, refl, sym, ap, ◌∙◌}
 use mathlib.Core.Bool.{Bool, true, false, not}
 use mathlib.Core.List.{List}
@@ -10,15 +11,15 @@ use borrow.Author.Tests.{leb-true, ne_eqb, not-false}
 use lib.ListN.{length}
 use lib.Dec.{leb}
 use Rattle.fields.specs.Counts.{one_if}
-use Rattle.fields.specs.Fields.{if, quadword}
-use Rattle.fields.specs.Refusals.{log_length, out_of_range, payload_outside}
-use Rattle.fields.specs.Memory.{long_at, quadword_at, inside}
+use Rattle.fields.specs.Fields.{if}
+use Rattle.fields.specs.declared.refusals.Refusal.{Refusal}
+use Rattle.fields.specs.Refusals.{refusal_number, log_length, out_of_range, payload_outside}
+use Rattle.fields.specs.Memory.{quadword_at, inside}
 use Rattle.fields.proofs.CountLaws.{one_most}
 use Rattle.fields.proofs.ChoiceLaws.{if_ind, if_zero, and_left, and_right}
 use Rattle.gif.specs.declared.GifPath.{GifPath}
 use Rattle.gif.specs.declared.Path.{Path}
-use Rattle.gif.specs.declared.GifAnswer.{GifAnswer}
-use Rattle.gif.specs.declared.GifAnswer.TheVariants.{Taken, Refused}
+use Rattle.gif.specs.GifAnswer.{GifAnswer, Taken, Refused, gif_answer}
 use Rattle.gif.specs.declared.GifResult.{GifResult}
 use Rattle.gif.specs.Log.{entry_size, log_refused, LogFits}
 use Rattle.gif.specs.Range.{path_in_range, PlaceFits}
@@ -51,9 +52,9 @@ module _ (which : GifPath) (main : List ℕ) (a : ℕ) (p : Path) (used : ℕ) (
     feeds_refused q = one_turn ∙ by_answer q (feeds_of which main (a + 16) n') o p used log refl
 
 -- a step of the quadword that lies at an address
-pub at_quadword_lem : (which : GifPath) (main : List ℕ) (a : ℕ) {low high : ℕ} → low ≡ long_at main a → high ≡ long_at main (a + 8)
-    → (p : Path) (used : ℕ) (log : List ℕ) {o : Left} → o ≡ gif_step which p (quadword low high) used log → o ≡ gif_step which p (quadword_at main a) used log
-at_quadword_lem which main a el eh p used log e = rw (← el, ← eh) e
+pub at_quadword_lem : (which : GifPath) (main : List ℕ) (a : ℕ) {quad : ℕ} → quad ≡ quadword_at main a
+    → (p : Path) (used : ℕ) (log : List ℕ) {o : Left} → o ≡ gif_step which p quad used log → o ≡ gif_step which p (quadword_at main a) used log
+at_quadword_lem which main a eq p used log e = rw (← eq) e
 
 -- ---- quadwords that lead on
 
@@ -121,17 +122,18 @@ module _ (which : GifPath) (main : List ℕ) (a count : ℕ) (p : Path) (used : 
         sym (ap (plus k c) (rw m at (g.goes (count - (k + n)))) ∙ rw (b, add_assoc k n x.taken, add_assoc c h x.packets)) ∙ i
 
     pub ends_refused : k < count → {r : GifResult} {log' : List ℕ} → left r log' ≡ gif_step which p (quadword_at main (a + 16 * k)) used log
-        → {m : ℕ} → r.answer ≡ Refused m → entry_size * used ≤ length log → fed p used log' k c m ≡ w
-    ends_refused l {r} {log'} e {m} q h =
+        → {x : Refusal} → r.answer ≡ Err x → entry_size * used ≤ length log → fed p used log' k c (refusal_number x) ≡ w
+    ends_refused l {r} {log'} e {x} q h =
         let d : count - k ≡ suc (count - (k + 1)) = omega arith in
-        let s : log' ≡ log = ap (λ (o : Left). o.log) (rw (← e) at ((step_wrote which p used log h (quadword_at main (a + 16 * k))).same m) q) in
+        let told : gif_answer r.answer ≡ Refused (refusal_number x) = ap gif_answer q in
+        let s : log' ≡ log = ap (λ (o : Left). o.log) (rw (← e) at ((step_wrote which p used log h (quadword_at main (a + 16 * k))).same (refusal_number x)) told) in
         rw s
-        (sym (ap (plus k c) (feeds_refused which main (a + 16 * k) p used log (count - k) (count - (k + 1)) d e q) ∙ rw (add-zero k, add-zero c)) ∙ i)
+        (sym (ap (plus k c) (feeds_refused which main (a + 16 * k) p used log (count - k) (count - (k + 1)) d e told) ∙ rw (add-zero k, add-zero c)) ∙ i)
 
 -- a step keeps what the next one asks of the log
-pub next_log_fits : (which : GifPath) (p : Path) (quad used : ℕ) (log : List ℕ) {r : GifResult} {log' : List ℕ} → left r log' ≡ gif_step which p quad used log
+pub next_log_fits : (which : GifPath) (p : Path) (quad used : ℕ) (log : List ℕ) (r : GifResult) {log' : List ℕ} → left r log' ≡ gif_step which p quad used log
     → LogFits log used → length log' ≡ length log → LogFits log' r.used
-next_log_fits which p quad used log {r} e f n =
+next_log_fits which p quad used log r e f n =
     let s = f.short in
     let o : entry_size * r.used ≤ length log = rw (← e) at (step_wrote which p used log f.holds quad).room in
     record { short = omega arith; holds = omega arith }

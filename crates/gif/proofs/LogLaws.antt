@@ -12,7 +12,7 @@ use Rattle.gif.specs.declared.GifPath.{GifPath}
 use Rattle.gif.specs.declared.Write.{Write}
 use Rattle.gif.specs.declared.Entry.{Entry}
 use Rattle.gif.specs.declared.Path.{Path}
-use Rattle.gif.specs.declared.GifAnswer.TheVariants.{Taken}
+use Rattle.gif.specs.GifAnswer.{Taken}
 use Rattle.gif.specs.declared.Writes.{Writes}
 use Rattle.gif.specs.declared.Writes.TheVariants.{Nothing, One, Two}
 use Rattle.fields.specs.Fields.{if}

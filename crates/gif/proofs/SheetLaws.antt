@@ -1,4 +1,5 @@
 -- A test sheet's GIF tag and its A+D quadwords, over their number.
+use Rattle.std.specs.Prelude.{None, Option, Some}
 use mathlib.Core.Path.{◌≡◌, refl, ◌∙◌}
 use mathlib.Core.Bool.{Bool, true, false}
 use mathlib.Core.List.{List, [], ◌∷◌}
@@ -12,10 +13,8 @@ use Rattle.gif.specs.declared.GifPath.{GifPath}
 use Rattle.gif.specs.declared.Write.{Write}
 use Rattle.gif.specs.declared.TagFormat.TheVariants.{Packed}
 use Rattle.gif.specs.declared.HeldTag.{HeldTag}
-use Rattle.gif.specs.declared.Place.{Place}
-use Rattle.gif.specs.declared.Place.TheVariants.{Idle, Data}
 use Rattle.gif.specs.declared.Path.{Path}
-use Rattle.gif.specs.declared.GifAnswer.TheVariants.{Taken}
+use Rattle.gif.specs.GifAnswer.{Taken}
 use Rattle.fields.specs.Fields.{if, bits}
 use Rattle.gif.specs.Log.{entry_size, HasRoom, entries_by, logged, lacks_room}
 use Rattle.gif.specs.Tag.{path_of, format_of, nreg_of, quadwords_of, tag_of, tag_q, tag_writes, taken_of, descriptor_at, place_after, place_at_tag, eop_of, tag_closes, data_closes}
@@ -31,9 +30,9 @@ abbrev pub sheet_held : ℕ → ℕ → HeldTag
 sheet_held n d = record { nloop = n; eop = true; format = Packed; nreg = 1; descriptors = 14; due = d }
 
 -- the place with k of its quadwords due
-abbrev pub sheet_place : ℕ → ℕ → Place
-sheet_place n zero = Idle
-sheet_place n (suc k) = Data (sheet_held n (suc k))
+abbrev pub sheet_place : ℕ → ℕ → Option HeldTag
+sheet_place n zero = None
+sheet_place n (suc k) = Some (sheet_held n (suc k))
 
 abbrev pub took : Bool → Path → ℕ → List ℕ → Left
 took closed p used log = record { answer = Taken closed; number = 0; path = p; used = used; log = log }
@@ -64,7 +63,7 @@ module _ (which : GifPath) (n : ℕ) (some : 0 < n) (few : n < 32768) where
       let d : low n / 1152921504606846976 ≡ 1 = omega arith in
       simp (flg_at (low n) 14 fits, nreg_at (low n) 14 fits, loops_at, eop_at (low n) 14 fits, whole_high (low n) 14 fits (omega arith), b, c, d, mul-one)
 
-  tag_place : place_at_tag (sheet_tag n) ≡ Data (sheet_held n n)
+  tag_place : place_at_tag (sheet_tag n) ≡ Some (sheet_held n n)
   unfolding place_at_tag if
   tag_place = rw (loops_at, ne_eqb n 0 (λ e. omega arith), tag_held)
 
@@ -81,13 +80,13 @@ module _ (which : GifPath) (n : ℕ) (some : 0 < n) (few : n < 32768) where
 
   -- the tag's own step writes nothing
   pub sheet_tag_lem : (q used : ℕ) (log : List ℕ) → entry_size * used ≤ length log
-      → gif_step which (path_of q Idle) (sheet_tag n) used log ≡ took false (path_of tag_q (sheet_place n n)) used log
+      → gif_step which (path_of q None) (sheet_tag n) used log ≡ took false (path_of tag_q (sheet_place n n)) used log
   unfolding gif_step tag_step logged
   sheet_tag_lem q used log h =
       rw (tag_silent, tag_open, tag_place)
       (commit_room which _ _ false [] used log (rw add-zero h) ∙ rw (add-zero, placed n some))
     where
-      placed : (m : ℕ) → 0 < m → sheet_place n m ≡ Data (sheet_held n m)
+      placed : (m : ℕ) → 0 < m → sheet_place n m ≡ Some (sheet_held n m)
       placed zero l = absurd (omega arith)
       placed (suc m) l = refl
 

@@ -1,4 +1,5 @@
 -- The laws of a step that the crates above cite.
+use Rattle.std.specs.Prelude.{None, Option, Some}
 use mathlib.Core.Path.{◌≡◌, refl, sym, ap}
 use mathlib.Core.Bool.{Bool, true, false}
 use mathlib.Core.List.{List, []}
@@ -14,10 +15,8 @@ use Rattle.gif.specs.declared.Entry.{Entry}
 use Rattle.gif.specs.declared.TagFormat.{TagFormat}
 use Rattle.gif.specs.declared.TagFormat.TheVariants.{Packed, Reglist, Image}
 use Rattle.gif.specs.declared.HeldTag.{HeldTag}
-use Rattle.gif.specs.declared.Place.{Place}
-use Rattle.gif.specs.declared.Place.TheVariants.{Idle, Data}
 use Rattle.gif.specs.declared.Path.{Path}
-use Rattle.gif.specs.declared.GifAnswer.TheVariants.{Refused}
+use Rattle.gif.specs.GifAnswer.{Refused}
 use Rattle.fields.specs.Fields.{if, bits}
 use Rattle.gif.specs.Log.{entry_size, entries_by, logged, lacks_room, log_refused}
 use Rattle.gif.specs.Tag.{format_of, nreg_of, quadwords_of, tag_of, place_after, place_at_tag, with_due, nloop_of}
@@ -71,10 +70,10 @@ module _ (which : GifPath) (p : Path) (used : ℕ) (log : List ℕ) (h : entry_s
   wrote_data Reglist t quad = if_ind (Wrote p used log) _ (wrote_refused 30) (wrote_commit _ _ _)
   wrote_data Image t quad = wrote_commit _ _ _
 
-  wrote_at : (w : Place) (quad : ℕ) → Wrote p used log (step_at w which p quad used log)
+  wrote_at : (w : Option HeldTag) (quad : ℕ) → Wrote p used log (step_at w which p quad used log)
   unfolding tag_step
-  wrote_at Idle quad = wrote_commit _ _ _
-  wrote_at (Data t) quad = wrote_data t.format t quad
+  wrote_at None quad = wrote_commit _ _ _
+  wrote_at (Some t) quad = wrote_data t.format t quad
 
   pub step_wrote : (quad : ℕ) → Wrote p used log (gif_step which p quad used log)
   unfolding gif_step
@@ -85,7 +84,7 @@ module _ (which : GifPath) (p : Path) (used : ℕ) (log : List ℕ) (h : entry_s
 pub range_after : (t : HeldTag) → TagFits t → place_in_range (place_after t) ≡ true
 unfolding place_after
 range_after t f =
-    if_ind_by (λ (w : Place). place_in_range w ≡ true) (eqb t.due 1) (λ e. refl)
+    if_ind_by (λ (w : Option HeldTag). place_in_range w ≡ true) (eqb t.due 1) (λ e. refl)
     (λ e.
     let n = eqb-false t.due 1 e in
     let d = f.left in
@@ -102,7 +101,7 @@ quadwords_some Image n r p q = p
 pub range_at_tag : (quad : ℕ) → place_in_range (place_at_tag quad) ≡ true
 unfolding place_at_tag tag_of
 range_at_tag quad =
-    if_ind_by (λ (w : Place). place_in_range w ≡ true) (eqb (nloop_of quad) 0) (λ e. refl)
+    if_ind_by (λ (w : Option HeldTag). place_in_range w ≡ true) (eqb (nloop_of quad) 0) (λ e. refl)
     (λ e.
     let z = eqb-false (nloop_of quad) 0 e in
     let a : nloop_of quad < 32768 = bits_below quad 0 14 in
@@ -132,10 +131,10 @@ module _ (which : GifPath) (p : Path) (r : path_in_range p ≡ true) (used : ℕ
   ranged_data Reglist t quad h = if_ind Ranged _ (record { held = r }) (ranged_commit _ _ _ (range_after t h))
   ranged_data Image t quad h = ranged_commit _ _ _ (range_after t h)
 
-  ranged_at : (w : Place) (quad : ℕ) → place_in_range w ≡ true → Ranged (step_at w which p quad used log)
+  ranged_at : (w : Option HeldTag) (quad : ℕ) → place_in_range w ≡ true → Ranged (step_at w which p quad used log)
   unfolding tag_step
-  ranged_at Idle quad h = ranged_commit _ _ _ (range_at_tag quad)
-  ranged_at (Data t) quad h = ranged_data t.format t quad (tag_fits t h)
+  ranged_at None quad h = ranged_commit _ _ _ (range_at_tag quad)
+  ranged_at (Some t) quad h = ranged_data t.format t quad (tag_fits t h)
 
   pub step_ranged : (quad : ℕ) → path_in_range (gif_step which p quad used log).path ≡ true
   unfolding gif_step

@@ -2,7 +2,7 @@
 use mathlib.Core.Path.{◌≡◌, refl, ◌∙◌}
 use mathlib.Core.Bool.{Bool, true, false}
 use Prim.Native.Nat.{ℕ, ◌+◌, ◌*◌, ◌/◌, ◌%◌, ◌^◌, ◌<◌, ◌≤◌}
-use native.Mathlib.Nat.{mul-le-mul, mod-eq_of_lt, mod-lt, mod-add-mod}
+use native.Mathlib.Nat.{mul-le-mul, mod-eq_of_lt, mod-add-mod}
 use native.Mathlib.Omega.{arith}
 use borrow.Author.Tests.{eqb-false, ne_eqb}
 use lib.Dec.{eqb}
@@ -66,9 +66,6 @@ taken_most t f = let m = quadwords_most t.format f.loops f.regs in omega arith
 pub due_most : (t : HeldTag) → TagFits t → t.due ≤ 524272
 due_most t f = let m = quadwords_most t.format f.loops f.regs in let d = f.most in omega arith
 
-pub bit_one : (x : ℕ) → (x % 2 ≡ 0 → ⊥) → x % 2 ≡ 1
-bit_one x h = omega arith
-
 pub not_packed : (flg : ℕ) → (flg ≡ 0 → ⊥) → is_packed (format_of flg) ≡ false
 unfolding format_of if
 not_packed flg h = rw (ne_eqb flg 0 h) (go (eqb flg 1))
@@ -85,6 +82,3 @@ nibble_next n j e f g = g ∙ rw (f, mod-add-mod j n 1, e)
 pub nibble_descriptor : (t : HeldTag) (j : ℕ) {b d : ℕ} → b ≡ j % t.nreg → d ≡ t.descriptors / 2 ^ (4 * b) % 16 → d ≡ descriptor_at t j
 unfolding descriptor_at
 nibble_descriptor t j e f = rw (← e) f
-
-pub nibble_fits : (t : HeldTag) → TagFits t → (j : ℕ) {b : ℕ} → b ≡ j % t.nreg → (b < t.nreg) × (t.nreg ≤ 16)
-nibble_fits t f j e = let m = mod-lt j f.some in (omega arith, f.regs)

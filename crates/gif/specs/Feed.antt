@@ -1,13 +1,13 @@
 -- Quadwords of main memory given to a path one after another, up to the first that is refused.
-use Rattle.std.specs.Prelude.{ℕ, zero, suc, ◌+◌, ◌*◌, Bool, not, List, eqb}
+use Rattle.std.specs.Prelude.{ℕ, zero, suc, ◌+◌, ◌*◌, Bool, not, List, eqb, Result}
 use Rattle.fields.specs.Counts.{one_if}
+use Rattle.fields.specs.declared.refusals.Refusal.{Refusal}
 use Rattle.fields.specs.Fields.{if}
-use Rattle.fields.specs.Refusals.{log_length, out_of_range, payload_outside}
+use Rattle.fields.specs.Refusals.{refusal_in, log_length, out_of_range, payload_outside}
 use Rattle.fields.specs.Memory.{quadword_at, inside}
 use Rattle.gif.specs.declared.GifPath.{GifPath}
 use Rattle.gif.specs.declared.Path.{Path}
-use Rattle.gif.specs.declared.GifAnswer.{GifAnswer}
-use Rattle.gif.specs.declared.GifAnswer.TheVariants.{Taken, Refused}
+use Rattle.gif.specs.GifAnswer.{GifAnswer, Taken, Refused}
 use Rattle.gif.specs.declared.QuadwordsResult.{QuadwordsResult}
 use Rattle.gif.specs.Log.{log_refused}
 use Rattle.gif.specs.Range.{path_in_range}
@@ -25,12 +25,12 @@ pub record Fed : Type 0 where
 abbrev pub fed : Path → ℕ → List ℕ → ℕ → ℕ → ℕ → Fed
 fed p used log n c r = record { path = p; used = used; log = log; taken = n; packets = c; refusal = r }
 
-abbrev pub quadwords_result : Path → ℕ → ℕ → ℕ → ℕ → QuadwordsResult
-quadwords_result p used n c r = record { path = p; used = used; taken = n; packets = c; refusal = r }
+abbrev pub quadwords_result : Path → ℕ → ℕ → ℕ → Result (Unit {0}) Refusal → QuadwordsResult
+quadwords_result p used n c r = record { path = p; used = used; taken = n; packets = c; answer = r }
 
 -- what a call left, from its result and the log afterwards
 abbrev pub fed_by : QuadwordsResult → List ℕ → Fed
-fed_by r log = fed r.path r.used log r.taken r.packets r.refusal
+fed_by r log = fed r.path r.used log r.taken r.packets (refusal_in r.answer)
 
 -- one quadword before them, by whether it closed a packet
 abbrev pub one_more : Bool → Fed → Fed

@@ -1,15 +1,14 @@
 -- Facts that inner functions require of their input or promise; no promise of a public function cites them.
-use Rattle.std.specs.Prelude.{ℕ, ◌+◌, ◌*◌, ◌-◌, ◌≤◌, ◌≡◌, Bool, ◌&&◌, List, [], ◌∷◌, length, eqb}
+use Rattle.std.specs.Prelude.{ℕ, ◌+◌, ◌*◌, ◌-◌, ◌≤◌, ◌≡◌, Bool, ◌&&◌, List, [], ◌∷◌, length, eqb, None, Option, Some}
 use Rattle.gif.specs.declared.GifPath.{GifPath}
 use Rattle.gif.specs.declared.Write.{Write}
 use Rattle.gif.specs.declared.Writes.{Writes}
 use Rattle.gif.specs.declared.Writes.TheVariants.{Nothing, One, Two}
 use Rattle.gif.specs.declared.HeldTag.{HeldTag}
-use Rattle.gif.specs.declared.Place.{Place}
-use Rattle.gif.specs.declared.Place.TheVariants.{Idle, Data}
 use Rattle.gif.specs.declared.Path.{Path}
 use Rattle.gif.specs.declared.QuadwordsResult.{QuadwordsResult}
-use Rattle.fields.specs.Fields.{if}
+use Rattle.gif.specs.declared.Quadword.{Quadword}
+use Rattle.fields.specs.Fields.{if, quadword}
 use Rattle.gif.specs.Log.{entry_size, HasRoom, write}
 use Rattle.gif.specs.Tag.{with_due}
 use Rattle.gif.specs.Range.{TagFits, PlaceFits}
@@ -21,6 +20,10 @@ listed Nothing = []
 listed (One w) = w ∷ []
 listed (Two w x) = w ∷ x ∷ []
 
+-- the number that a quadword's halves are
+abbrev pub quadword_of : Quadword → ℕ
+quadword_of x = quadword x.low x.high
+
 -- what came with k quadwords before it, which closed c packets
 abbrev pub plus : ℕ → ℕ → Fed → Fed
 plus k c x = fed x.path x.used x.log (k + x.taken) (c + x.packets) x.refusal
@@ -31,8 +34,8 @@ pub record Leads (which : GifPath) (main : List ℕ) (a n c : ℕ) (p : Path) (u
   pub stays : PlaceFits p.place → PlaceFits p'.place
 
 -- the place after n more data quadwords of a tag: the last one leaves the path idle
-unfoldable pub place_after_many : HeldTag → ℕ → Place
-place_after_many t n = if (eqb t.due n) Idle (Data (with_due t (t.due - n)))
+unfoldable pub place_after_many : HeldTag → ℕ → Option HeldTag
+place_after_many t n = if (eqb t.due n) None (Some (with_due t (t.due - n)))
 
 -- whether the last of them closes a packet
 unfoldable pub many_close : HeldTag → ℕ → Bool

@@ -8,3 +8,5 @@ pub mod Step
 pub mod Run
 pub mod Feed
 pub mod Inner
+pub mod GifAnswer
+pub mod Met

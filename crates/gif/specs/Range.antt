@@ -1,8 +1,6 @@
 -- The range of a path: document 01's "a waiting code or GIF tag [is in range] if its step would accept it ..., with one unit to all of its payload still due".
-use Rattle.std.specs.Prelude.{ℕ, ◌≤◌, ◌<◌, ◌≡◌, Bool, true, ◌&&◌, leb}
+use Rattle.std.specs.Prelude.{ℕ, ◌≤◌, ◌<◌, ◌≡◌, Bool, true, ◌&&◌, leb, None, Option, Some}
 use Rattle.gif.specs.declared.HeldTag.{HeldTag}
-use Rattle.gif.specs.declared.Place.{Place}
-use Rattle.gif.specs.declared.Place.TheVariants.{Idle, Data}
 use Rattle.gif.specs.declared.Path.{Path}
 use Rattle.gif.specs.Tag.{quadwords_of}
 
@@ -15,9 +13,9 @@ unfoldable pub tag_in_range : HeldTag → Bool
 tag_in_range t =
     within 1 32767 t.nloop && (within 1 16 t.nreg && within 1 (quadwords_of t.format t.nloop t.nreg) t.due)
 
-abbrev pub place_in_range : Place → Bool
-place_in_range Idle = true
-place_in_range (Data t) = tag_in_range t
+abbrev pub place_in_range : Option HeldTag → Bool
+place_in_range None = true
+place_in_range (Some t) = tag_in_range t
 
 -- any Q is in range
 abbrev pub path_in_range : Path → Bool
@@ -33,5 +31,5 @@ pub record TagFits (t : HeldTag) : Type 0 where
   pub most : t.due ≤ quadwords_of t.format t.nloop t.nreg
 
 -- what a place in range fulfils
-pub record PlaceFits (p : Place) : Type 0 where
+pub record PlaceFits (p : Option HeldTag) : Type 0 where
   pub held : place_in_range p ≡ true

@@ -1,16 +1,14 @@
 -- One quadword taken by the GIF: a step of document 01, on one of its paths; which it is, request 11's log tells.
-use Rattle.std.specs.Prelude.{ℕ, ◌+◌, Bool, List, [], ◌∷◌, length, eqb}
+use Rattle.std.specs.Prelude.{ℕ, ◌+◌, Bool, List, [], ◌∷◌, length, eqb, None, Option, Some, Err}
 use Rattle.gif.specs.declared.GifPath.{GifPath}
 use Rattle.gif.specs.declared.Write.{Write}
 use Rattle.gif.specs.declared.TagFormat.{TagFormat}
 use Rattle.gif.specs.declared.TagFormat.TheVariants.{Packed, Reglist, Image}
 use Rattle.gif.specs.declared.HeldTag.{HeldTag}
-use Rattle.gif.specs.declared.Place.{Place}
-use Rattle.gif.specs.declared.Place.TheVariants.{Idle, Data}
 use Rattle.gif.specs.declared.Path.{Path}
-use Rattle.gif.specs.declared.GifAnswer.{GifAnswer}
-use Rattle.gif.specs.declared.GifAnswer.TheVariants.{Taken, Refused}
+use Rattle.gif.specs.GifAnswer.{GifAnswer, Taken, Refused, gif_answer}
 use Rattle.gif.specs.declared.GifResult.{GifResult}
+use Rattle.fields.specs.declared.refusals.Refusal.{Refusal}
 use Rattle.fields.specs.Fields.{if, bits}
 use Rattle.fields.specs.Refusals.{log_length, out_of_range, descriptor_b, log_full}
 use Rattle.gif.specs.Log.{write, entries_by, logged, lacks_room, log_refused}
@@ -34,14 +32,14 @@ number_of (Refused n) = n
 
 -- what a call left, from its result and the log afterwards
 abbrev pub left : GifResult → List ℕ → Left
-left r log = record { answer = r.answer; number = number_of r.answer; path = r.path; used = r.used; log = log }
+left r log = record { answer = gif_answer r.answer; number = number_of (gif_answer r.answer); path = r.path; used = r.used; log = log }
 
 -- a refused quadword changes nothing
 abbrev pub refused : ℕ → Path → ℕ → List ℕ → Left
 refused n p used log = record { answer = Refused n; number = n; path = p; used = used; log = log }
 
-abbrev pub refused_result : ℕ → Path → ℕ → GifResult
-refused_result n p used = record { answer = Refused n; path = p; used = used }
+abbrev pub refused_result : Refusal → Path → ℕ → GifResult
+refused_result e p used = record { answer = Err e; path = p; used = used }
 
 -- A step's writes and the path after it, all or none: "31, where the step's writes don't all fit". Request 1: "The answer to each quadword given to the GIF shall
 -- also say whether it closed a packet"
@@ -79,9 +77,9 @@ data_step Packed = packed_step
 data_step Reglist = reglist_step
 data_step Image = image_step
 
-abbrev pub step_at : Place → GifPath → Path → ℕ → ℕ → List ℕ → Left
-step_at Idle which p quad used log = tag_step which p quad used log
-step_at (Data t) which p quad used log = data_step t.format which p t quad used log
+abbrev pub step_at : Option HeldTag → GifPath → Path → ℕ → ℕ → List ℕ → Left
+step_at None which p quad used log = tag_step which p quad used log
+step_at (Some t) which p quad used log = data_step t.format which p t quad used log
 
 -- document 01's step: one quadword taken by the GIF
 unfoldable pub gif_step : GifPath → Path → ℕ → ℕ → List ℕ → Left

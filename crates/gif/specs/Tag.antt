@@ -1,11 +1,9 @@
 -- The tag: document 01's "Bits 0-14 NLOOP, 15 EOP, 46 PRE, 47-57 PRIM, 58-59 FLG, 60-63 NREG (0 means 16), 64-127 descriptors."
-use Rattle.std.specs.Prelude.{ℕ, ◌+◌, ◌*◌, ◌-◌, ◌/◌, ◌%◌, ◌^◌, Bool, true, false, ◌&&◌, not, List, [], ◌∷◌, eqb}
+use Rattle.std.specs.Prelude.{ℕ, ◌+◌, ◌*◌, ◌-◌, ◌/◌, ◌%◌, ◌^◌, Bool, true, false, ◌&&◌, not, List, [], ◌∷◌, eqb, None, Option, Some}
 use Rattle.gif.specs.declared.Write.{Write}
 use Rattle.gif.specs.declared.TagFormat.{TagFormat}
 use Rattle.gif.specs.declared.TagFormat.TheVariants.{Packed, Reglist, Image}
 use Rattle.gif.specs.declared.HeldTag.{HeldTag}
-use Rattle.gif.specs.declared.Place.{Place}
-use Rattle.gif.specs.declared.Place.TheVariants.{Idle, Data}
 use Rattle.gif.specs.declared.Path.{Path}
 use Rattle.fields.specs.Fields.{if, bits}
 use Rattle.gif.specs.Log.{write}
@@ -71,16 +69,16 @@ with_due t n =
       due = n;
     }
 
-abbrev pub path_of : ℕ → Place → Path
+abbrev pub path_of : ℕ → Option HeldTag → Path
 path_of q place = record { q = q; place = place }
 
 -- the place after one more data quadword: the last one leaves the path idle
-unfoldable pub place_after : HeldTag → Place
-place_after t = if (eqb t.due 1) Idle (Data (with_due t (t.due - 1)))
+unfoldable pub place_after : HeldTag → Option HeldTag
+place_after t = if (eqb t.due 1) None (Some (with_due t (t.due - 1)))
 
 -- "NLOOP 0: no data"
-unfoldable pub place_at_tag : ℕ → Place
-place_at_tag quad = if (eqb (nloop_of quad) 0) Idle (Data (tag_of quad))
+unfoldable pub place_at_tag : ℕ → Option HeldTag
+place_at_tag quad = if (eqb (nloop_of quad) 0) None (Some (tag_of quad))
 
 -- request 1: a packet is closed by "a tag with EOP and NLOOP 0"
 unfoldable pub tag_closes : ℕ → Bool

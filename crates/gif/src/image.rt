@@ -2,19 +2,19 @@
 ghost use Rattle.std.specs.Prelude.{◌≡◌};
 ghost use Rattle.gif.specs.Inner.{listed, image_writes};
 
-use super::{Write, Writes};
+use super::{Quadword, Write, Writes};
 
 // The writes of a data quadword.
-pub(crate) fn image_writes(low: u64, high: u64) -> Writes
-    ensures { listed result ≡ image_writes low high }
+pub(crate) fn image_writes(quad: Quadword) -> Writes
+    ensures { listed result ≡ image_writes quad.low quad.high }
 {
     let lower = Write {
         register: 84,
-        value: low,
+        value: quad.low,
     };
     let upper = Write {
         register: 84,
-        value: high,
+        value: quad.high,
     };
     Writes::Two(lower, upper)
 }

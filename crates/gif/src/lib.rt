@@ -2,6 +2,7 @@
 #![tactic(auto)]
 
 mod burst;
+mod descriptor;
 mod feed;
 mod image;
 mod log;
@@ -12,7 +13,9 @@ mod reglist;
 mod step;
 mod tag;
 
+pub use descriptor::met_descriptor;
 pub use feed::take_quadwords;
+use fields::Refusal;
 pub use log::{log_refused, write_entry};
 pub use range::path_in_range;
 pub use step::take_quadword;
@@ -35,23 +38,18 @@ pub struct HeldTag {
     pub due: u32,
 }
 
-#[derive(Clone, Copy)]
-pub enum Place {
-    Idle,
-    Data(HeldTag),
-}
-
-// The paths that quadwords come by; each keeps its own place and Q.
+// The paths that quadwords come by, by their numbers in the log; each keeps its own place and Q.
 #[derive(Clone, Copy)]
 pub enum GifPath {
-    Two,
-    Three,
+    Two = 2,
+    Three = 3,
 }
 
+// A path: Q, and the tag that it holds, None where the next quadword is a tag.
 #[derive(Clone, Copy)]
 pub struct Path {
     pub q: u32,
-    pub place: Place,
+    pub place: Option<HeldTag>,
 }
 
 // The numbers of the log that an entry takes.
@@ -63,6 +61,13 @@ pub const LOG_MOST: u64 = 196608;
 // The path of a program start's entry.
 pub const START_PATH: u64 = 0;
 
+// A quadword, by its halves.
+#[derive(Clone, Copy)]
+pub(crate) struct Quadword {
+    pub(crate) low: u64,
+    pub(crate) high: u64,
+}
+
 // One write of a register.
 #[derive(Clone, Copy)]
 pub struct Write {
@@ -70,7 +75,7 @@ pub struct Write {
     pub value: u64,
 }
 
-// The writes of one step.
+// The writes of one step, of which there are at most two: a list without a heap.
 #[derive(Clone, Copy)]
 pub enum Writes {
     Nothing,
@@ -86,26 +91,20 @@ pub struct Entry {
     pub value: u64,
 }
 
-// A quadword that was taken, and whether it closed a packet; or the refusal.
-#[derive(Clone, Copy)]
-pub enum GifAnswer {
-    Taken(bool),
-    Refused(u32),
-}
-
+// What a quadword leaves. The answer is whether it closed a packet, or the refusal.
 #[derive(Clone, Copy)]
 pub struct GifResult {
-    pub answer: GifAnswer,
+    pub answer: Result<bool, Refusal>,
     pub path: Path,
     pub used: u64,
 }
 
-// What quadwords given one after another left, how many were taken and how many of these closed a packet, and the refusal of the next one, 0 where none is left.
+// What quadwords given one after another left, how many were taken and how many of these closed a packet. The answer is the refusal of the next one, where one is left.
 #[derive(Clone, Copy)]
 pub struct QuadwordsResult {
     pub path: Path,
     pub used: u64,
     pub taken: u32,
     pub packets: u64,
-    pub refusal: u32,
+    pub answer: Result<(), Refusal>,
 }

@@ -1,29 +1,30 @@
-// The log's entries.
+// The log's entries. A log and the entries used of it are two values, as the public functions and the C interface have them.
 ghost use Rattle.std.specs.Prelude.{◌≡◌, [], ◌∷◌, ◌+◌, ◌*◌, length};
 ghost use Rattle.gif.specs.Log.{HasRoom, entry, path_number, entry_by, entries_by, logged, log_refused, LogFits, entered, entry_of};
 ghost use Rattle.gif.specs.Step.{left, commit};
 ghost use Rattle.gif.specs.Inner.{listed};
 
-use super::{ENTRY_SIZE, Entry, GifAnswer, GifPath, GifResult, LOG_MOST, Path, Write, Writes};
-use fields::refusals;
+use super::{ENTRY_SIZE, Entry, GifPath, GifResult, LOG_MOST, Path, Write, Writes};
+use fields::Refusal;
 
-fn count(writes: Writes) -> u64
-    ensures { result ≡ length (listed writes) }
-{
-    match writes {
-        Writes::Nothing => 0,
-        Writes::One(_) => 1,
-        Writes::Two(_, _) => 2,
+impl Writes {
+    fn count(self) -> u64
+        ensures { result ≡ length (listed self) }
+    {
+        match self {
+            Writes::Nothing => 0,
+            Writes::One(_) => 1,
+            Writes::Two(_, _) => 2,
+        }
     }
 }
 
-// The number that a path has in the log.
-fn path_number(which: GifPath) -> u64
-    ensures { result ≡ path_number which }
-{
-    match which {
-        GifPath::Two => 2,
-        GifPath::Three => 3,
+impl GifPath {
+    // The number that a path has in the log.
+    fn number(self) -> u64
+        ensures { result ≡ path_number self }
+    {
+        self as u64
     }
 }
 
@@ -42,7 +43,7 @@ fn entry_by(which: GifPath, w: Write) -> Entry
     ensures { result ≡ entry_by which w }
 {
     Entry {
-        path: path_number(which),
+        path: which.number(),
         register: w.register,
         value: w.value,
     }
@@ -68,7 +69,7 @@ pub(crate) fn append(log: &mut [u64], used: u64, which: GifPath, writes: Writes)
     ensures { (result ≡ used + length (listed writes)) × (log.new ≡ logged log.old used (entries_by which (listed writes))) }
 {
     store(log, used, which, writes);
-    used + count(writes)
+    used + writes.count()
 }
 
 // The step's writes and its path, all or none; `closed` says whether it closes a packet.
@@ -84,17 +85,17 @@ pub(crate) fn finish(
     requires { LogFits log.old used }
     ensures { left result log.new ≡ commit which path after closed (listed writes) used log.old }
 {
-    let n = count(writes);
+    let n = writes.count();
     if (log.len() as u64) < ENTRY_SIZE * (used + n) {
         return GifResult {
-            answer: GifAnswer::Refused(refusals::LOG_FULL),
+            answer: Err(Refusal::LogFull),
             path,
             used,
         };
     }
     let entries = append(log, used, which, writes);
     GifResult {
-        answer: GifAnswer::Taken(closed),
+        answer: Ok(closed),
         path: after,
         used: entries,
     }
@@ -105,28 +106,21 @@ pub fn log_refused(log: &[u64], used: u64) -> bool
     ensures { result ≡ log_refused log.now used }
 {
     let n = log.len() as u64;
-    if n % ENTRY_SIZE != 0 {
-        return true;
-    }
-    if LOG_MOST < n {
-        return true;
-    }
-    n / ENTRY_SIZE < used
+    n % ENTRY_SIZE != 0 || LOG_MOST < n || n / ENTRY_SIZE < used
 }
 
 // Stores one entry after the first `used` ones, where there is room for it.
 pub fn write_entry(log: &mut [u64], used: u64, path: u64, register: u64, value: u64) -> bool
     ensures { entered result log.new ≡ entry_of log.old used (entry path register value) }
 {
-    if used < log.len() as u64 / ENTRY_SIZE {
+    let fits = used < log.len() as u64 / ENTRY_SIZE;
+    if fits {
         let e = Entry {
             path,
             register,
             value,
         };
         put(log, used, e);
-        true
-    } else {
-        false
     }
+    fits
 }

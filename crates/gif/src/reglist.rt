@@ -7,41 +7,31 @@ ghost use Rattle.gif.specs.Reglist.{reglist_write};
 ghost use Rattle.gif.specs.Inner.{listed};
 
 use super::tag::descriptor_in;
-use super::{HeldTag, Write, Writes};
+use super::{HeldTag, Quadword, Write, Writes};
 
 fn silent(descriptor: u64) -> bool
     ensures { result ≡ (eqb descriptor 14 || eqb descriptor 15) }
 {
-    if descriptor == 14 {
-        return true;
-    }
-    descriptor == 15
+    descriptor == 14 || descriptor == 15
 }
 
-// The writes of two halves by their descriptors.
-pub(crate) fn halves(first: u64, second: u64, low: u64, high: u64) -> Writes
-    ensures { listed result ≡ reglist_write first low ++ reglist_write second high }
+// The writes of a quadword's halves by their descriptors.
+pub(crate) fn halves(first: u64, second: u64, quad: Quadword) -> Writes
+    ensures { listed result ≡ reglist_write first quad.low ++ reglist_write second quad.high }
 {
+    let lower = Write {
+        register: first,
+        value: quad.low,
+    };
     let upper = Write {
         register: second,
-        value: high,
+        value: quad.high,
     };
-    if silent(first) {
-        if silent(second) {
-            Writes::Nothing
-        } else {
-            Writes::One(upper)
-        }
-    } else {
-        let lower = Write {
-            register: first,
-            value: low,
-        };
-        if silent(second) {
-            Writes::One(lower)
-        } else {
-            Writes::Two(lower, upper)
-        }
+    match (silent(first), silent(second)) {
+        (true, true) => Writes::Nothing,
+        (true, false) => Writes::One(upper),
+        (false, true) => Writes::One(lower),
+        (false, false) => Writes::Two(lower, upper),
     }
 }
 

@@ -1,4 +1,5 @@
 -- A step tried on a log with room is refused as it would be on another, but for want of room there.
+use Rattle.std.specs.Prelude.{None, Option, Some}
 use mathlib.Core.Path.{◌≡◌, refl, sym, ◌∙◌}
 use mathlib.Core.Bool.{Bool, true, false}
 use mathlib.Core.List.{List, []}
@@ -16,11 +17,8 @@ use Rattle.gif.specs.declared.Write.{Write}
 use Rattle.gif.specs.declared.TagFormat.{TagFormat}
 use Rattle.gif.specs.declared.TagFormat.TheVariants.{Packed, Reglist, Image}
 use Rattle.gif.specs.declared.HeldTag.{HeldTag}
-use Rattle.gif.specs.declared.Place.{Place}
-use Rattle.gif.specs.declared.Place.TheVariants.{Idle, Data}
 use Rattle.gif.specs.declared.Path.{Path}
-use Rattle.gif.specs.declared.GifAnswer.{GifAnswer}
-use Rattle.gif.specs.declared.GifAnswer.TheVariants.{Taken, Refused}
+use Rattle.gif.specs.GifAnswer.{GifAnswer, Taken, Refused}
 use Rattle.gif.specs.Log.{entry_size, entries_by, logged, lacks_room}
 use Rattle.gif.specs.Tag.{taken_of, descriptor_at, tag_writes}
 use Rattle.gif.specs.Packed.{packed_writes}
@@ -165,10 +163,10 @@ module _ (which : GifPath) (p : Path) (used : ℕ) (log spare : List ℕ) (long 
   tried_data Reglist t quad = tried_either _ _ (tried_refused _ descriptor_b (λ e. omega arith)) (tried_commit _ _ _ (reglist_few t quad))
   tried_data Image t quad = tried_commit _ _ _ (omega arith)
 
-  tried_at : (w : Place) (quad : ℕ) → TriedStep (length (writes_at w p.q quad)) (step_at w which p quad used log) (step_at w which p quad 0 spare)
+  tried_at : (w : Option HeldTag) (quad : ℕ) → TriedStep (length (writes_at w p.q quad)) (step_at w which p quad used log) (step_at w which p quad 0 spare)
   unfolding tag_step
-  tried_at Idle quad = tried_commit _ _ _ (tag_few quad)
-  tried_at (Data t) quad = tried_data t.format t quad
+  tried_at None quad = tried_commit _ _ _ (tag_few quad)
+  tried_at (Some t) quad = tried_data t.format t quad
 
   -- a quadword tried on a log of its own
   pub quadword_tried : (quad : ℕ) → Tried log used (quadword_needs p quad) (outcome_of (gif_step which p quad used log).answer) (outcome_of (gif_step which p quad 0 spare).answer) (gif_step which p quad 0 spare).used

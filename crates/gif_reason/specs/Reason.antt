@@ -1,19 +1,17 @@
 -- Request 6, of the GIF: "30 the held descriptor, 31 the free log entries and those needed".
-use Rattle.std.specs.Prelude.{ℕ, ◌+◌, ◌-◌, ◌/◌, List, [], ◌∷◌, length, eqb}
+use Rattle.std.specs.Prelude.{ℕ, ◌+◌, ◌-◌, ◌/◌, List, [], ◌∷◌, length, eqb, None, Option, Some}
 use Rattle.fields.specs.Fields.{if, bits}
 use Rattle.fields.specs.Refusals.{descriptor_b, log_full}
 use Rattle.gif.specs.declared.Write.{Write}
 use Rattle.gif.specs.declared.TagFormat.{TagFormat}
 use Rattle.gif.specs.declared.TagFormat.TheVariants.{Packed, Reglist, Image}
 use Rattle.gif.specs.declared.HeldTag.{HeldTag}
-use Rattle.gif.specs.declared.Place.{Place}
-use Rattle.gif.specs.declared.Place.TheVariants.{Idle, Data}
 use Rattle.gif.specs.declared.Path.{Path}
 use Rattle.gif.specs.Log.{entry_size, write}
 use Rattle.gif.specs.Tag.{taken_of, descriptor_at, tag_writes}
 use Rattle.gif.specs.Packed.{packed_writes}
-use Rattle.gif.specs.Range.{path_in_range}
-use Rattle.gif.specs.Reglist.{first_item, reglist_writes}
+use Rattle.gif.specs.Met.{met_descriptor}
+use Rattle.gif.specs.Reglist.{reglist_writes}
 use Rattle.gif_reason.specs.declared.Numbers.{Numbers}
 
 abbrev pub numbers : ℕ → ℕ → Numbers
@@ -29,33 +27,13 @@ data_writes Packed t q quad = packed_writes (descriptor_at t (taken_of t)) q qua
 data_writes Reglist t q quad = reglist_writes t quad
 data_writes Image t q quad = write 84 (bits quad 0 63) ∷ write 84 (bits quad 64 127) ∷ []
 
-abbrev pub writes_at : Place → ℕ → ℕ → List Write
-writes_at Idle q quad = tag_writes quad
-writes_at (Data t) q quad = data_writes t.format t q quad
+abbrev pub writes_at : Option HeldTag → ℕ → ℕ → List Write
+writes_at None q quad = tag_writes quad
+writes_at (Some t) q quad = data_writes t.format t q quad
 
 -- the writes of a quadword's step, of which each is a log entry: "those needed", by the whole step
 unfoldable pub quadword_writes : Path → ℕ → List Write
 quadword_writes p quad = writes_at p.place p.q quad
-
--- the descriptor that is met at REGLIST data: of its two halves' the first that is B
-unfoldable pub reglist_met : HeldTag → ℕ
-reglist_met t =
-    if (eqb (descriptor_at t (first_item t)) 11) (descriptor_at t (first_item t))
-    (descriptor_at t (first_item t + 1))
-
--- the descriptor that is met at a tag's next data; IMAGE data has none
-abbrev pub data_met : TagFormat → HeldTag → ℕ
-data_met Packed t = descriptor_at t (taken_of t)
-data_met Reglist t = reglist_met t
-data_met Image t = 0
-
-abbrev pub place_met : Place → ℕ
-place_met Idle = 0
-place_met (Data t) = data_met t.format t
-
--- "30 the held descriptor": that of the tag which the path holds, at the data that comes next; a path out of its range has none
-unfoldable pub met_descriptor : Path → ℕ
-met_descriptor p = if (path_in_range p) (place_met p.place) 0
 
 -- what a quadword's refusal shows, by the number of entries that its step needs: "30 the held descriptor, 31 the free log entries and those needed"
 unfoldable pub quadword_numbers : ℕ → Path → ℕ → ℕ → List ℕ → Numbers

@@ -1,7 +1,6 @@
 // What a refusal of the GIF shows: request 6's contents of the field at fault. What each function means is said by the definitions of specs/.
 #![tactic(auto)]
 
-mod descriptor;
 mod shown;
 
 pub use shown::{free_entries, quadword_numbers};

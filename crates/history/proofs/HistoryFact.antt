@@ -13,17 +13,15 @@ use Rattle.fields.specs.Counts.{none}
 use Rattle.fields.specs.Fields.{if}
 use Rattle.fields.proofs.ChoiceLaws.{if_ind}
 use Rattle.memories.specs.Lengths.{Lent}
-use Rattle.chain.specs.declared.Answer.TheVariants.{Done, Interrupt, Refused as AnswerRefused}
-use Rattle.chain_state.specs.declared.StartAnswer.TheVariants.{Started}
-use Rattle.chain_state.specs.declared.StartResult.{StartResult}
-use Rattle.chain.specs.declared.StepAnswer.{StepAnswer}
-use Rattle.chain.specs.declared.StepAnswer.TheVariants.{Completed, Refused}
+use Rattle.chain.specs.Answer.{Done, Interrupt, Refused as AnswerRefused}
+use Rattle.chain_state.specs.StartAnswer.{Started}
+use Rattle.chain.specs.StepAnswer.{StepAnswer, Completed, Refused}
 use Rattle.chain.specs.declared.RunResult.{RunResult}
 use Rattle.chain_state.specs.declared.State.{State}
 use Rattle.chain_state.specs.Range.{state_in_range, start_in_range, entry_refusal}
 use Rattle.chain.specs.Inner.{Ready}
 use Rattle.chain_state.specs.Pending.{payload_pending}
-use Rattle.chain_state.specs.Start.{start_of}
+use Rattle.chain_state.specs.Start.{StartResult, start_of}
 use Rattle.chain.specs.Step.{Stepped, step_of}
 use Rattle.chain.specs.Run.{Ran, ran, left_by, done, counted, after_step, steps_of, run_of}
 use Rattle.chain.proofs.AfterLaws.{step_stays, step_one}
@@ -124,8 +122,8 @@ history_fact {main} (runs {es} {s} m allowance h) =
     record { balance = omega arith }
 
 -- a call of `chain::run`, by its promise, goes on with a history
-pub call_goes_on : {main : List ℕ} {es : List Event} {s : State} → History main es s → (m : Lent) (allowance : ℕ) {r : RunResult} {m₁ : Lent}
+pub call_goes_on : {main : List ℕ} {es : List Event} {s : State} → History main es s → (m : Lent) (allowance : ℕ) (r : RunResult) {m₁ : Lent}
     → left_by r m₁ ≡ run_of main allowance s m → History main (es ++ trace_of main allowance s m) r.state
-call_goes_on {main} {es} {s} h m allowance e =
+call_goes_on {main} {es} {s} h m allowance r e =
     let q = ap (λ (x : Ran). x.after.state) e in
     rw q (runs m allowance h)

@@ -16,12 +16,10 @@ use Rattle.vif_codes.specs.declared.Code.{Code}
 use Rattle.vif_codes.specs.declared.Code.TheVariants.{Nop, Stcycl, Offset, Base, Itop, Stmod, Mskpath3, Mark, Flushe, Flush, Flusha, Mscal, Mscalf, Mscnt, Stmask, Strow, Stcol, Mpg, Direct, Directhl, Unpack}
 use Rattle.vif_codes.specs.declared.UnpackCode.{UnpackCode}
 use Rattle.vif_codes.specs.declared.CodeResult.{CodeResult}
-use Rattle.vif_codes.specs.declared.Decoded.{Decoded}
-use Rattle.vif_codes.specs.declared.Decoded.TheVariants.{Known, Unknown}
+use Rattle.vif_codes.specs.Decoded.{Decoded, Known, Unknown}
 use Rattle.vif_codes.specs.declared.Incoming.{Incoming}
 use Rattle.vif_codes.specs.declared.Incoming.TheVariants.{Word0, Word1, Word2, Word3}
-use Rattle.vif_codes.specs.declared.VifAnswer.{VifAnswer}
-use Rattle.vif_codes.specs.declared.VifAnswer.TheVariants.{Word, Quadword, Refused}
+use Rattle.vif_codes.specs.VifAnswer.{VifAnswer, Word, Quadword, Refused, vif_answer}
 use Rattle.vif_codes.specs.declared.Waiting.{Waiting}
 use Rattle.vif_codes.specs.declared.Waiting.TheVariants.{Nothing, MaskDue, RowDue, ColDue, MpgDue, DirectDue, DirecthlDue, UnpackDue}
 use Rattle.vif_codes.specs.declared.Vif.{Vif}
@@ -48,9 +46,9 @@ module _ (which : VifUnit) (v : Vif) (used : ℕ) (mem log : List ℕ) where
   unfolding start_program
   start_word r x i = if_ind (λ (e : Executed). is_quadword e.answer ≡ false) (lacks_room log used 1) refl refl
 
-  mode_word : (k : ℕ) (i : Bool) → is_quadword (set_mode k v i used).answer ≡ false
+  mode_word : (k : ℕ) (i : Bool) → is_quadword (vif_answer (set_mode k v i used).answer) ≡ false
   unfolding set_mode
-  mode_word k i = if_ind (λ (r : CodeResult). is_quadword r.answer ≡ false) (eqb k 3) refl refl
+  mode_word k i = if_ind (λ (r : CodeResult). is_quadword (vif_answer r.answer) ≡ false) (eqb k 3) refl refl
 
   unpack_word_lem : (f : Format) (u : UnpackCode) (i : Bool) → is_quadword (begin_unpack which f u v i used mem log).answer ≡ false
   unfolding begin_unpack

@@ -1,4 +1,5 @@
 -- A completed step: what was pending and four times the QWC read are what was taken and what is then pending.
+use Rattle.std.specs.Prelude.{None, Option, Some}
 use mathlib.Core.Path.{◌≡◌, refl, sym, ap}
 use mathlib.Core.Bool.{Bool, true, false}
 use mathlib.Core.List.{List}
@@ -13,21 +14,16 @@ use Rattle.fields.specs.Fields.{if}
 use Rattle.fields.specs.Memory.{long_at, quadword_at}
 use Rattle.fields.proofs.ChoiceLaws.{if_ind_by}
 use Rattle.gif.specs.declared.GifPath.TheVariants.{Three}
-use Rattle.gif.specs.declared.GifAnswer.{GifAnswer}
-use Rattle.gif.specs.declared.GifAnswer.TheVariants.{Taken, Refused as GifRefused}
+use Rattle.gif.specs.GifAnswer.{GifAnswer, Taken, Refused as GifRefused}
 use Rattle.gif.specs.Step.{Left as GifLeft, gif_step}
 use Rattle.memories.specs.Lengths.{Lent}
-use Rattle.vif_codes.specs.declared.VifAnswer.{VifAnswer}
-use Rattle.vif_codes.specs.declared.VifAnswer.TheVariants.{Word, Quadword, Refused as VifRefused}
+use Rattle.vif_codes.specs.VifAnswer.{VifAnswer, Word, Quadword, Refused as VifRefused}
 use Rattle.vif_codes.specs.Counting.{counts_in}
 use Rattle.vif_codes.specs.Words.{incoming_at}
 use Rattle.vif.specs.Step.{Left as VifLeft, words_taken}
-use Rattle.chain_state.specs.declared.TagWords.{TagWords}
-use Rattle.chain_state.specs.declared.TagWords.TheVariants.{Nothing as NoTagWords, From}
 use Rattle.chain_state.specs.declared.Payload.{Payload}
 use Rattle.chain_state.specs.declared.Payload.TheVariants.{Nothing as NoPayload, Words}
-use Rattle.chain.specs.declared.StepAnswer.TheVariants.{Completed}
-use Rattle.chain.specs.declared.StepResult.{StepResult}
+use Rattle.chain.specs.StepAnswer.{Completed, StateStepped}
 use Rattle.chain_state.specs.declared.State.{State}
 use Rattle.chain_state.specs.Pending.{payload_pending, tags_after, payload_after}
 use Rattle.chain.specs.Tags.{qwc_of, id_of, addr_of, spr_of, payload_at as placed_at, payload_of, tag_refusal, tag_state, tag_read, tag_step}
@@ -67,13 +63,13 @@ module _ (main : List ℕ) (s : State) (m : Lent) where
   tag_balances : Balances (tag_at main s) 0 (stepped_by (tag_step main s) m)
   unfolding tag_read tag_state qwc_under
   tag_balances =
-      if_ind_by (λ (x : StepResult). Balances (tag_at main s) 0 (stepped_by x m))
+      if_ind_by (λ (x : StateStepped). Balances (tag_at main s) 0 (stepped_by x m))
       (eqb (tag_refusal (length main) s.tadr (id_of (long_at main s.tadr)) (addr_of (long_at main s.tadr)) (spr_of (long_at main s.tadr)) (qwc_of (long_at main s.tadr)) s.stack) 0)
       (λ e. record { balances = λ i q. ap (λ (k : ℕ). 0 + k) (sym (pending_of (placed_at (id_of (long_at main s.tadr)) (addr_of (long_at main s.tadr)) s.tadr) (qwc_of (long_at main s.tadr)))); counts = λ i q. refl })
       (λ e. refused_balances _ 0 _ s m)
 
   -- a tag word leaves the payload
-  word_balances : (a : ℕ) (t : TagWords) → Balances tag_word (payload_pending s.payload) (vif_given main a t (λ k. s.payload) s m)
+  word_balances : (a : ℕ) (t : Option ℕ) → Balances tag_word (payload_pending s.payload) (vif_given main a t (λ k. s.payload) s m)
   unfolding vif_given
   word_balances a t = go (vif_took (fed_unit s) main a s m).answer
     where
@@ -143,9 +139,9 @@ module _ (main : List ℕ) (s : State) (m : Lent) where
         go true e = rw (eqb-true n 0 e) tag_balances
         go false e = payload_balances at n (payload_ready r q (eqb-false n 0 e))
 
-    pending_or_tag_lem : (t : TagWords) → Balances (pending_or_tag_at t s.payload main s m) (payload_pending s.payload) (pending_or_tag t s.payload main s m)
-    pending_or_tag_lem NoTagWords = payload_or_tag_lem s.payload refl
-    pending_or_tag_lem (From a) = word_balances a (tags_after a)
+    pending_or_tag_lem : (t : Option ℕ) → Balances (pending_or_tag_at t s.payload main s m) (payload_pending s.payload) (pending_or_tag t s.payload main s m)
+    pending_or_tag_lem None = payload_or_tag_lem s.payload refl
+    pending_or_tag_lem (Some a) = word_balances a (tags_after a)
 
     pub step_balances : Balances (event_of main s m) (payload_pending s.payload) (step_of main s m)
     unfolding event_of step_of

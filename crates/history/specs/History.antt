@@ -1,7 +1,7 @@
 -- Request 14: "Beneath it must stand a fact over any sequence of runs from one start, each on what the last left"; "Refused and stopped runs are included."
 use Rattle.std.specs.Prelude.{ℕ, ◌+◌, ◌*◌, Bool, List, [], ◌++◌, ◌≡◌}
 use Rattle.memories.specs.Lengths.{Lent}
-use Rattle.chain_state.specs.declared.StartAnswer.TheVariants.{Started}
+use Rattle.chain_state.specs.StartAnswer.{Started}
 use Rattle.chain_state.specs.declared.State.{State}
 use Rattle.chain_state.specs.Pending.{payload_pending}
 use Rattle.chain_state.specs.Start.{start_of}

@@ -2,12 +2,12 @@
 use Rattle.std.specs.Prelude.{ℕ, ◌+◌, ◌*◌, Bool, List, [], ◌++◌, ◌≡◌}
 use Rattle.fields.specs.Counts.{plus_qwc, total_qwc}
 use Rattle.memories.specs.Lengths.{Lent}
-use Rattle.chain_state.specs.declared.StartAnswer.TheVariants.{Started}
+use Rattle.chain_state.specs.StartAnswer.{Started}
 use Rattle.chain_state.specs.declared.State.{State}
 use Rattle.chain_state.specs.Pending.{payload_pending}
 use Rattle.chain_state.specs.Start.{start_of}
 use Rattle.chain.specs.Run.{run_of}
-use Rattle.totals.specs.declared.AddAnswer.TheVariants.{Added}
+use Rattle.totals.specs.AddAnswer.{Added}
 use Rattle.totals.specs.declared.Totals.{Totals}
 use Rattle.totals.specs.Totals.{add_of}
 use Rattle.history.specs.Trace.{Event, trace_of, payload_taken, qwcs_read}

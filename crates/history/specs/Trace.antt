@@ -1,18 +1,15 @@
 -- What the completed steps of a run took, in order. Told by what each step read, beside the definition of the run and apart from its counts: request 14's "The
 -- left side comes from the tags in the history, not from our sums."
-use Rattle.std.specs.Prelude.{ℕ, zero, suc, ◌+◌, true, false, List, [], ◌∷◌, eqb}
+use Rattle.std.specs.Prelude.{ℕ, zero, suc, ◌+◌, true, false, List, [], ◌∷◌, eqb, None, Option, Some}
 use Rattle.fields.specs.declared.Qwc.{Qwc}
 use Rattle.fields.specs.Counts.{qwcs}
 use Rattle.fields.specs.Fields.{if}
 use Rattle.fields.specs.Memory.{long_at}
 use Rattle.memories.specs.Lengths.{Lent}
 use Rattle.vif.specs.Step.{words_taken}
-use Rattle.chain_state.specs.declared.TagWords.{TagWords}
-use Rattle.chain_state.specs.declared.TagWords.TheVariants.{Nothing as NoTagWords, From}
 use Rattle.chain_state.specs.declared.Payload.{Payload}
 use Rattle.chain_state.specs.declared.Payload.TheVariants.{Nothing as NoPayload, Words}
-use Rattle.chain.specs.declared.StepAnswer.{StepAnswer}
-use Rattle.chain.specs.declared.StepAnswer.TheVariants.{Completed, Refused}
+use Rattle.chain.specs.StepAnswer.{StepAnswer, Completed, Refused}
 use Rattle.chain_state.specs.declared.State.{State}
 use Rattle.chain.specs.Tags.{qwc_of, id_of}
 use Rattle.chain_state.specs.Range.{entry_refusal}
@@ -42,9 +39,9 @@ abbrev pub payload_or_tag_at : Payload → List ℕ → State → Lent → Event
 payload_or_tag_at NoPayload main s m = tag_at main s
 payload_or_tag_at (Words at n) main s m = if (eqb n 0) (tag_at main s) (payload_at main at s m)
 
-abbrev pub pending_or_tag_at : TagWords → Payload → List ℕ → State → Lent → Event
-pending_or_tag_at NoTagWords p main s m = payload_or_tag_at p main s m
-pending_or_tag_at (From a) p main s m = tag_word
+abbrev pub pending_or_tag_at : Option ℕ → Payload → List ℕ → State → Lent → Event
+pending_or_tag_at None p main s m = payload_or_tag_at p main s m
+pending_or_tag_at (Some a) p main s m = tag_word
 
 -- what the step from here takes if it is completed
 unfoldable pub event_of : List ℕ → State → Lent → Event

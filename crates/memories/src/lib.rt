@@ -4,7 +4,7 @@
 mod lengths;
 mod units;
 
-pub use lengths::lengths_refusal;
+pub use lengths::test_lengths;
 pub use units::{instructions, quadwords};
 
 // The VIF units.

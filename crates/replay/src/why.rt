@@ -1,51 +1,23 @@
 // Why the next step would be refused, as a result shows it.
-use super::Running;
-use diagnosis::Reason;
-use wire::{emit, emit_long};
+use cases::Memories;
+use chain_state::State;
+use diagnosis::{Reason, why};
+use wire::Output;
 
-// The kind, the refusal, the address, and the two numbers that are shown.
-fn tell_numbers(
-    out: &mut [u8; 65536],
-    at: usize,
-    kind: u32,
-    refusal: u32,
-    address: u32,
-    first: u64,
-    second: u64,
-) -> usize {
-    let a = emit(out, at, kind);
-    let b = emit(out, a, refusal);
-    let c = emit(out, b, address);
-    let d = emit_long(out, c, first);
-    emit_long(out, d, second)
-}
-
-fn tell_reason(out: &mut [u8; 65536], at: usize, reason: Reason) -> usize {
-    match reason {
-        Reason::NoComplaint => tell_numbers(out, at, 0, 0, 0, 0, 0),
-        Reason::Ended => tell_numbers(out, at, 1, 0, 0, 0, 0),
-        Reason::Entry(n) => tell_numbers(out, at, 2, n, 0, 0, 0),
+// The kind, the refusal, the address, and the two numbers that are shown; on the memories that a run would be lent.
+pub(crate) fn tell_why(out: &mut Output, main: &[u8], memories: &Memories<'_>, state: State) {
+    let reason = why(main, memories.data, memories.code, memories.log, state);
+    let (words, shown) = match reason {
+        Reason::NoComplaint => ([0u32, 0, 0], [0u64, 0]),
+        Reason::Ended => ([1, 0, 0], [0, 0]),
+        Reason::Entry(refusal) => ([2, refusal.number(), 0], [0, 0]),
         Reason::Step {
             refusal,
             address,
             first,
             second,
-        } => tell_numbers(out, at, 3, refusal, address, first, second),
-    }
-}
-
-// On the memories that a run would be lent; nothing is changed.
-pub(crate) fn why_call(
-    out: &mut [u8; 65536],
-    s: Running,
-    main: &[u8],
-    data: &[u32],
-    code: &[u8],
-    log: &[u64],
-) -> Running {
-    let state = s.state;
-    let block = s.block;
-    let reason = diagnosis::why(main, data, code, log, state);
-    let at = tell_reason(out, s.at, reason);
-    Running { at, state, block }
+        } => ([3, refusal.number(), address], [first, second]),
+    };
+    out.emit_all(&words);
+    out.emit_all(&shown);
 }

@@ -1,4 +1,5 @@
 -- A quadword given to the GIF is refused with 30 or 31 and with no other number.
+use Rattle.std.specs.Prelude.{None, Option, Some}
 use mathlib.Core.Path.{◌≡◌}
 use mathlib.Core.Bool.{Bool}
 use mathlib.Core.List.{List}
@@ -9,11 +10,8 @@ use Rattle.gif.specs.declared.Write.{Write}
 use Rattle.gif.specs.declared.TagFormat.{TagFormat}
 use Rattle.gif.specs.declared.TagFormat.TheVariants.{Packed, Reglist, Image}
 use Rattle.gif.specs.declared.HeldTag.{HeldTag}
-use Rattle.gif.specs.declared.Place.{Place}
-use Rattle.gif.specs.declared.Place.TheVariants.{Idle, Data}
 use Rattle.gif.specs.declared.Path.{Path}
-use Rattle.gif.specs.declared.GifAnswer.{GifAnswer}
-use Rattle.gif.specs.declared.GifAnswer.TheVariants.{Taken, Refused}
+use Rattle.gif.specs.GifAnswer.{GifAnswer, Taken, Refused}
 use Rattle.gif.specs.Tag.{taken_of, descriptor_at}
 use Rattle.gif.specs.Step.{Left, commit, tag_step, packed_with, reglist_step, image_step, data_step, step_at, gif_step}
 use Rattle.run_refusals.specs.Numbers.{GifNumber, descriptor_30, log_31}
@@ -52,9 +50,9 @@ data_told Packed which p t quad used log = packed_told which (descriptor_at t (t
 data_told Reglist which p t quad used log = reglist_told which p t quad used log
 data_told Image which p t quad used log = image_told which p t quad used log
 
-place_told : (at : Place) (which : GifPath) (p : Path) (quad used : ℕ) (log : List ℕ) → GifTold (step_at at which p quad used log).answer
-place_told Idle which p quad used log = tag_told which p quad used log
-place_told (Data t) which p quad used log = data_told t.format which p t quad used log
+place_told : (at : Option HeldTag) (which : GifPath) (p : Path) (quad used : ℕ) (log : List ℕ) → GifTold (step_at at which p quad used log).answer
+place_told None which p quad used log = tag_told which p quad used log
+place_told (Some t) which p quad used log = data_told t.format which p t quad used log
 
 pub gif_told : (which : GifPath) (p : Path) (quad used : ℕ) (log : List ℕ) → GifTold (gif_step which p quad used log).answer
 unfolding gif_step

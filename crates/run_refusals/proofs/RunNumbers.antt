@@ -1,4 +1,5 @@
 -- A run is refused with the numbers of specs/Numbers and with no other, for any input.
+use Rattle.std.specs.Prelude.{None, Option, Some}
 use mathlib.Core.Path.{◌≡◌, refl}
 use mathlib.Core.Bool.{Bool, true, false}
 use mathlib.Core.List.{List}
@@ -9,27 +10,22 @@ use Rattle.fields.specs.declared.UnitCounts.{UnitCounts}
 use Rattle.fields.specs.Memory.{long_at}
 use Rattle.fields.proofs.ChoiceLaws.{if_ind, if_ind_by}
 use Rattle.gif.specs.declared.GifPath.TheVariants.{Three}
-use Rattle.gif.specs.declared.GifAnswer.{GifAnswer}
+use Rattle.gif.specs.GifAnswer.{GifAnswer}
 use Rattle.gif.specs.Step.{Left as GifLeft}
 use Rattle.memories.specs.declared.VifUnit.{VifUnit}
 use Rattle.memories.specs.Lengths.{Lent, lengths_refusal}
-use Rattle.vif_codes.specs.declared.VifAnswer.{VifAnswer}
+use Rattle.vif_codes.specs.VifAnswer.{VifAnswer}
 use Rattle.vif_codes.specs.Words.{incoming_at}
 use Rattle.vif.specs.Step.{Left as VifLeft}
 use Rattle.chain_state.specs.declared.Stack.{Stack}
-use Rattle.chain_state.specs.declared.TagWords.{TagWords}
-use Rattle.chain_state.specs.declared.TagWords.TheVariants.{Nothing as NoTagWords, From}
 use Rattle.chain_state.specs.declared.Payload.{Payload}
 use Rattle.chain_state.specs.declared.Payload.TheVariants.{Nothing as NoPayload, Words}
 use Rattle.chain_state.specs.declared.State.{State}
 use Rattle.chain_state.specs.Setters.{held_by}
 use Rattle.chain_state.specs.Pending.{tags_after, payload_after}
 use Rattle.chain_state.specs.Range.{unit_of, entry_refusal}
-use Rattle.chain.specs.declared.StepAnswer.{StepAnswer}
-use Rattle.chain.specs.declared.StepAnswer.TheVariants.{Completed, Refused as StepRefused}
-use Rattle.chain.specs.declared.StepResult.{StepResult}
-use Rattle.chain.specs.declared.Answer.{Answer}
-use Rattle.chain.specs.declared.Answer.TheVariants.{Done, Allowance, Interrupt, Refused}
+use Rattle.chain.specs.StepAnswer.{StepAnswer, StateStepped, Completed, Refused as StepRefused}
+use Rattle.chain.specs.Answer.{Answer, Done, Allowance, Interrupt, Refused}
 use Rattle.chain.specs.Tags.{tag_refusal, tag_answer, tag_read, tag_step}
 use Rattle.chain.specs.Step.{Stepped, fed_unit, after_vif, vif_took, vif_given, after_gif, gif_given, payload_step, payload_or_tag, pending_or_tag, step_of}
 use Rattle.chain.specs.Run.{Ran, done, after_step, steps_of, run_of}
@@ -63,19 +59,19 @@ tag_told size tadr id addr spr qwc k =
 
 answer_told : (n tag : ℕ) (s : State) → TagTold n → StepTold (tag_answer n tag s).answer
 answer_told n tag s t =
-    if_ind_by (λ (r : StepResult). StepTold r.answer) (eqb n 0) (λ _. completed) (λ e. step_refusal (of_tag (some_tag t e)))
+    if_ind_by (λ (r : StateStepped). StepTold r.answer) (eqb n 0) (λ _. completed) (λ e. step_refusal (of_tag (some_tag t e)))
 
 read_told : (main : List ℕ) (s : State) → StepTold (tag_step main s).answer
 unfolding tag_read
 read_told main s = answer_told _ (long_at main s.tadr) s (tag_told _ _ _ _ _ _ _)
 
-after_vif_told : (which : VifUnit) {a : VifAnswer} (c : UnitCounts) (o : VifLeft) (t : TagWords) (p : ℕ → Payload) (s : State) (m : Lent) → VifTold a
+after_vif_told : (which : VifUnit) {a : VifAnswer} (c : UnitCounts) (o : VifLeft) (t : Option ℕ) (p : ℕ → Payload) (s : State) (m : Lent) → VifTold a
     → StepTold (after_vif which a c o t p s m).answer
 after_vif_told which c o t p s m word_taken = completed
 after_vif_told which c o t p s m quadword_taken = completed
 after_vif_told which c o t p s m (vif_refusal n) = step_refusal (of_word n)
 
-word_told : (main : List ℕ) (a : ℕ) (t : TagWords) (p : ℕ → Payload) (s : State) (m : Lent) → StepTold (vif_given main a t p s m).answer
+word_told : (main : List ℕ) (a : ℕ) (t : Option ℕ) (p : ℕ → Payload) (s : State) (m : Lent) → StepTold (vif_given main a t p s m).answer
 unfolding vif_given
 word_told main a t p s m =
     after_vif_told (fed_unit s) _ (vif_took (fed_unit s) main a s m) t p s m
@@ -100,9 +96,9 @@ payload_or_tag_told NoPayload main s m = read_told main s
 payload_or_tag_told (Words at n) main s m =
     if_ind (λ (x : Stepped). StepTold x.answer) (eqb n 0) (read_told main s) (payload_told main at n s m)
 
-pending_told : (t : TagWords) (p : Payload) (main : List ℕ) (s : State) (m : Lent) → StepTold (pending_or_tag t p main s m).answer
-pending_told NoTagWords p main s m = payload_or_tag_told p main s m
-pending_told (From a) p main s m = word_told main a (tags_after a) (λ k. s.payload) s m
+pending_told : (t : Option ℕ) (p : Payload) (main : List ℕ) (s : State) (m : Lent) → StepTold (pending_or_tag t p main s m).answer
+pending_told None p main s m = payload_or_tag_told p main s m
+pending_told (Some a) p main s m = word_told main a (tags_after a) (λ k. s.payload) s m
 
 step_told : (main : List ℕ) (s : State) (m : Lent) → StepTold (step_of main s m).answer
 unfolding step_of

@@ -1,4 +1,5 @@
 -- A word given to a VIF unit is refused with 20 to 26 or 31, or inside DIRECT with the GIF's 30 or 31, and with no other number.
+use Rattle.std.specs.Prelude.{None, Option, Some}
 use mathlib.Core.Path.{◌≡◌, refl}
 use mathlib.Core.Bool.{Bool, true, not}
 use mathlib.Core.List.{List}
@@ -9,25 +10,21 @@ use Rattle.fields.specs.Fields.{bits}
 use Rattle.fields.proofs.ChoiceLaws.{if_ind, if_ind_by}
 use Rattle.gif.specs.declared.GifPath.TheVariants.{Two}
 use Rattle.gif.specs.declared.Path.{Path}
-use Rattle.gif.specs.declared.GifAnswer.{GifAnswer}
+use Rattle.gif.specs.GifAnswer.{GifAnswer}
 use Rattle.gif.specs.Step.{Left as GifLeft, gif_step}
 use Rattle.memories.specs.declared.VifUnit.{VifUnit}
 use Rattle.memories.specs.Lengths.{Lent}
 use Rattle.unpack_rules.specs.declared.Format.{Format}
-use Rattle.unpack_rules.specs.declared.NamedFormat.{NamedFormat}
-use Rattle.unpack_rules.specs.declared.NamedFormat.TheVariants.{Named, Missing}
 use Rattle.unpack_rules.specs.declared.Unpacking.{Unpacking}
 use Rattle.unpack_rules.specs.Formats.{format_named}
 use Rattle.vif_codes.specs.declared.Code.{Code}
 use Rattle.vif_codes.specs.declared.Code.TheVariants.{Nop, Stcycl, Offset, Base, Itop, Stmod, Mskpath3, Mark, Flushe, Flush, Flusha, Mscal, Mscalf, Mscnt, Stmask, Strow, Stcol, Mpg, Direct, Directhl, Unpack}
 use Rattle.vif_codes.specs.declared.UnpackCode.{UnpackCode}
 use Rattle.vif_codes.specs.declared.CodeResult.{CodeResult}
-use Rattle.vif_codes.specs.declared.Decoded.{Decoded}
-use Rattle.vif_codes.specs.declared.Decoded.TheVariants.{Known, Unknown}
+use Rattle.vif_codes.specs.Decoded.{Decoded, Known, Unknown}
 use Rattle.vif_codes.specs.declared.Incoming.{Incoming}
 use Rattle.vif_codes.specs.declared.Incoming.TheVariants.{Word0, Word1, Word2, Word3}
-use Rattle.vif_codes.specs.declared.VifAnswer.{VifAnswer}
-use Rattle.vif_codes.specs.declared.VifAnswer.TheVariants.{Word, Quadword, Refused}
+use Rattle.vif_codes.specs.VifAnswer.{VifAnswer, vif_answer, Word, Quadword, Refused}
 use Rattle.vif_codes.specs.declared.Waiting.{Waiting}
 use Rattle.vif_codes.specs.declared.Waiting.TheVariants.{Nothing, MaskDue, RowDue, ColDue, MpgDue, DirectDue, DirecthlDue, UnpackDue}
 use Rattle.vif_codes.specs.declared.Vif.{Vif}
@@ -74,9 +71,9 @@ plain_told cmd num imm =
     (if_ind DecodedTold _ known
     (unknown cmd_20))))))))))))))))))))
 
-unpack_told : (f : NamedFormat) (u : UnpackCode) → DecodedTold (unpack_code f u)
-unpack_told (Named f) u = known
-unpack_told Missing u = unknown format_21
+unpack_told : (f : Option Format) (u : UnpackCode) → DecodedTold (unpack_code f u)
+unpack_told (Some f) u = known
+unpack_told None u = unknown format_21
 
 code_of_told : (which : VifUnit) (cmd num imm : ℕ) → DecodedTold (code_of which cmd num imm)
 unfolding code_of
@@ -95,9 +92,9 @@ start_told : (which : VifUnit) (r x : ℕ) (v : Vif) (i : Bool) (used : ℕ) (me
 unfolding start_program
 start_told which r x v i used mem log = if_ind (λ (e : Executed). VifTold e.answer) _ (vif_refusal start_31) word_taken
 
-mode_told : (m : ℕ) (v : Vif) (i : Bool) (used : ℕ) → VifTold (set_mode m v i used).answer
+mode_told : (m : ℕ) (v : Vif) (i : Bool) (used : ℕ) → VifTold (vif_answer (set_mode m v i used).answer)
 unfolding set_mode
-mode_told m v i used = if_ind (λ (r : CodeResult). VifTold r.answer) _ (vif_refusal mode_23) word_taken
+mode_told m v i used = if_ind (λ (r : CodeResult). VifTold (vif_answer r.answer)) _ (vif_refusal mode_23) word_taken
 
 -- no refusal, or one of the two
 data UnpackTold : ℕ → Type 0 where

@@ -12,7 +12,7 @@ use Rattle.sheet.specs.Records.{longest}
 use Rattle.sheet.specs.Build.{stored}
 use Rattle.sheet.proofs.ListLaws.{sets_front}
 use Rattle.salvage.specs.declared.Sums.{Sums}
-use Rattle.salvage.specs.declared.SalvageAnswer.TheVariants.{Salvaged, Refused}
+use Rattle.salvage.specs.SalvageAnswer.{Salvaged, Refused}
 use Rattle.salvage.specs.Salvage.{kept_bytes, dropped_ranges, numbers_of, left, salvage_of}
 use Rattle.salvage.specs.Inner.{sums_of, Room}
 use Rattle.salvage.proofs.LoopLaws.{numbers_length}

@@ -7,9 +7,8 @@ use native.Mathlib.Omega.{arith}
 use lib.ListN.{length, drop, length-append, take-append-drop, drop_of_length-le}
 use lib.Seq.{take-add, drop-drop, drop-cons}
 use Rattle.sheet.specs.declared.Kind.{Kind}
-use Rattle.sheet.specs.declared.BuildAnswer.TheVariants.{Built}
-use Rattle.sheet.specs.declared.Reading.{Reading}
-use Rattle.sheet.specs.declared.Reading.TheVariants.{End, Found, Refused}
+use Rattle.sheet.specs.BuildAnswer.{Built}
+use Rattle.sheet.specs.Reading.{Reading, End, Found, Refused}
 use Rattle.sheet.specs.Records.{Record, longest, bytes_at}
 use Rattle.sheet.specs.Reader.{valid, reading_at, contents_from}
 use Rattle.sheet.specs.Groups.{starts_second}

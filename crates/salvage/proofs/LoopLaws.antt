@@ -6,13 +6,13 @@ use native.Mathlib.Omega.{arith}
 use lib.ListN.{length, length-append}
 use lib.Seq.{sets, length-sets}
 use Rattle.sheet.specs.declared.Kind.{Kind}
-use Rattle.sheet.specs.declared.Reading.{Reading}
-use Rattle.sheet.specs.declared.Reading.TheVariants.{End, Found, Refused}
+use Rattle.sheet.specs.Reading.{Reading, End, Found, Refused}
 use Rattle.sheet.specs.Records.{bytes_at}
 use Rattle.sheet.specs.Reader.{reading_at}
 use Rattle.sheet.specs.Whole.{Bytes}
 use Rattle.sheet.proofs.ReaderLaws.{found_next}
-use Rattle.sheet.proofs.ListLaws.{sets_next, part_length}
+use borrow.Rule.Slice.PartMut.{put_mid}
+use Rattle.sheet.proofs.ListLaws.{sets_next, part_length, put_part}
 use Rattle.salvage.specs.Salvage.{Range, numbers_of}
 use Rattle.salvage.specs.Inner.{kept_from, dropped_from, range_end}
 use Rattle.salvage.proofs.PieceLaws.{kept_end, kept_found}
@@ -100,3 +100,7 @@ module _ (sheet : List ℕ) (at : ℕ) {g : Reading} (e : g ≡ reading_at sheet
     pub dropped_room : (ranges : List ℕ) (to : ℕ) {o : List ℕ} → o ≡ sets ranges to (at ∷ (end - at) ∷ []) → to + length (numbers_of (dropped_from sheet at)) ≤ length ranges
         → to + 2 + length (numbers_of (dropped_from sheet end)) ≤ length o
     dropped_room ranges to h r = let m = dropped_length in rw (h, length-sets ranges to (at ∷ (end - at) ∷ [])) (omega arith)
+
+-- the two numbers of a range, stored whole
+pub range_stored : (ranges : List ℕ) (to offset size : ℕ) {ys : List ℕ} → to + 2 ≤ length ranges → ys ≡ offset ∷ size ∷ [] → put_mid to (to + 2 - to) ranges ys ≡ sets ranges to (offset ∷ size ∷ [])
+range_stored ranges to offset size h e = rw e (put_part ranges (offset ∷ size ∷ []) to (to + 2 - to) (omega arith) (omega arith))

@@ -9,8 +9,7 @@ use lib.Dec.{leb}
 use lib.Seq.{take_at}
 use borrow.Author.Tests.{leb-true, leb-false}
 use Rattle.sheet.specs.declared.Kind.{Kind}
-use Rattle.sheet.specs.declared.Reading.{Reading}
-use Rattle.sheet.specs.declared.Reading.TheVariants.{End, Found, Refused}
+use Rattle.sheet.specs.Reading.{Reading, End, Found, Refused}
 use Rattle.sheet.specs.Records.{body_length, bytes_at}
 use Rattle.sheet.specs.Reader.{reading_at}
 use Rattle.sheet.specs.Whole.{record_bytes, sheet_bytes, Bytes}

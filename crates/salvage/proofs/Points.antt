@@ -8,7 +8,7 @@ use lib.ListN.{length}
 use Rattle.fields.specs.Fields.{if}
 use Rattle.sheet.specs.Reader.{marked, kind_of, row_refusal, record_refusal, reading_at}
 use Rattle.sheet.specs.Whole.{sheet_bytes}
-use Rattle.salvage.specs.declared.SalvageAnswer.TheVariants.{Salvaged, Refused}
+use Rattle.salvage.specs.SalvageAnswer.{Salvaged, Refused}
 use Rattle.salvage.specs.Salvage.{pieces_within, pieces_from, records_in, joined, ranges_from, numbers_of, left, salvage_of}
 
 -- a start at 5

@@ -1,5 +1,8 @@
 -- A range is dropped at once: up to the next place where a record starts, or to the sheet's end.
-use mathlib.Core.Path.{◌≡◌, refl, ap, ◌∙◌}
+use mathlib.Core.Path.{◌≡◌, refl, sym, ap, ◌∙◌}
+use mathlib.Core.Bool.{true, false}
+use Rattle.std.proofs.Common.{Result, Ok, Err, Option, Some, None}
+use Rattle.std.specs.Result.{is_err}
 use mathlib.Core.List.{List, [], ◌∷◌}
 use Prim.Native.Nat.{ℕ, zero, suc, ◌+◌, ◌-◌, ◌<◌, ◌≤◌}
 use native.Mathlib.Omega.{arith}
@@ -8,9 +11,11 @@ use lib.Dec.{eqb}
 use borrow.Author.Tests.{eq-eqb, ne_eqb}
 use Rattle.fields.specs.Fields.{if}
 use Rattle.fields.proofs.ChoiceLaws.{if_ind}
+use Rattle.fields.specs.Refusals.{refusal_number}
+use Rattle.sheet.specs.declared.SheetError.{SheetError}
+use Rattle.sheet.specs.declared.Record.{Record as SheetRecord}
 use Rattle.sheet.specs.declared.Kind.{Kind}
-use Rattle.sheet.specs.declared.Reading.{Reading}
-use Rattle.sheet.specs.declared.Reading.TheVariants.{End, Found, Refused}
+use Rattle.sheet.specs.Reading.{Reading, End, Found, Refused, reading}
 use Rattle.sheet.specs.Reader.{reading_at}
 use Rattle.sheet.specs.Whole.{record_bytes}
 use Rattle.sheet.proofs.ReaderLaws.{found_next, past}
@@ -45,6 +50,17 @@ module _ (sheet : List ℕ) (at : ℕ) where
 
   pub ends_refused : {n offset : ℕ} → reading_at sheet at ≡ Refused n offset → range_end sheet at ≡ range_end sheet (at + 1)
   ends_refused h = turn ∙ rw h
+
+-- what the reader answers there: a refusal, or the end of the range
+module _ (sheet : List ℕ) (at : ℕ) where
+  pub err_refused : (r : Result (Option SheetRecord) SheetError) → reading r ≡ reading_at sheet at → is_err r ≡ true → (n : ℕ) × (offset : ℕ) × (reading_at sheet at ≡ Refused n offset)
+  err_refused (Ok o) e q = absurd (let z : ◌≡◌ {A = ℕ} 0 1 = cc in omega arith)
+  err_refused (Err d) e q = (refusal_number d.refusal, d.offset, sym e)
+
+  pub ok_ends : (r : Result (Option SheetRecord) SheetError) → reading r ≡ reading_at sheet at → is_err r ≡ false → range_end sheet at ≡ at
+  ok_ends (Ok None) e q = ends_end sheet at (sym e)
+  ok_ends (Ok (Some r)) e q = ends_found sheet at (sym e)
+  ok_ends (Err d) e q = absurd (let z : ◌≡◌ {A = ℕ} 0 1 = cc in omega arith)
 
 -- ---- ranges
 

@@ -19,7 +19,7 @@ use Rattle.sheet.specs.Editions.{contents_of}
 use Rattle.sheet.specs.Whole.{Bytes}
 use Rattle.sheet.specs.Build.{stored}
 use Rattle.sheet.proofs.EditionLaws.{sheet_short}
-use Rattle.salvage.specs.declared.SalvageAnswer.TheVariants.{Salvaged, Refused}
+use Rattle.salvage.specs.SalvageAnswer.{Salvaged, Refused}
 use Rattle.salvage.specs.Salvage.{kept_bytes, dropped_ranges, numbers_of, Left, left, salvage_of}
 use Rattle.salvage.specs.Claims.{Wrote}
 use Rattle.salvage.proofs.LoopLaws.{numbers_length}

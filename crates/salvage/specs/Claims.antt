@@ -1,7 +1,7 @@
 -- What request 8 claims of a salvage, in the words of its sentences; the theorems are in proofs/.
 use Rattle.std.specs.Prelude.{ℕ, ◌+◌, ◌*◌, ◌-◌, ◌<◌, ◌≤◌, ◌≡◌, List, [], ◌∷◌, ◌++◌, length, take, drop}
 use Rattle.sheet.specs.declared.Kind.{Kind}
-use Rattle.sheet.specs.declared.Reading.TheVariants.{Found, Refused as NoRecord}
+use Rattle.sheet.specs.Reading.{Found, Refused as NoRecord}
 use Rattle.sheet.specs.Records.{Record, bytes_at}
 use Rattle.sheet.specs.Reader.{reading_at}
 use Rattle.sheet.specs.Whole.{record_bytes}

@@ -1,7 +1,6 @@
 -- What inner functions make of their input and require of it; no promise of a public function cites it.
 use Rattle.std.specs.Prelude.{ℕ, zero, suc, ◌+◌, ◌≤◌, List, length}
-use Rattle.sheet.specs.declared.Reading.{Reading}
-use Rattle.sheet.specs.declared.Reading.TheVariants.{End, Found, Refused}
+use Rattle.sheet.specs.Reading.{Reading, End, Found, Refused}
 use Rattle.sheet.specs.Reader.{reading_at}
 use Rattle.salvage.specs.declared.Sums.{Sums}
 use Rattle.sheet.specs.Records.{longest}

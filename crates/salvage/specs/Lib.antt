@@ -2,3 +2,4 @@
 pub mod Salvage
 pub mod Claims
 pub mod Inner
+pub mod SalvageAnswer

@@ -3,14 +3,12 @@
 use Rattle.std.specs.Prelude.{ℕ, zero, suc, ◌+◌, ◌/◌, List, [], ◌∷◌, length, get_or, eqb, ltb}
 use Rattle.fields.specs.Fields.{if}
 use Rattle.fields.specs.Refusals.{sheet_long, kept_exceed, ranges_exceed}
-use Rattle.sheet.specs.declared.Reading.{Reading}
-use Rattle.sheet.specs.declared.Reading.TheVariants.{End, Found, Refused as NoRecord}
+use Rattle.sheet.specs.Reading.{Reading, End, Found, Refused as NoRecord}
 use Rattle.sheet.specs.Records.{Record, record_of, longest, header_length, body_length, bytes_at}
 use Rattle.sheet.specs.Reader.{reading_at}
 use Rattle.sheet.specs.Whole.{record_bytes, sheet_bytes}
 use Rattle.sheet.specs.Build.{stored}
-use Rattle.salvage.specs.declared.SalvageAnswer.{SalvageAnswer}
-use Rattle.salvage.specs.declared.SalvageAnswer.TheVariants.{Salvaged, Refused}
+use Rattle.salvage.specs.SalvageAnswer.{SalvageAnswer, Salvaged, Refused}
 
 -- ---- the reading
 

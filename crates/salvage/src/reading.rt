@@ -4,34 +4,17 @@ ghost use Rattle.sheet.specs.Records.{longest};
 ghost use Rattle.salvage.specs.Inner.{range_end, sums_of};
 
 use super::Sums;
-use sheet::{Reading, read_record};
+use sheet::read_record;
 
 // The first place from this one on where a record starts, or the sheet's end.
 pub(crate) fn range_end(sheet: &[u8], from: usize) -> usize
     ensures { result ≡ range_end sheet.now from }
 {
     let mut end = from;
-    loop {
-        match read_record(sheet, end) {
-            Reading::End => {
-                return end;
-            }
-            Reading::Found {
-                kind: _,
-                count: _,
-                address: _,
-                next: _,
-            } => {
-                return end;
-            }
-            Reading::Refused {
-                number: _,
-                offset: _,
-            } => {
-                end += 1;
-            }
-        }
+    while read_record(sheet, end).is_err() {
+        end += 1;
     }
+    end
 }
 
 // The bytes that are kept of a sheet, and its dropped ranges.
@@ -39,28 +22,20 @@ pub(crate) fn measure(sheet: &[u8]) -> Sums
     requires { length sheet.now ≤ longest }
     ensures { result ≡ sums_of sheet.now }
 {
-    let mut bytes = 0;
-    let mut ranges = 0;
+    let mut sums = Sums {
+        bytes: 0,
+        ranges: 0,
+    };
     let mut at = 0;
     loop {
         match read_record(sheet, at) {
-            Reading::End => {
-                return Sums { bytes, ranges };
+            Ok(None) => return sums,
+            Ok(Some(record)) => {
+                sums.bytes += record.next - at;
+                at = record.next;
             }
-            Reading::Found {
-                kind: _,
-                count: _,
-                address: _,
-                next,
-            } => {
-                bytes += next - at;
-                at = next;
-            }
-            Reading::Refused {
-                number: _,
-                offset: _,
-            } => {
-                ranges += 1;
+            Err(_) => {
+                sums.ranges += 1;
                 at = range_end(sheet, at + 1);
             }
         }

@@ -1,35 +1,14 @@
 // The kept records and the dropped ranges, written.
-ghost use Rattle.std.specs.Prelude.{◌≡◌, ◌+◌, ◌≤◌, [], ◌∷◌, length};
+ghost use Rattle.std.specs.Prelude.{◌≡◌, ◌≤◌, length};
 ghost use Rattle.std.proofs.lemmas.List.Edits.{sets};
-ghost use Rattle.sheet.specs.Records.{bytes_at};
+ghost use Rattle.salvage.specs.SalvageAnswer.{salvage_answer};
 ghost use Rattle.salvage.specs.Salvage.{left, kept_bytes, dropped_ranges, numbers_of, salvage_of};
 ghost use Rattle.salvage.specs.Inner.{Room};
 
-use super::SalvageAnswer;
+use super::Sums;
 use super::reading::{measure, range_end};
-use fields::refusals;
-use sheet::{LONGEST, Reading, read_record};
-
-// Copies n bytes.
-fn copy_bytes(sheet: &[u8], from: usize, n: usize, output: &mut [u8], to: usize)
-    requires { (from + n ≤ length sheet.now) × (to + n ≤ length output.old) }
-    ensures { output.new ≡ sets output.old to (bytes_at sheet.now from n) }
-{
-    let mut i = 0;
-    while i < n {
-        output[to + i] = sheet[from + i];
-        i += 1;
-    }
-}
-
-// Writes a range.
-fn put_range(ranges: &mut [u64], to: usize, offset: usize, size: usize)
-    requires { to + 2 ≤ length ranges.old }
-    ensures { ranges.new ≡ sets ranges.old to (offset ∷ size ∷ []) }
-{
-    ranges[to] = offset as u64;
-    ranges[to + 1] = size as u64;
-}
+use fields::Refusal;
+use sheet::{LONGEST, read_record};
 
 // Writes what is kept and what is dropped of a sheet, where there is room for it.
 fn write(sheet: &[u8], output: &mut [u8], ranges: &mut [u64])
@@ -44,25 +23,16 @@ fn write(sheet: &[u8], output: &mut [u8], ranges: &mut [u64])
     let mut numbers = 0;
     loop {
         match read_record(sheet, at) {
-            Reading::End => {
-                return;
+            Ok(None) => return,
+            Ok(Some(record)) => {
+                let size = record.next - at;
+                output[bytes..bytes + size].copy_from_slice(&sheet[at..at + size]);
+                bytes += size;
+                at = record.next;
             }
-            Reading::Found {
-                kind: _,
-                count: _,
-                address: _,
-                next,
-            } => {
-                copy_bytes(sheet, at, next - at, output, bytes);
-                bytes += next - at;
-                at = next;
-            }
-            Reading::Refused {
-                number: _,
-                offset: _,
-            } => {
+            Err(_) => {
                 let end = range_end(sheet, at + 1);
-                put_range(ranges, numbers, at, end - at);
+                ranges[numbers..numbers + 2].copy_from_slice(&[at as u64, (end - at) as u64]);
                 numbers += 2;
                 at = end;
             }
@@ -71,23 +41,20 @@ fn write(sheet: &[u8], output: &mut [u8], ranges: &mut [u64])
 }
 
 // Salvages a sheet. A refusal leaves both buffers as they are.
-pub fn salvage(sheet: &[u8], output: &mut [u8], ranges: &mut [u64]) -> SalvageAnswer
-    ensures { left result output.new ranges.new
+pub fn salvage(sheet: &[u8], output: &mut [u8], ranges: &mut [u64]) -> Result<Sums, Refusal>
+    ensures { left (salvage_answer result) output.new ranges.new
         ≡ salvage_of sheet.now output.old ranges.old }
 {
     if LONGEST < sheet.len() {
-        return SalvageAnswer::Refused(refusals::SHEET_LONG);
+        return Err(Refusal::SheetLong);
     }
     let sums = measure(sheet);
     if output.len() < sums.bytes {
-        return SalvageAnswer::Refused(refusals::KEPT_EXCEED);
+        return Err(Refusal::KeptExceed);
     }
     if ranges.len() / 2 < sums.ranges {
-        return SalvageAnswer::Refused(refusals::RANGES_EXCEED);
+        return Err(Refusal::RangesExceed);
     }
     write(sheet, output, ranges);
-    SalvageAnswer::Salvaged {
-        bytes: sums.bytes,
-        ranges: sums.ranges,
-    }
+    Ok(sums)
 }

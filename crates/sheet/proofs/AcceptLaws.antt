@@ -11,10 +11,10 @@ use lib.Dec.{eqb, leb}
 use borrow.Author.Tests.{le-ltb, lt-leb}
 use Rattle.fields.specs.Fields.{if}
 use Rattle.fields.proofs.ChoiceLaws.{and_false}
-use Rattle.sheet.specs.declared.BuildAnswer.TheVariants.{Built}
+use Rattle.sheet.specs.BuildAnswer.{Built}
 use Rattle.sheet.specs.declared.Kind.{Kind}
 use Rattle.sheet.specs.declared.Kind.TheVariants.{Data, Code, Gs, Start}
-use Rattle.sheet.specs.declared.Reading.TheVariants.{Found}
+use Rattle.sheet.specs.Reading.{Found}
 use Rattle.sheet.specs.Records.{Record, longest, kind_number, body_length, bytes_at}
 use Rattle.sheet.specs.Reader.{valid, marked, kind_listed, kind_of, row_refusal, record_refusal, reading_at, contents_from}
 use Rattle.sheet.specs.Groups.{opens_kind, starts_second}

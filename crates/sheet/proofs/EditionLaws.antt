@@ -11,8 +11,7 @@ use Rattle.fields.specs.Fields.{if}
 use Rattle.fields.proofs.ChoiceLaws.{and_left}
 use Rattle.sheet.specs.declared.Kind.{Kind}
 use Rattle.sheet.specs.declared.Kind.TheVariants.{Data, Code, Gs, Start}
-use Rattle.sheet.specs.declared.Reading.{Reading}
-use Rattle.sheet.specs.declared.Reading.TheVariants.{End, Found, Refused}
+use Rattle.sheet.specs.Reading.{Reading, End, Found, Refused}
 use Rattle.sheet.specs.Records.{Record, record_of, longest, count_fits, body_length, bytes_at}
 use Rattle.sheet.specs.Reader.{Contents, valid, refused, before, reading_at, records_from, contents_from}
 use Rattle.sheet.specs.Whole.{AllMeet, Bytes, sheet_bytes}
@@ -38,7 +37,7 @@ one_before r (refused n offset) = refl
 
 module _ (sheet : List ℕ) (first : starts_second sheet ≡ false) where
   plain_header_lem : (at : ℕ) {x : Reading} → reading_at sheet at ≡ x → header_at sheet deepest at ≡ plain_header x
-  plain_header_lem at e = sym (header_plain sheet deepest at (first_plain sheet at first) refl e)
+  plain_header_lem at e = sym (header_plain sheet deepest at (first_plain sheet at first) (sym e))
 
   by_reading : (n at : ℕ) (x : Reading) → reading_at sheet at ≡ x → ((next : ℕ) → items_from n sheet next ≡ records_from n sheet next)
       → items_from (suc n) sheet at ≡ records_from (suc n) sheet at

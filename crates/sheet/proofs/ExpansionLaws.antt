@@ -5,14 +5,13 @@ use Prim.Native.Nat.{ℕ, zero, suc, ◌+◌, ◌-◌, ◌<◌, ◌≤◌}
 use native.Mathlib.Omega.{arith}
 use lib.ListN.{length}
 use Rattle.sheet.specs.declared.Kind.{Kind}
-use Rattle.sheet.specs.declared.Reading.TheVariants.{Found}
+use Rattle.sheet.specs.Reading.{Found}
 use Rattle.sheet.specs.Records.{Record, record_of, body_length, bytes_at}
 use Rattle.sheet.specs.Reader.{Contents, valid, refused, reading_at}
 use Rattle.sheet.specs.Whole.{AllMeet, none as no_record, more}
 use Rattle.sheet.proofs.ReaderLaws.{found_next}
 use Rattle.sheet.proofs.WholeLaws.{found_meets}
-use Rattle.sheet.specs.declared.Header.{Header}
-use Rattle.sheet.specs.declared.Header.TheVariants.{End, Single, Group, Refused}
+use Rattle.sheet.specs.Header.{Header, End, Single, Group, Refused}
 use Rattle.sheet.specs.Items.{Item, single, Items, none, repeated, expanded_item, expanded}
 use Rattle.sheet.specs.Groups.{header_at}
 use Rattle.sheet.specs.Groups.{ItemRead, ended, item, refused as itemRefused, members, members_from, group_from, item_at}

@@ -1,22 +1,28 @@
 -- What a header says of the bytes.
-use mathlib.Core.Path.{◌≡◌, refl, sym, ◌∙◌}
+use mathlib.Core.Path.{◌≡◌, refl, sym}
 use mathlib.Core.Bool.{Bool, true, false}
 use mathlib.Core.List.{List}
 use Prim.Native.Nat.{ℕ, ◌+◌, ◌<◌, ◌≤◌}
 use native.Mathlib.Omega.{arith}
-use lib.ListN.{length, get_or}
-use lib.Dec.{eqb, leb}
-use borrow.Author.Tests.{leb-true, eqb-true, eqb-false, le-leb, lt-leb, eq-eqb, ne_eqb}
+use lib.ListN.{length}
+use lib.Dec.{eqb}
+use borrow.Author.Tests.{leb-true, eqb-true, eqb-false, lt-leb}
 use Rattle.fields.specs.Fields.{if}
 use Rattle.fields.proofs.ChoiceLaws.{and_left, and_later, if_zero}
+use Rattle.fields.specs.declared.refusals.Refusal.{Refusal}
+use Rattle.fields.specs.Refusals.{refusal_number}
+use Rattle.fields.proofs.RefusalLaws.{refusal_not_none}
+use Rattle.std.proofs.Common.{Option, Some, None, Ok}
+use Rattle.std.specs.Option.{MatchOption, IsSomeAnd}
+use Rattle.sheet.specs.declared.Record.{Record}
+use Rattle.sheet.specs.declared.Item.{Item}
+use Rattle.sheet.specs.declared.Item.TheVariants.{Single as ItemSingle}
 use Rattle.sheet.specs.declared.Kind.{Kind}
 use Rattle.sheet.proofs.ReaderLaws.{FoundThere, past, reading_end, found_next}
-use Rattle.sheet.specs.declared.Reading.{Reading}
-use Rattle.sheet.specs.declared.Reading.TheVariants.{End as NoRecord, Found, Refused as RecordRefused}
-use Rattle.sheet.specs.Records.{body_length}
-use Rattle.sheet.specs.Reader.{marked, count_at, address_at, reading_at}
-use Rattle.sheet.specs.declared.Header.{Header}
-use Rattle.sheet.specs.declared.Header.TheVariants.{End, Single, Group, Refused}
+use Rattle.sheet.specs.Reading.{Reading, End as NoRecord, Found, Refused as RecordRefused, reading}
+use Rattle.sheet.specs.Reader.{count_at, address_at, reading_at}
+use Rattle.sheet.specs.Acts.{RecordThere}
+use Rattle.sheet.specs.Header.{End, Single, Group, Refused, header}
 use Rattle.sheet.specs.Groups.{opens_kind, starts_second, opens_group, group_refusal, plain_header, header_at}
 
 -- a group's header stands whole
@@ -113,51 +119,34 @@ module _ (sheet : List ℕ) (depth at : ℕ) where
   header_end e = reading_end sheet at (chosen_end _ _ e)
 
 -- a record that a header says is found there, and its body lies in the sheet
-module _ (sheet : List ℕ) (depth at : ℕ) {h : Header} (e : h ≡ header_at sheet depth at) {k : Kind} {n a next : ℕ} (q : h ≡ Single k n a next) where
+module _ (sheet : List ℕ) (depth at : ℕ) {k : Kind} {n a next : ℕ} (e : Single k n a next ≡ header_at sheet depth at) where
   pub single_there : FoundThere sheet at k n a next
-  single_there = found_next sheet at k n a next (single_found sheet depth at (sym e ∙ q))
+  single_there = found_next sheet at k n a next (single_found sheet depth at (sym e))
 
-  pub single_inside : at + 6 + body_length k n ≤ length sheet
-  single_inside = let t = single_there in omega arith
+  pub single_stands : RecordThere sheet (at + 6) k n a
+  single_stands = let t = single_there in record { counted = t.counted; addressed = t.addressed; inside = omega arith }
 
--- ---- what `opens_kind`, `opens_group` and `read_header` answer
+-- ---- what `read_header` answers
 
-module _ (k : ℕ) (sheet : List ℕ) (at : ℕ) where
-  pub not_opens : length sheet < at + 6 → false ≡ opens_kind k sheet at
-  unfolding opens_kind
-  not_opens h = rw (lt-leb (at + 6) (length sheet) h)
-
-  pub opens_by : {m : Bool} {b : ℕ} → at + 6 ≤ length sheet → m ≡ marked sheet at → m ≡ true → b ≡ get_or sheet (at + 2) 0 → eqb b k ≡ opens_kind k sheet at
-  unfolding opens_kind
-  opens_by h me m be = rw (le-leb (at + 6) (length sheet) h, ← me, m, be)
-
-  pub no_mark : {m : Bool} → m ≡ marked sheet at → m ≡ false → false ≡ opens_kind k sheet at
-  unfolding opens_kind
-  no_mark me m = and_later (leb (at + 6) (length sheet)) _ (rw (← me, m))
-
-module _ (sheet : List ℕ) (at : ℕ) where
-  pub opens_second : {o b : Bool} → o ≡ opens_kind 5 sheet at → o ≡ true → b ≡ starts_second sheet → b ≡ opens_group sheet at
-  unfolding opens_group
-  opens_second oe o be = rw (← oe, o, be)
-
-  pub opens_none : {o : Bool} → o ≡ opens_kind 5 sheet at → o ≡ false → false ≡ opens_group sheet at
-  unfolding opens_group
-  opens_none oe o = rw (← oe, o)
+-- a record as an item, and none as none
+pub single_read : (o : Option Record) (m : Option Item) → MatchOption o (m ≡ None) (λ x. IsSomeAnd m (λ i. i ≡ ItemSingle x)) → header (Ok m) ≡ plain_header (reading (Ok o))
+single_read None m h = rw h
+single_read (Some r) (Some i) h = rw h
+single_read (Some r) None h = absurd h
 
 module _ (sheet : List ℕ) (depth at : ℕ) where
-  pub header_refused : {number : ℕ} → opens_group sheet at ≡ true → number ≡ group_refusal depth sheet at → (number ≡ 0 → ⊥)
-      → Refused number at ≡ header_at sheet depth at
+  pub header_refused : (e : Refusal) → opens_group sheet at ≡ true → refusal_number e ≡ group_refusal depth sheet at → Refused (refusal_number e) at ≡ header_at sheet depth at
   unfolding header_at if
-  header_refused o e h = rw (o, ← e, ne_eqb _ _ h)
+  header_refused e o h = rw (o, ← h, refusal_not_none e)
 
-  pub header_group : {number n k : ℕ} → opens_group sheet at ≡ true → number ≡ group_refusal depth sheet at → number ≡ 0 → n ≡ count_at sheet at → k ≡ address_at sheet at
+  pub header_group : {n k : ℕ} → opens_group sheet at ≡ true → 0 ≡ group_refusal depth sheet at → n ≡ count_at sheet at → k ≡ address_at sheet at
       → Group n k ≡ header_at sheet depth at
   unfolding header_at if
-  header_group o e h ne ke = rw (o, ← e, eq-eqb _ _ h, ne, ke)
+  header_group o h ne ke = rw (o, ← h, ne, ke)
 
-  pub header_plain : {g r : Reading} → opens_group sheet at ≡ false → g ≡ reading_at sheet at → g ≡ r → plain_header r ≡ header_at sheet depth at
+  pub header_plain : {g : Reading} → opens_group sheet at ≡ false → g ≡ reading_at sheet at → plain_header g ≡ header_at sheet depth at
   unfolding header_at if
-  header_plain o e q = rw (o, ← e, q)
+  header_plain o e = rw (o, ← e)
 
   -- past the sheet is the end
   pub header_past : length sheet ≤ at → header_at sheet depth at ≡ End

@@ -8,10 +8,9 @@ use Rattle.sheet.specs.declared.Kind.{Kind}
 use Rattle.sheet.specs.Records.{record_of, body_length, bytes_at}
 use Rattle.sheet.specs.Sizes.{record_quadwords, record_steps, entries_of}
 use Rattle.sheet.specs.declared.sums.Totals.{Totals}
-use Rattle.sheet.specs.declared.Header.{Header}
-use Rattle.sheet.specs.declared.Header.TheVariants.{End, Single, Group, Refused}
-use Rattle.sheet.specs.declared.items.ItemAnswer.{ItemAnswer}
-use Rattle.sheet.specs.declared.items.ItemAnswer.TheVariants.{End as NoItem, Found, Refused as ItemRefused}
+use Rattle.sheet.specs.Header.{End, Single, Group, Refused}
+use Rattle.sheet.specs.ItemAnswer.{ItemAnswer}
+use Rattle.sheet.specs.ItemAnswer.{End as NoItem, Found, Refused as ItemRefused}
 use Rattle.sheet.specs.Items.{Item, single, expanded_item, expanded}
 use Rattle.sheet.specs.Groups.{header_at}
 use Rattle.sheet.specs.Groups.{ItemRead, ended, item, refused, MembersRead, members, broken, before, on_member, members_from, grouped, group_from, item_at}
@@ -46,26 +45,26 @@ module _ (sheet : List ℕ) (at : ℕ) where
 
 -- ---- what the record reader answers
 
-module _ (sheet : List ℕ) (depth at : ℕ) {h : Header} (e : h ≡ header_at sheet depth at) where
-  pub answers_end : h ≡ End → NoItem ≡ answered (item_at sheet depth at)
+module _ (sheet : List ℕ) (depth at : ℕ) where
+  pub answers_end : End ≡ header_at sheet depth at → NoItem ≡ answered (item_at sheet depth at)
   unfolding answered
-  answers_end q = rw (item_end sheet at depth (sym e ∙ q))
+  answers_end q = rw (item_end sheet at depth (sym q))
 
-  pub answers_single : {k : Kind} {n a next : ℕ} {t : Totals} → h ≡ Single k n a next
+  pub answers_single : {k : Kind} {n a next : ℕ} {t : Totals} → Single k n a next ≡ header_at sheet depth at
       → t ≡ capped_totals (record_quadwords k n) (record_steps k n) (entries_of k n) → Found next t ≡ answered (item_at sheet depth at)
   unfolding expanded_item answered
-  answers_single q te = rw (item_single sheet at depth (sym e ∙ q), totals_one, te)
+  answers_single q te = rw (item_single sheet at depth (sym q), totals_one, te)
 
-  pub answers_refused : {n offset : ℕ} → h ≡ Refused n offset → ItemRefused n offset ≡ answered (item_at sheet depth at)
+  pub answers_refused : {n offset : ℕ} → Refused n offset ≡ header_at sheet depth at → ItemRefused n offset ≡ answered (item_at sheet depth at)
   unfolding answered
-  answers_refused q = rw (item_refused sheet at depth (sym e ∙ q))
+  answers_refused q = rw (item_refused sheet at depth (sym q))
 
-  pub answers_group : {n k : ℕ} {r : ItemAnswer} → h ≡ Group n k → r ≡ answered (group_from (item_at sheet (depth - 1)) (length sheet) (at + 6) n k)
+  pub answers_group : {n k : ℕ} {r : ItemAnswer} → Group n k ≡ header_at sheet depth at → r ≡ answered (group_from (item_at sheet (depth - 1)) (length sheet) (at + 6) n k)
       → r ≡ answered (item_at sheet depth at)
-  answers_group q re = rw (item_group sheet at depth (sym e ∙ q)) re
+  answers_group q re = rw (item_group sheet at depth (sym q)) re
 
-  pub opened : {n k : ℕ} → h ≡ Group n k → (0 < depth) × (at + 6 ≤ length sheet)
-  opened q = let o = group_opens sheet depth at (sym e ∙ q) in (o.deep, o.inside)
+  pub opened : {n k : ℕ} → Group n k ≡ header_at sheet depth at → (0 < depth) × (at + 6 ≤ length sheet)
+  opened q = let o = group_opens sheet depth at (sym q) in (o.deep, o.inside)
 
 -- ---- what the group reader answers
 
@@ -107,22 +106,20 @@ module _ (n : ℕ) (t : Totals) (g : ℕ → MembersRead) (end : ℕ) where
       more n t i (g at) ∙ rw (p, s)
   turn_found (refused k offset) q = absurd (let z : ◌≡◌ {A = ℕ} 0 1 = cc in omega arith)
 
-module _ (f : ℕ → ItemRead) (end n : ℕ) (t : Totals) (left at : ℕ) {r x : ItemAnswer} (re : r ≡ answered (f at)) (e : answered_from n t (members_from f end left at) ≡ x) (some : 0 < left) where
-  one_left : left ≡ suc (left - 1)
-  one_left = omega arith
-
-  turn : answered_from n t (on_member (members_from f end (left - 1)) end (f at)) ≡ x
+module _ (f : ℕ → ItemRead) (end n : ℕ) (t : Totals) (left at : ℕ) {x : ItemAnswer} (e : answered_from n t (members_from f end left at) ≡ x) where
+  turn : {rest : ℕ} → left ≡ suc rest → answered_from n t (on_member (members_from f end rest) end (f at)) ≡ x
   unfolding members_from
-  turn = rw one_left at e
+  turn s = rw s at e
 
-  pub members_end : r ≡ NoItem → ItemRefused 44 end ≡ x
-  members_end q = sym (turn_end n t (members_from f end (left - 1)) end (f at) (sym re ∙ q)) ∙ turn
+  pub members_end : 0 < left → NoItem ≡ answered (f at) → ItemRefused 44 end ≡ x
+  members_end some q = sym (turn_end n t (members_from f end (left - 1)) end (f at) (sym q)) ∙ turn (omega arith)
 
-  pub members_refused : {k offset : ℕ} → r ≡ ItemRefused k offset → ItemRefused k offset ≡ x
-  members_refused q = sym (turn_refused n t (members_from f end (left - 1)) end (f at) (sym re ∙ q)) ∙ turn
+  pub members_refused : 0 < left → {k offset : ℕ} → ItemRefused k offset ≡ answered (f at) → ItemRefused k offset ≡ x
+  members_refused some q = sym (turn_refused n t (members_from f end (left - 1)) end (f at) (sym q)) ∙ turn (omega arith)
 
-  pub members_more : {next : ℕ} {u s : Totals} → r ≡ Found next u → s ≡ joined t u → answered_from n s (members_from f end (left - 1) next) ≡ x
-  members_more {next} {u} q se = rw se (sym (turn_found n t (members_from f end (left - 1)) end (f at) (sym re ∙ q)) ∙ turn)
+  pub members_more : {rest next : ℕ} {u s : Totals} → left ≡ suc rest → Found next u ≡ answered (f at) → s ≡ joined t u
+      → answered_from n s (members_from f end rest next) ≡ x
+  members_more {rest} {next} {u} some q se = rw se (sym (turn_found n t (members_from f end rest) end (f at) (sym q)) ∙ turn some)
 
 -- no member left
 pub members_none : (f : ℕ → ItemRead) (end n : ℕ) (t : Totals) (left at : ℕ) {x : ItemAnswer} {s : Totals}

@@ -1,11 +1,12 @@
 -- Lists and runs of stores.
-use mathlib.Core.Path.{◌≡◌, refl, ◌∙◌}
-use mathlib.Core.List.{List, ◌++◌}
-use Prim.Native.Nat.{ℕ, suc, ◌+◌, ◌-◌, ◌<◌, ◌≤◌}
+use mathlib.Core.Path.{◌≡◌, refl, sym, ◌∙◌}
+use mathlib.Core.List.{List, ◌++◌, append_assoc}
+use Prim.Native.Nat.{ℕ, ◌+◌, ◌-◌, ◌≤◌}
 use native.Mathlib.Nat.{zero-add}
 use native.Mathlib.Omega.{arith}
-use lib.ListN.{length, get_or, set, take, drop, length-drop}
-use lib.Seq.{sets, sets-eq, drop-cons, length-take-le}
+use lib.ListN.{length, take, drop, length-drop}
+use borrow.Rule.Slice.PartMut.{put_mid}
+use lib.Seq.{sets, sets-eq, drop-drop, length-take-le}
 use Rattle.fields.proofs.ListLaws.{sets_then}
 
 -- a run of stores and then another after it, of lists that are known by equations
@@ -20,12 +21,14 @@ sets_front l xs h = sets-eq xs l 0 (rw (zero-add (length xs)) h) ∙ rw (zero-ad
 pub part_length : (xs : List ℕ) (from n : ℕ) → from + n ≤ length xs → length (take n (drop from xs)) ≡ n
 part_length xs from n h = length-take-le n (drop from xs) (simp length-drop (omega arith))
 
--- a copy of one element more: what is left to store
-pub copied_more : (xs l : List ℕ) (from to n i : ℕ) → i < n → from + n ≤ length xs
-    → sets (set l (to + i) (get_or xs (from + i) 0)) (to + (i + 1)) (take (n - (i + 1)) (drop (from + (i + 1)) xs))
-    ≡ sets l (to + i) (take (n - i) (drop (from + i) xs))
-copied_more xs l from to n i h b =
-    let a : from + (i + 1) ≡ suc (from + i) = omega arith in
-    let t : to + (i + 1) ≡ suc (to + i) = omega arith in
-    let m : n - i ≡ suc (n - (i + 1)) = omega arith in
-    rw (a, t, m, drop-cons xs (from + i) 0 (omega arith))
+-- a part of a list, stored whole
+pub put_part : (l xs : List ℕ) (i k : ℕ) → length xs ≡ k → i + k ≤ length l → put_mid i k l xs ≡ sets l i xs
+put_part l xs i k e h =
+    rw (drop-drop k i l, ← e) (sym (sets-eq xs l i (omega arith) ∙ append_assoc (take i l) xs (drop (i + length xs) l)))
+
+-- n elements of a list, copied into another
+pub part_copied : (xs l : List ℕ) (from to n : ℕ) {ys : List ℕ} → from + n ≤ length xs → to + n ≤ length l → ys ≡ take (from + n - from) (drop from xs)
+    → put_mid to (to + n - to) l ys ≡ sets l to (take n (drop from xs))
+part_copied xs l from to n g h e =
+    let f : from + n - from ≡ n = omega arith in
+    rw (e, f) (put_part l (take n (drop from xs)) to (to + n - to) (part_length xs from n g ∙ omega arith) (omega arith))

@@ -17,10 +17,8 @@ use Rattle.sheet.specs.Sizes.{record_quadwords, record_steps, entries_of, sheet_
 use Rattle.sheet.specs.Layout.{chain_of}
 use Rattle.sheet.proofs.LayoutLaws.{chain_length}
 use Rattle.sheet.specs.declared.sums.Totals.{Totals}
-use Rattle.sheet.specs.declared.items.ItemAnswer.{ItemAnswer}
-use Rattle.sheet.specs.declared.items.ItemAnswer.TheVariants.{End, Found, Refused}
-use Rattle.sheet.specs.declared.Measured.{Measured}
-use Rattle.sheet.specs.declared.Measured.TheVariants.{Refused as MeasureRefused}
+use Rattle.sheet.specs.ItemAnswer.{End, Found, Refused}
+use Rattle.sheet.specs.Measured.{Measured, Refused as MeasureRefused}
 use Rattle.sheet.specs.Items.{expanded_item}
 use Rattle.sheet.specs.Groups.{ItemRead, ended, item, refused as itemRefused, item_at}
 use Rattle.sheet.specs.Sums.{sum_of, quadwords, steps, entries, most, capped, totals, totals_of, end_totals, joined, answered, measured_of, within, summed}
@@ -58,18 +56,18 @@ module _ (t : Totals) (g : ℕ → Contents) where
       records_more t (expanded_item i) (g at) ∙ rw (p, s)
   turn_found (itemRefused k offset) q = absurd (let z : ◌≡◌ {A = ℕ} 0 1 = cc in omega arith)
 
-module _ (sheet : List ℕ) (t : Totals) (at : ℕ) {r : ItemAnswer} {x : Measured} (re : r ≡ answered (item_at sheet deepest at)) (e : summed t (expansion_from sheet at) ≡ x) where
+module _ (sheet : List ℕ) (t : Totals) (at : ℕ) {x : Measured} (e : summed t (expansion_from sheet at) ≡ x) where
   turn : summed t (on_item (expansion_from sheet) (item_at sheet deepest at)) ≡ x
   turn = ap (summed t) (sym (from_turn sheet at)) ∙ e
 
-  pub at_end : {u s : Totals} {m : Measured} → r ≡ End → u ≡ end_totals → s ≡ joined t u → m ≡ within s → m ≡ x
-  at_end q ue se me = me ∙ rw (se, ue) (sym (turn_end t (expansion_from sheet) (item_at sheet deepest at) (sym re ∙ q)) ∙ turn)
+  pub at_end : End ≡ answered (item_at sheet deepest at) → {s : Totals} {m : Measured} → s ≡ joined t end_totals → m ≡ within s → m ≡ x
+  at_end q se me = me ∙ rw se (sym (turn_end t (expansion_from sheet) (item_at sheet deepest at) (sym q)) ∙ turn)
 
-  pub at_refused : {k offset : ℕ} → r ≡ Refused k offset → MeasureRefused k offset ≡ x
-  at_refused q = sym (turn_refused t (expansion_from sheet) (item_at sheet deepest at) (sym re ∙ q)) ∙ turn
+  pub at_refused : {k offset : ℕ} → Refused k offset ≡ answered (item_at sheet deepest at) → MeasureRefused k offset ≡ x
+  at_refused q = sym (turn_refused t (expansion_from sheet) (item_at sheet deepest at) (sym q)) ∙ turn
 
-  pub at_found : {next : ℕ} {u s : Totals} → r ≡ Found next u → s ≡ joined t u → summed s (expansion_from sheet next) ≡ x
-  at_found q se = rw se (sym (turn_found t (expansion_from sheet) (item_at sheet deepest at) (sym re ∙ q)) ∙ turn)
+  pub at_found : {next : ℕ} {u s : Totals} → Found next u ≡ answered (item_at sheet deepest at) → s ≡ joined t u → summed s (expansion_from sheet next) ≡ x
+  at_found q se = rw se (sym (turn_found t (expansion_from sheet) (item_at sheet deepest at) (sym q)) ∙ turn)
 
 -- ---- where the sums stop
 

@@ -8,14 +8,10 @@ use lib.ListN.{length}
 use lib.Dec.{eqb}
 use Rattle.fields.proofs.ChoiceLaws.{if_ind, if_ind_by}
 use Rattle.sheet.specs.declared.Kind.{Kind}
-use Rattle.sheet.specs.declared.Reading.{Reading}
-use Rattle.sheet.specs.declared.Reading.TheVariants.{End as NoRecord, Found, Refused as RecordRefused}
-use Rattle.sheet.specs.declared.Header.{Header}
-use Rattle.sheet.specs.declared.Header.TheVariants.{End, Single, Group, Refused}
-use Rattle.sheet.specs.declared.BuildAnswer.{BuildAnswer}
-use Rattle.sheet.specs.declared.BuildAnswer.TheVariants.{Built, Refused as BuildRefused}
-use Rattle.sheet.specs.declared.StepsAnswer.{StepsAnswer}
-use Rattle.sheet.specs.declared.StepsAnswer.TheVariants.{Steps, Refused as StepsRefused}
+use Rattle.sheet.specs.Reading.{Reading, End as NoRecord, Found, Refused as RecordRefused}
+use Rattle.sheet.specs.Header.{Header, End, Single, Group, Refused}
+use Rattle.sheet.specs.BuildAnswer.{BuildAnswer, Built, Refused as BuildRefused}
+use Rattle.sheet.specs.StepsAnswer.{StepsAnswer, Steps, Refused as StepsRefused}
 use Rattle.sheet.specs.Records.{Record, header_length}
 use Rattle.sheet.specs.Items.{Item, Items}
 use Rattle.sheet.specs.Numbers.{SheetNumber, mark, kind, count, address, cut, pad, long, chain, deep, BuildNumber, of_sheet, short}

@@ -1,27 +1,23 @@
--- One turn of the loops over zeros: a place passed, a place that is not zero, and the end.
-use mathlib.Core.Path.{◌≡◌, sym, ◌∙◌}
+-- The zeros of a body: those of one entry, and one turn of the loop over entries.
+use mathlib.Core.Path.{◌≡◌, refl}
 use mathlib.Core.Bool.{true, false}
 use mathlib.Core.List.{List}
-use Prim.Native.Nat.{ℕ, zero, suc, ◌+◌, ◌<◌}
+use Prim.Native.Nat.{ℕ, zero, suc, ◌+◌, ◌<◌, ◌≤◌}
 use native.Mathlib.Omega.{arith}
-use lib.ListN.{get_or}
-use borrow.Author.Tests.{eq-eqb, ne_eqb}
+use lib.ListN.{length, take, drop}
+use lib.Dec.{eqb}
+use Rattle.std.proofs.Common.{add-one, drop-cons}
+use Rattle.std.specs.List.{list_all}
 use Rattle.sheet.specs.Records.{zeros_at, pads_zero}
 
+module _ (xs : List ℕ) where
+  -- all of n bytes are zero
+  pub zeros_all : (at n : ℕ) → at + n ≤ length xs → list_all (λ b. eqb b 0) (take n (drop at xs)) ≡ zeros_at xs at n
+  unfolding zeros_at
+  zeros_all at zero h = refl
+  zeros_all at (suc n) h = let l : at < length xs = omega arith in rw (drop-cons xs at 0, add-one, zeros_all (suc at) n (omega arith))
+
 module _ (xs : List ℕ) (at : ℕ) where
-  pub zeros_more : (n n' at' b : ℕ) → n ≡ suc n' → at' ≡ at + 1 → b ≡ get_or xs at 0 → b ≡ 0 → zeros_at xs at' n' ≡ zeros_at xs at n
-  unfolding zeros_at
-  zeros_more n n' at' b e f g z = rw (e, f, eq-eqb _ _ (sym g ∙ z))
-
-  pub zeros_not : (n b : ℕ) → 0 < n → b ≡ get_or xs at 0 → (b ≡ 0 → ⊥) → zeros_at xs at n ≡ false
-  unfolding zeros_at
-  zeros_not zero b e g z = absurd (omega arith)
-  zeros_not (suc n) b e g z = rw (← g, ne_eqb b 0 z)
-
-  pub zeros_end : (n : ℕ) → n ≡ 0 → zeros_at xs at n ≡ true
-  unfolding zeros_at
-  zeros_end n e = rw e
-
   pub pads_more : (n n' at' : ℕ) → n ≡ suc n' → at' ≡ at + 16 → zeros_at xs (at + 9) 7 ≡ true → pads_zero xs at' n' ≡ pads_zero xs at n
   unfolding pads_zero
   pads_more n n' at' e f z = rw (e, f, z)

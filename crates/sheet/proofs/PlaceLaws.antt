@@ -6,10 +6,8 @@ use native.Mathlib.Omega.{arith}
 use lib.ListN.{length}
 use Rattle.sheet.proofs.ReaderLaws.{found_next}
 use Rattle.sheet.specs.declared.sums.Totals.{Totals}
-use Rattle.sheet.specs.declared.Header.{Header}
-use Rattle.sheet.specs.declared.Header.TheVariants.{End, Single, Group, Refused}
-use Rattle.sheet.specs.declared.items.ItemAnswer.{ItemAnswer}
-use Rattle.sheet.specs.declared.items.ItemAnswer.TheVariants.{Found}
+use Rattle.sheet.specs.Header.{Header, End, Single, Group, Refused}
+use Rattle.sheet.specs.ItemAnswer.{Found}
 use Rattle.sheet.specs.Items.{Item, group, Items, then}
 use Rattle.sheet.specs.Groups.{header_at}
 use Rattle.sheet.specs.Groups.{ItemRead, ended, item, refused, MembersRead, members, broken, before, on_member, members_from, grouped, group_from, item_at}
@@ -89,9 +87,8 @@ found_item ended e = absurd (let z : ◌≡◌ {A = ℕ} 0 1 = cc in omega arith
 found_item (item i to) e = (i, cc)
 found_item (refused k offset) e = absurd (let z : ◌≡◌ {A = ℕ} 0 1 = cc in omega arith)
 
-pub answer_after : (sheet : List ℕ) (depth at : ℕ) {r : ItemAnswer} {next : ℕ} {t : Totals} → r ≡ answered (item_at sheet depth at) → r ≡ Found next t
-    → After at next (length sheet)
-answer_after sheet depth at {r} {next} re q = let f = found_item (item_at sheet depth at) (sym re ∙ q) in item_after sheet depth at next f.0 f.1
+pub answer_after : (sheet : List ℕ) (depth at : ℕ) {next : ℕ} {t : Totals} → Found next t ≡ answered (item_at sheet depth at) → After at next (length sheet)
+answer_after sheet depth at {next} e = let f = found_item (item_at sheet depth at) (sym e) in item_after sheet depth at next f.0 f.1
 
 -- ---- what is no end
 

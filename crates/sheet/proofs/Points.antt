@@ -6,7 +6,7 @@ use native.Mathlib.Omega.{arith}
 use lib.ListN.{length, replicate}
 use Rattle.fields.specs.Fields.{if}
 use Rattle.sheet.specs.declared.Kind.TheVariants.{Data, Start}
-use Rattle.sheet.specs.declared.items.ItemAnswer.TheVariants.{Found, Refused}
+use Rattle.sheet.specs.ItemAnswer.{Found, Refused}
 use Rattle.sheet.specs.Records.{Record, record_of}
 use Rattle.sheet.specs.Reader.{valid, refused, marked, kind_of, row_refusal, record_refusal, reading_at, records_from, contents_from}
 use Rattle.sheet.specs.Layout.{laid_out, chain_of}

@@ -6,12 +6,16 @@ use Prim.Native.Nat.{ℕ, zero, suc, ◌+◌, ◌*◌, ◌-◌, ◌≤◌, ◌<�
 use native.Mathlib.Omega.{arith}
 use lib.ListN.{length, get_or}
 use lib.Dec.{eqb, leb, ltb}
-use borrow.Author.Tests.{lt-ltb, le-ltb, ltb-false, not-false, leb-true, le-leb, eqb-true, eqb-false}
+use borrow.Author.Tests.{lt-leb, lt-ltb, le-ltb, ltb-false, not-false, leb-true, le-leb, eqb-true, eqb-false}
 use Rattle.fields.specs.Fields.{if}
 use Rattle.fields.proofs.ChoiceLaws.{if_ind_by, if_zero, and_left, and_right}
+use Rattle.fields.specs.declared.refusals.Refusal.{Refusal}
+use Rattle.fields.specs.declared.refusals.Refusal.TheVariants.{KindWrong, MarkWrong, CountWrong, AddressWrong, RecordCut, PadWrong}
+use Rattle.fields.specs.Refusals.{refusal_number, mark_wrong, kind_wrong, count_wrong, address_wrong, record_cut, pad_wrong}
+use Rattle.fields.proofs.RefusalLaws.{refusal_not_none}
+use Rattle.std.proofs.Common.{Result, Ok, Err}
 use Rattle.sheet.specs.declared.Kind.{Kind}
-use Rattle.sheet.specs.declared.Reading.{Reading}
-use Rattle.sheet.specs.declared.Reading.TheVariants.{End, Found, Refused}
+use Rattle.sheet.specs.Reading.{Reading, End, Found, Refused}
 use Rattle.sheet.specs.Records.{record_of, kind_number, count_fits, address_fits, body_length, bytes_at, pads_fit}
 use Rattle.sheet.specs.Reader.{Contents, valid, refused, before, marked, kind_listed, kind_of, kind_at, count_at, address_at, next_at, row_refusal, record_refusal, reading_at, on_reading, records_from, contents_from}
 
@@ -28,6 +32,81 @@ cut l at n e h = lt-ltb l (at + n) (omega arith)
 
 pub not_cut : (l at n : ℕ) {m : ℕ} → m ≡ n → at ≤ l → m ≤ l - at → ltb l (at + n) ≡ false
 not_cut l at n e g h = le-ltb l (at + n) (omega arith)
+
+-- the kind of a number, and the refusal of a number that is none
+module _ {r : Result Kind Refusal} {b n : ℕ} (e : r ≡ if (kind_listed b) (Ok (kind_of b)) (Err KindWrong)) (be : b ≡ n) where
+  pub kind_found : {k : Kind} → r ≡ Ok k → (kind_listed n ≡ true) × (k ≡ kind_of n)
+  unfolding if
+  kind_found {k} h = go (kind_listed b) refl (sym h ∙ e)
+    where
+      go : (d : Bool) → kind_listed b ≡ d → Ok k ≡ if d (Ok (kind_of b)) (Err KindWrong) → (kind_listed n ≡ true) × (k ≡ kind_of n)
+      go true l q = (rw (← be) l, rw (← be) cc)
+      go false l q = absurd (let z : ◌≡◌ {A = ℕ} 0 1 = cc in omega arith)
+
+  pub kind_missed : {d : Refusal} → r ≡ Err d → (kind_listed n ≡ false) × (d ≡ KindWrong)
+  unfolding if
+  kind_missed {d} h = go (kind_listed b) refl (sym h ∙ e)
+    where
+      go : (x : Bool) → kind_listed b ≡ x → Err d ≡ if x (Ok (kind_of b)) (Err KindWrong) → (kind_listed n ≡ false) × (d ≡ KindWrong)
+      go true l q = absurd (let z : ◌≡◌ {A = ℕ} 0 1 = cc in omega arith)
+      go false l q = (rw (← be) l, cc)
+
+-- ---- what `record_at` answers
+
+module _ (sheet : List ℕ) (at : ℕ) (below : at < length sheet) where
+  -- a refusal of the record, and the record where there is none
+  pub refused_at : (e : Refusal) → record_refusal sheet at ≡ refusal_number e → Refused (refusal_number e) at ≡ reading_at sheet at
+  unfolding reading_at if
+  refused_at e h = rw (lt-leb (length sheet) at below, h, refusal_not_none e)
+
+  pub whole_at : {k : Kind} {n a next : ℕ} → record_refusal sheet at ≡ 0 → k ≡ kind_at sheet at → n ≡ count_at sheet at → a ≡ address_at sheet at
+      → next ≡ at + 6 + body_length k n
+      → Found k n a next ≡ reading_at sheet at
+  unfolding reading_at if
+  whole_at h ke ne ae xe = rw (lt-leb (length sheet) at below, h, xe, ke, ne, ae)
+
+  pub header_cut : length sheet - at < 6 → Refused record_cut at ≡ reading_at sheet at
+  unfolding record_refusal if
+  header_cut h = refused_at RecordCut (rw (cut (length sheet) at 6 refl h))
+
+  -- the tests passed one after another
+  module _ (whole : 6 ≤ length sheet - at) where
+    pub mark_missed : marked sheet at ≡ false → Refused mark_wrong at ≡ reading_at sheet at
+    unfolding record_refusal if
+    mark_missed m = refused_at MarkWrong (rw (not_cut (length sheet) at 6 refl (omega arith) whole, m))
+
+    module _ (m : marked sheet at ≡ true) where
+      pub kind_wrong_at : kind_listed (get_or sheet (at + 2) 0) ≡ false → Refused kind_wrong at ≡ reading_at sheet at
+      unfolding record_refusal if
+      kind_wrong_at l = refused_at KindWrong (rw (not_cut (length sheet) at 6 refl (omega arith) whole, m, l))
+
+      module _ {k : Kind} {n a : ℕ} (l : (kind_listed (get_or sheet (at + 2) 0) ≡ true) × (k ≡ kind_at sheet at)) (ne : n ≡ count_at sheet at) (ae : a ≡ address_at sheet at) where
+        by_row : record_refusal sheet at ≡ row_refusal sheet at
+        unfolding record_refusal if
+        by_row = rw (not_cut (length sheet) at 6 refl (omega arith) whole, m, l.0)
+
+        pub count_missed : count_fits k n ≡ false → Refused count_wrong at ≡ reading_at sheet at
+        unfolding row_refusal if
+        count_missed c = refused_at CountWrong (by_row ∙ rw (← l.1, ← ne, c))
+
+        module _ (c : count_fits k n ≡ true) where
+          pub address_missed : address_fits k a ≡ false → Refused address_wrong at ≡ reading_at sheet at
+          unfolding row_refusal if
+          address_missed b = refused_at AddressWrong (by_row ∙ rw (← l.1, ← ne, c, ← ae, b))
+
+          module _ (b : address_fits k a ≡ true) {next : ℕ} (xe : next ≡ at + 6 + body_length k n) where
+            pub body_cut : length sheet < next → Refused record_cut at ≡ reading_at sheet at
+            unfolding row_refusal if
+            body_cut h = refused_at RecordCut (by_row ∙ rw (← l.1, ← ne, c, ← ae, b, lt-ltb _ _ (rw xe at h)))
+
+            module _ (h : next ≤ length sheet) where
+              pub pad_missed : pads_fit k sheet (at + 6) n ≡ false → Refused pad_wrong at ≡ reading_at sheet at
+              unfolding row_refusal if
+              pad_missed p = refused_at PadWrong (by_row ∙ rw (← l.1, ← ne, c, ← ae, b, le-ltb _ _ (rw xe at h), p))
+
+              pub record_whole : pads_fit k sheet (at + 6) n ≡ true → Found k n a next ≡ reading_at sheet at
+              unfolding row_refusal if
+              record_whole p = whole_at (by_row ∙ rw (← l.1, ← ne, c, ← ae, b, le-ltb _ _ (rw xe at h), p)) l.1 ne ae xe
 
 -- a record that stands whole at a place and meets its row
 pub record Stands (sheet : List ℕ) (at : ℕ) : Type 0 where

@@ -4,8 +4,7 @@ use mathlib.Core.List.{List, [], ◌∷◌}
 use Prim.Native.Nat.{ℕ, ◌+◌}
 use native.Mathlib.Omega.{arith}
 use Rattle.sheet.specs.declared.Kind.{Kind}
-use Rattle.sheet.specs.declared.Reading.{Reading}
-use Rattle.sheet.specs.declared.Reading.TheVariants.{End, Found, Refused}
+use Rattle.sheet.specs.Reading.{Reading, End, Found, Refused}
 use Rattle.sheet.specs.Records.{Record, record_of, body_length, bytes_at}
 use Rattle.sheet.specs.Reader.{Contents, valid, refused, before, reading_at, contents_from}
 use Rattle.sheet.proofs.ReaderLaws.{from_end, from_found, from_refused}

@@ -1,13 +1,11 @@
 -- Sums over the expansion, and sums that stop.
 use mathlib.Core.Path.{◌≡◌, refl, ◌∙◌}
 use mathlib.Core.List.{List, [], ◌∷◌, ◌++◌}
-use Prim.Native.Nat.{ℕ, zero, suc, ◌+◌, ◌*◌, ◌^◌, ◌<◌, ◌≤◌}
-use native.Mathlib.Nat.{add-zero, zero-add, add_assoc, zero-mul, mul-le-mul, min-eq_left, min-eq_right}
+use Prim.Native.Nat.{ℕ, zero, suc, ◌+◌, ◌*◌, ◌≤◌}
+use native.Mathlib.Nat.{add-zero, zero-add, add_assoc, zero-mul, min-eq_left, min-eq_right}
 use native.Mathlib.Omega.{arith}
 use mathlib.Core.Bool.{Bool, true, false}
 use lib.Dec.{leb}
-use mir.Syntax.{w64}
-use mir.Val.{Fits}
 use borrow.Author.Tests.{leb-true, leb-false}
 use Rattle.sheet.specs.Records.{Record}
 use Rattle.sheet.specs.Sizes.{sheet_quadwords, sheet_steps, sheet_entries}
@@ -116,10 +114,3 @@ joined_last n t = rw (none_more n t.quadwords, none_more n t.steps, none_more n 
 pub totals_one : (r : Record) → totals_of (r ∷ []) ≡ capped_totals (quadwords r) (steps r) (entries r)
 unfolding totals_of sum_of
 totals_one r = simp add-zero
-
--- a product of a number of 32 bits and a sum that stops
-pub product_fits : (n a : ℕ) {b : ℕ} → b ≡ capped a → n < 2 ^ 32 → Fits w64 (n * b)
-product_fits n a {b} e h =
-    let l : b ≤ 1048576 = omega arith in
-    let m : n * b ≤ 4294967295 * 1048576 = mul-le-mul {n₁ = n} {m₁ = b} {n₂ = 4294967295} {m₂ = 1048576} (omega arith) l in
-    record { fits = omega arith }

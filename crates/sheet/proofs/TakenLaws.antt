@@ -14,7 +14,7 @@ use Rattle.fields.specs.Refusals.{chain_long}
 use Rattle.fields.proofs.ChoiceLaws.{and_false}
 use Rattle.sheet.specs.declared.Kind.{Kind}
 use Rattle.sheet.specs.declared.Kind.TheVariants.{Data, Code, Gs, Start}
-use Rattle.sheet.specs.declared.Header.TheVariants.{Single, Group}
+use Rattle.sheet.specs.Header.{Single, Group}
 use Rattle.sheet.specs.Records.{Record, longest, kind_number}
 use Rattle.sheet.specs.Reader.{valid, refused, marked, address_at}
 use Rattle.sheet.specs.Sizes.{sheet_steps}
@@ -59,7 +59,7 @@ plain_there sheet at {k} f = rw (f.kind, not_group k, and_false (marked sheet at
 record_taken : (sheet : List ℕ) (depth at : ℕ) (r : Record) (rest : List ℕ) → MeetsRow r → drop at sheet ≡ record_bytes r ++ rest → TakenItem sheet depth at (single r) rest
 record_taken sheet depth at r rest m e =
     let f = there sheet at r rest m e in
-    let h : header_at sheet depth at ≡ Single r.kind r.count r.address (after sheet at r rest m e) = sym (header_plain sheet depth at (plain_there sheet at f) refl (there_found sheet at f)) in
+    let h : header_at sheet depth at ≡ Single r.kind r.count r.address (after sheet at r rest m e) = sym (header_plain sheet depth at (plain_there sheet at f) (sym (there_found sheet at f))) in
     record {
       next = after sheet at r rest m e;
       found = item_single sheet at depth h ∙ rw (body sheet at r rest m e);
@@ -96,7 +96,7 @@ module _ (sheet : List ℕ) (s : starts_second sheet ≡ true) (depth at n : ℕ
       rw (byte 3, ne_eqb n 0 (λ z. omega arith), address, ne_eqb (count_of is) 0 (λ z. omega arith), ne_eqb (suc depth) 0 (λ z. omega arith))
 
   header : header_at sheet (suc depth) at ≡ Group n (count_of is)
-  header = sym (header_group sheet (suc depth) at opened refl unrefused (sym (byte 3)) (sym address))
+  header = sym (header_group sheet (suc depth) at opened (sym unrefused) (sym (byte 3)) (sym address))
 
   inside_bytes : drop (at + 6) sheet ≡ items_bytes is ++ rest
   inside_bytes = rw (← drop-drop 6 at sheet, bytes)

@@ -12,8 +12,7 @@ use lib.Seq.{get_or-drop, drop-drop}
 use lib.Dec.{eqb, leb}
 use Rattle.fields.specs.Fields.{if}
 use Rattle.fields.proofs.ChoiceLaws.{if_zero, and_left, and_right}
-use Rattle.sheet.specs.declared.Header.{Header}
-use Rattle.sheet.specs.declared.Header.TheVariants.{End, Single, Group, Refused}
+use Rattle.sheet.specs.Header.{Header, End, Single, Group, Refused}
 use Rattle.sheet.specs.Records.{Record, record_of, body_length, bytes_at}
 use Rattle.sheet.specs.Reader.{Contents, valid, refused, marked, count_at, address_at}
 use Rattle.sheet.specs.Items.{Item, single, group, Items, none, then, expanded_item, expanded}

@@ -8,8 +8,7 @@ use lib.ListN.{length, get_or, take, drop, take-append-drop, drop_of_length-le, 
 use lib.Seq.{drop-cons, length-take-le, get_or-take, get_or-drop, drop-drop}
 use Rattle.sheet.specs.declared.Kind.{Kind}
 use Rattle.sheet.specs.declared.Kind.TheVariants.{Data, Code, Gs, Start}
-use Rattle.sheet.specs.declared.Reading.{Reading}
-use Rattle.sheet.specs.declared.Reading.TheVariants.{End, Found, Refused}
+use Rattle.sheet.specs.Reading.{Reading, End, Found, Refused}
 use Rattle.sheet.specs.Records.{Record, record_of, body_length, bytes_at, zeros_at, pads_zero, pads_fit}
 use Rattle.sheet.specs.Reader.{Contents, valid, refused, before, reading_at, contents_from}
 use Rattle.sheet.specs.Whole.{record_bytes, sheet_bytes, MeetsRow, AllMeet, none, more, Bytes}

@@ -1,12 +1,27 @@
 -- What is done with the records of an expansion, one after another: any action on a state, once for the chain and the meaning.
--- Of the promises of public functions only that of `first_item` cites it.
-use Rattle.std.specs.Prelude.{ℕ, ◌≡◌, List}
+-- Of the promises of public functions only those of `first_item` and `act_on` cite it.
+use Rattle.std.specs.Prelude.{ℕ, ◌+◌, ◌≤◌, ◌≡◌, true, List, [], length}
 use Rattle.fields.specs.Fields.{if}
-use Rattle.sheet.specs.Records.{Record, header_length}
+use Rattle.sheet.specs.declared.Kind.{Kind}
+use Rattle.sheet.specs.Records.{Record, header_length, count_fits, address_fits, body_length}
 use Rattle.sheet.specs.Reader.{Contents, valid, refused}
 use Rattle.sheet.specs.Items.{Item, Items, repeated, expanded_item, expanded}
 use Rattle.sheet.specs.Groups.{starts_second, ItemRead, ended, item, refused as itemRefused, MembersRead, members, broken}
 use Rattle.sheet.specs.Editions.{expansion_from}
+
+abbrev pub RecordList : Type 0
+RecordList = List Record
+
+-- the records of accepted contents
+abbrev pub records_in : Contents → List Record
+records_in (valid rs) = rs
+records_in (refused n offset) = []
+
+-- a record whose body stands at a place of the sheet, and whose numbers fit its kind
+pub record RecordThere (sheet : List ℕ) (body : ℕ) (k : Kind) (n a : ℕ) : Type 0 where
+  pub counted : count_fits k n ≡ true
+  pub addressed : address_fits k a ≡ true
+  pub inside : body + body_length k n ≤ length sheet
 
 -- what is left: the place after what was read, and the state
 pub record Done (S : Type 0) : Type 0 where

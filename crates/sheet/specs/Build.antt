@@ -2,8 +2,7 @@
 use Rattle.std.specs.Prelude.{ℕ, List, ◌++◌, length, drop, ltb}
 use Rattle.fields.specs.Refusals.{output_short}
 use Rattle.fields.specs.Fields.{if}
-use Rattle.sheet.specs.declared.BuildAnswer.{BuildAnswer}
-use Rattle.sheet.specs.declared.BuildAnswer.TheVariants.{Built, Refused}
+use Rattle.sheet.specs.BuildAnswer.{BuildAnswer, Built, Refused}
 use Rattle.sheet.specs.Reader.{Contents, valid, refused}
 use Rattle.sheet.specs.Layout.{chain_of}
 use Rattle.sheet.specs.Editions.{contents_of}

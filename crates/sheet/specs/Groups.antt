@@ -3,10 +3,8 @@
 use Rattle.std.specs.Prelude.{ℕ, zero, suc, ◌+◌, Bool, ◌&&◌, List, length, get_or, eqb, leb}
 use Rattle.fields.specs.Fields.{if}
 use Rattle.fields.specs.Refusals.{count_wrong, address_wrong, record_cut, group_deep}
-use Rattle.sheet.specs.declared.Reading.{Reading}
-use Rattle.sheet.specs.declared.Reading.TheVariants.{End as NoRecord, Found, Refused as RecordRefused}
-use Rattle.sheet.specs.declared.Header.{Header}
-use Rattle.sheet.specs.declared.Header.TheVariants.{End, Single, Group, Refused}
+use Rattle.sheet.specs.Reading.{Reading, End as NoRecord, Found, Refused as RecordRefused}
+use Rattle.sheet.specs.Header.{Header, End, Single, Group, Refused}
 use Rattle.sheet.specs.Records.{record_of, header_length, body_length, bytes_at}
 use Rattle.sheet.specs.Reader.{marked, count_at, address_at, reading_at}
 use Rattle.sheet.specs.Items.{Item, single, group, Items, none, then}

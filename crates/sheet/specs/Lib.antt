@@ -15,3 +15,11 @@ pub mod Match
 pub mod Acts
 pub mod Sums
 pub mod Fed
+pub mod Reading
+pub mod Header
+pub mod ItemAnswer
+pub mod Measured
+pub mod BuildAnswer
+pub mod StepsAnswer
+pub mod MeaningAnswer
+pub mod MatchAnswer

@@ -3,8 +3,7 @@ use Rattle.std.specs.Prelude.{ℕ, suc, Bool, ◌&&◌, List, [], ◌∷◌, len
 use Rattle.fields.specs.Fields.{if}
 use Rattle.gif.specs.declared.Entry.{Entry}
 use Rattle.gif.specs.Log.{entries_in}
-use Rattle.sheet.specs.declared.MatchAnswer.{MatchAnswer}
-use Rattle.sheet.specs.declared.MatchAnswer.TheVariants.{Matched, Refused as MatchRefused}
+use Rattle.sheet.specs.MatchAnswer.{MatchAnswer, Matched, Refused as MatchRefused}
 use Rattle.sheet.specs.Reader.{Contents, valid, refused}
 use Rattle.sheet.specs.Editions.{contents_of}
 use Rattle.sheet.specs.Meaning.{Plain, plain, meaning_of}

@@ -5,8 +5,7 @@ use Rattle.fields.specs.Refusals.{mark_wrong, kind_wrong, count_wrong, address_w
 use Rattle.fields.specs.Fields.{if}
 use Rattle.sheet.specs.declared.Kind.{Kind}
 use Rattle.sheet.specs.declared.Kind.TheVariants.{Data, Code, Gs, Start}
-use Rattle.sheet.specs.declared.Reading.{Reading}
-use Rattle.sheet.specs.declared.Reading.TheVariants.{End, Found, Refused}
+use Rattle.sheet.specs.Reading.{Reading, End, Found, Refused}
 use Rattle.sheet.specs.Records.{Record, record_of, header_length, count_fits, address_fits, body_length, bytes_at, pads_fit}
 
 -- "mark 9Eh 51h"

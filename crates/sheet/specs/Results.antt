@@ -6,10 +6,8 @@ use Rattle.gif.specs.declared.Entry.{Entry}
 use Rattle.gif.specs.Log.{entry_size, numbers, entries_in}
 use Rattle.memories.specs.declared.VifUnit.TheVariants.{Vif1}
 use Rattle.memories.specs.Lengths.{lent, lengths_refusal}
-use Rattle.sheet.specs.declared.StepsAnswer.{StepsAnswer}
-use Rattle.sheet.specs.declared.StepsAnswer.TheVariants.{Steps, Refused as StepsRefused}
-use Rattle.sheet.specs.declared.MeaningAnswer.{MeaningAnswer}
-use Rattle.sheet.specs.declared.MeaningAnswer.TheVariants.{Meant, Refused as MeaningRefused}
+use Rattle.sheet.specs.StepsAnswer.{StepsAnswer, Steps, Refused as StepsRefused}
+use Rattle.sheet.specs.MeaningAnswer.{MeaningAnswer, Meant, Refused as MeaningRefused}
 use Rattle.sheet.specs.Reader.{Contents, valid, refused}
 use Rattle.sheet.specs.Editions.{contents_of}
 use Rattle.sheet.specs.Sizes.{sheet_steps, sheet_entries}

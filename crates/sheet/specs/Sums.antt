@@ -4,10 +4,8 @@ use Rattle.std.specs.Prelude.{ℕ, ◌+◌, ◌*◌, min, List, [], ◌∷◌, l
 use Rattle.fields.specs.Fields.{if}
 use Rattle.fields.specs.Refusals.{chain_long}
 use Rattle.sheet.specs.declared.sums.Totals.{Totals}
-use Rattle.sheet.specs.declared.items.ItemAnswer.{ItemAnswer}
-use Rattle.sheet.specs.declared.items.ItemAnswer.TheVariants.{End, Found, Refused}
-use Rattle.sheet.specs.declared.Measured.{Measured}
-use Rattle.sheet.specs.declared.Measured.TheVariants.{Whole, Refused as MeasureRefused}
+use Rattle.sheet.specs.ItemAnswer.{ItemAnswer, End, Found, Refused}
+use Rattle.sheet.specs.Measured.{Measured, Whole, Refused as MeasureRefused}
 use Rattle.sheet.specs.Records.{Record}
 use Rattle.sheet.specs.Reader.{Contents, valid, refused}
 use Rattle.sheet.specs.Sizes.{record_quadwords, record_steps, entries_of, sheet_quadwords, sheet_steps, sheet_entries}

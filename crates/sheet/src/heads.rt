@@ -1,30 +1,25 @@
 // Headers: of the first record, which says the edition, and of the item at a place.
 ghost use Rattle.std.specs.Prelude.{◌≡◌, ◌+◌, ◌≤◌, length};
+ghost use Rattle.fields.specs.Refusals.{refusal_in};
+ghost use Rattle.sheet.specs.Header.{header};
 ghost use Rattle.sheet.specs.Groups.{opens_kind, starts_second, opens_group, group_refusal, header_at};
 ghost use Rattle.sheet.specs.Editions.{edition_refusal};
 ghost use Rattle.sheet.specs.Acts.{first_item};
 
 use super::reader::{address_at, byte_at, count_at, has_mark, read_record};
-use super::{Header, Reading};
-use fields::refusals;
+use super::{Item, SheetError};
+use fields::Refusal;
 
 // Whether a header of kind k stands whole at a place.
+#[tactic(auto, unfolding(crate::specs::Groups::opens_kind))]
 fn opens_kind(k: u32, sheet: &[u8], at: usize) -> bool
     ensures { result ≡ opens_kind k sheet.now at }
 {
-    if sheet.len() <= at {
-        return false;
-    }
-    if sheet.len() - at < 6 {
-        return false;
-    }
-    if has_mark(sheet, at) {
-        return byte_at(sheet, at + 2) == k;
-    }
-    false
+    at < sheet.len() && 6 <= sheet.len() - at && has_mark(sheet, at) && byte_at(sheet, at + 2) == k
 }
 
 // Whether the first record is of kind 0.
+#[tactic(auto, unfolding(crate::specs::Groups::starts_second))]
 pub(crate) fn starts_second(sheet: &[u8]) -> bool
     ensures { result ≡ starts_second sheet.now }
 {
@@ -35,80 +30,63 @@ pub(crate) fn starts_second(sheet: &[u8]) -> bool
 pub fn first_item(sheet: &[u8]) -> usize
     ensures { result ≡ first_item sheet.now }
 {
-    if starts_second(sheet) {
-        return 6;
-    }
-    0
+    if starts_second(sheet) { 6 } else { 0 }
 }
 
-// The refusal of a first record of kind 0, 0 where there is none.
-pub(crate) fn edition_refusal(sheet: &[u8]) -> u32
+// Refuses a first record of kind 0 by its row.
+pub(crate) fn test_edition(sheet: &[u8]) -> Result<(), Refusal>
     requires { 6 ≤ length sheet.now }
-    ensures { result ≡ edition_refusal sheet.now }
+    ensures { refusal_in result ≡ edition_refusal sheet.now }
 {
     if count_at(sheet, 0) != 2 {
-        return refusals::COUNT_WRONG;
+        return Err(Refusal::CountWrong);
     }
     if address_at(sheet, 0) != 0 {
-        return refusals::ADDRESS_WRONG;
+        return Err(Refusal::AddressWrong);
     }
-    0
+    Ok(())
 }
 
 // Whether a group's header stands at a place.
+#[tactic(auto, unfolding(crate::specs::Groups::opens_group))]
 fn opens_group(sheet: &[u8], at: usize) -> bool
     ensures { result ≡ opens_group sheet.now at }
 {
-    if opens_kind(5, sheet, at) {
-        return starts_second(sheet);
-    }
-    false
+    opens_kind(5, sheet, at) && starts_second(sheet)
 }
 
-// The refusal of a group's header, 0 where there is none.
-fn group_refusal(sheet: &[u8], depth: u32, at: usize) -> u32
+// Refuses a group's header.
+fn test_group(sheet: &[u8], depth: u32, at: usize) -> Result<(), Refusal>
     requires { at + 6 ≤ length sheet.now }
-    ensures { result ≡ group_refusal depth sheet.now at }
+    ensures { refusal_in result ≡ group_refusal depth sheet.now at }
 {
     if count_at(sheet, at) == 0 {
-        return refusals::COUNT_WRONG;
+        return Err(Refusal::CountWrong);
     }
     if address_at(sheet, at) == 0 {
-        return refusals::ADDRESS_WRONG;
+        return Err(Refusal::AddressWrong);
     }
     if depth == 0 {
-        return refusals::GROUP_DEEP;
+        return Err(Refusal::GroupDeep);
     }
-    0
+    Ok(())
 }
 
-// What the header at a place says, where groups may stand so deep.
-pub fn read_header(sheet: &[u8], depth: u32, at: usize) -> Header
-    ensures { result ≡ header_at sheet.now depth at }
+// What the header at a place says, where groups may stand so deep: None at the sheet's end.
+pub fn read_header(sheet: &[u8], depth: u32, at: usize) -> Result<Option<Item>, SheetError>
+    ensures { header result ≡ header_at sheet.now depth at }
 {
-    if opens_group(sheet, at) {
-        let number = group_refusal(sheet, depth, at);
-        if number != 0 {
-            return Header::Refused { number, offset: at };
-        }
-        return Header::Group {
+    if !opens_group(sheet, at) {
+        return Ok(read_record(sheet, at)?.map(Item::Single));
+    }
+    match test_group(sheet, depth, at) {
+        Ok(()) => Ok(Some(Item::Group {
             repetitions: count_at(sheet, at),
             members: address_at(sheet, at),
-        };
-    }
-    match read_record(sheet, at) {
-        Reading::End => Header::End,
-        Reading::Found {
-            kind,
-            count,
-            address,
-            next,
-        } => Header::Single {
-            kind,
-            count,
-            address,
-            next,
-        },
-        Reading::Refused { number, offset } => Header::Refused { number, offset },
+        })),
+        Err(refusal) => Err(SheetError {
+            refusal,
+            offset: at,
+        }),
     }
 }

@@ -2,12 +2,17 @@
 // What each function means is said by the definitions of specs/.
 #![tactic(auto)]
 
+mod acts;
 mod heads;
 mod items;
 mod reader;
 mod sums;
 mod totals;
 
+ghost use Rattle.std.specs.Prelude.{◌≡◌};
+
+pub use acts::{Act, act_on};
+use fields::Refusal;
 pub use heads::{first_item, read_header};
 pub use reader::{body_length, read_record};
 pub use sums::Totals;
@@ -19,7 +24,7 @@ pub const LONGEST: usize = 131072;
 // The bytes of a chain at most.
 pub(crate) const LONGEST_CHAIN: u64 = 1048576;
 
-#[derive(Clone, Copy)]
+#[derive(Debug, Clone, Copy, PartialEq, Eq)]
 pub enum Kind {
     Data,
     Code,
@@ -27,73 +32,41 @@ pub enum Kind {
     Start,
 }
 
-// What stands at a place of a sheet: its end, a record with the place after it, or a refusal with the record's offset.
-#[derive(Clone, Copy)]
-pub enum Reading {
-    End,
-    Found {
-        kind: Kind,
-        count: u32,
-        address: u32,
-        next: usize,
-    },
-    Refused {
-        number: u32,
-        offset: usize,
-    },
+// A refusal, and the offset of its record.
+#[derive(Debug, Clone, Copy, PartialEq, Eq)]
+pub struct SheetError {
+    pub refusal: Refusal,
+    pub offset: usize,
+}
+
+// A refusal of the whole sheet, or of what came with it.
+impl From<Refusal> for SheetError {
+    ghost from_gives = { λ refusal e. e ≡ record { refusal = refusal; offset = 0 } };
+
+    fn from(refusal: Refusal) -> SheetError {
+        SheetError { refusal, offset: 0 }
+    }
+}
+
+// A record, and the place after it.
+#[derive(Debug, Clone, Copy, PartialEq, Eq)]
+pub struct Record {
+    pub kind: Kind,
+    pub count: u32,
+    pub address: u32,
+    pub next: usize,
 }
 
 // What the header at a place says.
-#[derive(Clone, Copy)]
-pub enum Header {
-    End,
-    Single {
-        kind: Kind,
-        count: u32,
-        address: u32,
-        next: usize,
-    },
-    Group {
-        repetitions: u32,
-        members: u32,
-    },
-    Refused {
-        number: u32,
-        offset: usize,
-    },
+#[derive(Debug, Clone, Copy, PartialEq, Eq)]
+pub enum Item {
+    Single(Record),
+    Group { repetitions: u32, members: u32 },
 }
 
-// The sums of a sheet, or its refusal.
-#[derive(Clone, Copy)]
-pub enum Measured {
-    Whole(Totals),
-    Refused { number: u32, offset: usize },
-}
-
-// The chain's length in bytes, or a refusal with the record's offset.
-#[derive(Clone, Copy)]
-pub enum BuildAnswer {
-    Built(usize),
-    Refused { number: u32, offset: usize },
-}
-
-// A sheet's steps, or its refusal.
-#[derive(Clone, Copy)]
-pub enum StepsAnswer {
-    Steps(u64),
-    Refused { number: u32, offset: usize },
-}
-
-// The entries used afterwards, or a refusal.
-#[derive(Clone, Copy)]
-pub enum MeaningAnswer {
-    Meant(u64),
-    Refused { number: u32, offset: usize },
-}
-
-// How many entries at the front of the meaning's list and of a log are the same, and how many the meaning has; or a refusal.
-#[derive(Clone, Copy)]
-pub enum MatchAnswer {
-    Matched { leading: u64, entries: u64 },
-    Refused { number: u32, offset: usize },
+// How many entries at the front of the meaning's list and of a log are the same, and how many the meaning has.
+#[derive(Debug, Clone, Copy, PartialEq, Eq)]
+pub struct Front {
+    pub leading: u64,
+    pub entries: u64,
 }

@@ -1,11 +1,11 @@
 // Sums over records: quadwords of the chain, steps and log entries, each counted up to 1,048,576.
 ghost use Rattle.std.specs.Prelude.{◌≡◌, ◌+◌, ◌*◌};
 ghost use Rattle.sheet.specs.Sizes.{record_quadwords, record_steps, entries_of};
-ghost use Rattle.sheet.specs.Sums.{capped, totals, capped_totals, end_totals, joined, scaled};
+ghost use Rattle.sheet.specs.Sums.{capped, capped_totals, joined, scaled};
 
 use super::{Kind, LONGEST_CHAIN};
 
-#[derive(Clone, Copy)]
+#[derive(Debug, Clone, Copy, PartialEq, Eq)]
 pub struct Totals {
     pub quadwords: u64,
     pub steps: u64,
@@ -15,10 +15,7 @@ pub struct Totals {
 fn least(n: u64) -> u64
     ensures { result ≡ capped n }
 {
-    if n < LONGEST_CHAIN {
-        return n;
-    }
-    LONGEST_CHAIN
+    n.min(LONGEST_CHAIN)
 }
 
 fn plus(a: u64, b: u64) -> u64
@@ -30,59 +27,16 @@ fn plus(a: u64, b: u64) -> u64
 fn times(n: u32, a: u64) -> u64
     ensures { result ≡ capped (n * a) }
 {
-    least(n as u64 * least(a))
-}
-
-pub(crate) fn none() -> Totals
-    ensures { result ≡ totals 0 0 0 }
-{
-    Totals {
-        quadwords: 0,
-        steps: 0,
-        entries: 0,
-    }
-}
-
-// The end tag is one quadword and one step.
-pub(crate) fn end_totals() -> Totals
-    ensures { result ≡ end_totals }
-{
-    Totals {
-        quadwords: 1,
-        steps: 1,
-        entries: 0,
-    }
-}
-
-// Two sums as one.
-pub(crate) fn joined(t: Totals, u: Totals) -> Totals
-    ensures { result ≡ joined t u }
-{
-    Totals {
-        quadwords: plus(t.quadwords, u.quadwords),
-        steps: plus(t.steps, u.steps),
-        entries: plus(t.entries, u.entries),
-    }
-}
-
-// A sum so many times.
-pub(crate) fn scaled(n: u32, t: Totals) -> Totals
-    ensures { result ≡ scaled n t }
-{
-    Totals {
-        quadwords: times(n, t.quadwords),
-        steps: times(n, t.steps),
-        entries: times(n, t.entries),
-    }
+    least(u64::from(n) * least(a))
 }
 
 fn quadwords_of(kind: Kind, n: u32) -> u64
     ensures { result ≡ record_quadwords kind n }
 {
-    let count = n as u64;
+    let count = u64::from(n);
     match kind {
         Kind::Data => 2 + count,
-        Kind::Code => 2 + (count + 1) / 2,
+        Kind::Code => 2 + count.div_ceil(2),
         Kind::Gs => 3 + count,
         Kind::Start => 2,
     }
@@ -91,10 +45,10 @@ fn quadwords_of(kind: Kind, n: u32) -> u64
 fn steps_of(kind: Kind, n: u32) -> u64
     ensures { result ≡ record_steps kind n }
 {
-    let count = n as u64;
+    let count = u64::from(n);
     match kind {
         Kind::Data => 5 + 4 * count,
-        Kind::Code => 5 + 4 * ((count + 1) / 2),
+        Kind::Code => 5 + 4 * count.div_ceil(2),
         Kind::Gs => 6 + count,
         Kind::Start => 5,
     }
@@ -104,20 +58,58 @@ fn entries_of(kind: Kind, n: u32) -> u64
     ensures { result ≡ entries_of kind n }
 {
     match kind {
-        Kind::Data => 0,
-        Kind::Code => 0,
-        Kind::Gs => n as u64,
+        Kind::Data | Kind::Code => 0,
+        Kind::Gs => u64::from(n),
         Kind::Start => 1,
     }
 }
 
-// The sums of a record.
-pub(crate) fn record_totals(kind: Kind, n: u32) -> Totals
-    ensures { result ≡ capped_totals (record_quadwords kind n) (record_steps kind n) (entries_of kind n) }
-{
-    Totals {
-        quadwords: least(quadwords_of(kind, n)),
-        steps: least(steps_of(kind, n)),
-        entries: least(entries_of(kind, n)),
+impl Totals {
+    pub(crate) const NONE: Totals = Totals {
+        quadwords: 0,
+        steps: 0,
+        entries: 0,
+    };
+
+    // The end tag is one quadword and one step.
+    pub(crate) const END_TAG: Totals = Totals {
+        quadwords: 1,
+        steps: 1,
+        entries: 0,
+    };
+
+    // The sums of a record of so many.
+    pub(crate) fn of_record(kind: Kind, n: u32) -> Totals
+        ensures { result ≡ capped_totals (record_quadwords kind n) (record_steps kind n) (entries_of kind n) }
+    {
+        Totals {
+            quadwords: least(quadwords_of(kind, n)),
+            steps: least(steps_of(kind, n)),
+            entries: least(entries_of(kind, n)),
+        }
+    }
+
+    // Two sums as one.
+    #[tactic(auto, unfolding(crate::specs::Sums::joined))]
+    pub(crate) fn joined(self, other: Totals) -> Totals
+        ensures { result ≡ joined self other }
+    {
+        Totals {
+            quadwords: plus(self.quadwords, other.quadwords),
+            steps: plus(self.steps, other.steps),
+            entries: plus(self.entries, other.entries),
+        }
+    }
+
+    // The sum so many times.
+    #[tactic(auto, unfolding(crate::specs::Sums::scaled))]
+    pub(crate) fn scaled(self, n: u32) -> Totals
+        ensures { result ≡ scaled n self }
+    {
+        Totals {
+            quadwords: times(n, self.quadwords),
+            steps: times(n, self.steps),
+            entries: times(n, self.entries),
+        }
     }
 }

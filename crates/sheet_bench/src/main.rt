@@ -1,41 +1,30 @@
 // Builds a chain round after round, to be timed (docs/FORMATS.md, "Sheet timing input").
 #![tactic(auto)]
 
-use cases::sum_of_bytes;
-use wire::{emit, emit_long, low_word, word_at};
+use sheet_builder::build_number;
+use wire::{Output, low_word, word_at};
 
-// Answers the number that the builder gave last.
-fn rounds(sheet: &[u8], output: &mut [u8; 1048576], count: u32) -> usize {
-    let mut last = 0;
-    let mut left = count;
-    while 0 < left {
-        last = sheet_builder::build_number(sheet, output);
-        left -= 1;
-    }
-    last
-}
-
+// Tells the number that the builder gave last, and the sum of what it built.
 fn time(sheet: &[u8], output: &mut [u8; 1048576], count: u32) {
-    let last = rounds(sheet, output, count);
-    let mut out = [0u8; 65536];
-    let n = emit(&mut out, 0, low_word(last as u64));
-    let n = emit_long(&mut out, n, sum_of_bytes(output));
-    wire::flush(&out, n);
+    let mut last = 0;
+    for _ in 0..count {
+        last = build_number(sheet, output);
+    }
+    let mut out = Output::new();
+    out.emit(low_word(last as u64));
+    out.emit(cases::sum(output));
+    out.flush();
 }
 
 // The input whose header was read, where it has the length that it says.
 fn begin(header: &[u8], sheet: &mut [u8], output: &mut [u8; 1048576]) {
     let size = word_at(header, 4) as usize;
-    if 131088 < size {
+    if 131088 < size || io::read_full(0, sheet) != size.div_ceil(4) * 4 {
         return;
     }
-    if io::read_full(0, sheet) != (size + 3) / 4 * 4 {
-        return;
+    if let Some(sheet) = sheet.get(..size) {
+        time(sheet, output, word_at(header, 0));
     }
-    if sheet.len() < size {
-        return;
-    }
-    time(&sheet[..size], output, word_at(header, 0));
 }
 
 fn main() {

@@ -1,5 +1,5 @@
 -- The builder's answers.
-use mathlib.Core.Path.{◌≡◌, refl, ap}
+use mathlib.Core.Path.{◌≡◌, ap}
 use mathlib.Core.List.{List}
 use Prim.Native.Nat.{ℕ, ◌*◌, ◌/◌, ◌<◌, ◌≤◌}
 use native.Mathlib.Omega.{arith}
@@ -7,23 +7,30 @@ use borrow.Author.Tests.{lt-ltb, le-ltb}
 use lib.ListN.{length}
 use lib.Seq.{sets}
 use Rattle.fields.specs.Fields.{if}
-use Rattle.sheet.specs.declared.BuildAnswer.{BuildAnswer}
-use Rattle.sheet.specs.declared.BuildAnswer.TheVariants.{Built, Refused}
+use Rattle.sheet.specs.BuildAnswer.{Built, Refused}
 use Rattle.sheet.specs.declared.sums.Totals.{Totals}
-use Rattle.sheet.specs.declared.Measured.{Measured}
-use Rattle.sheet.specs.declared.Measured.TheVariants.{Whole, Refused as MeasureRefused}
+use Rattle.sheet.specs.Measured.{Whole, Refused as MeasureRefused}
+use Rattle.sheet.specs.Records.{Record}
+use Rattle.sheet.specs.Reader.{valid}
+use Rattle.sheet.specs.Sizes.{sheet_quadwords}
 use Rattle.sheet.specs.Layout.{chain_of}
-use Rattle.sheet.specs.Build.{Left, left, build_of, exported_number}
+use Rattle.sheet.specs.Build.{left, build_of}
 use Rattle.sheet.specs.Editions.{expansion_from, contents_of}
 use Rattle.sheet.specs.Acts.{SheetFits, first_item}
 use Rattle.sheet.specs.Sums.{measured_of}
-use Rattle.sheet_builder.specs.Writing.{chain_in, out, WriteRoom, Counted}
+use Rattle.sheet_builder.specs.Writing.{chain_in, out, WriteRoom}
 use Rattle.sheet.proofs.ListLaws.{sets_front}
 use Rattle.sheet.proofs.EditionLaws.{contents_items, contents_meet}
 use Rattle.sheet.proofs.TotalsLaws.{measured_whole, measured_refused}
 use Rattle.sheet.proofs.LayoutLaws.{chain_length}
 
--- an accepted sheet, and the room of its output
+-- an accepted sheet, whose chain has so many quadwords
+pub record Counted (sheet : List ℕ) (quadwords : ℕ) : Type 0 where
+  pub records : List Record
+  pub accepted : contents_of sheet ≡ valid records
+  pub sum : quadwords ≡ sheet_quadwords records
+
+-- such a sheet, and the room of its output
 module _ {sheet : List ℕ} (output : List ℕ) {q : ℕ} (m : Counted sheet q) where
   chain_bytes_lem : length (chain_of m.records) ≡ 16 * q
   chain_bytes_lem =
@@ -50,16 +57,12 @@ module _ {sheet : List ℕ} (output : List ℕ) {q : ℕ} (m : Counted sheet q) 
         rw (e, m.accepted, contents_items sheet m.records m.accepted, le-ltb (length output) (length (chain_of m.records)) room, sets_front output (chain_of m.records) room, chain_bytes_lem)
 
 -- a measured sheet: refused, or of so many quadwords
-module _ (sheet : List ℕ) {m : Measured} (e : m ≡ measured_of (contents_of sheet)) where
-  pub build_refused : (output : List ℕ) {n offset : ℕ} → m ≡ MeasureRefused n offset → left (Refused n offset) output ≡ build_of sheet output
+module _ (sheet : List ℕ) where
+  pub build_refused : (output : List ℕ) {n offset : ℕ} → MeasureRefused n offset ≡ measured_of (contents_of sheet) → left (Refused n offset) output ≡ build_of sheet output
   unfolding build_of
-  build_refused output q = rw (measured_refused (contents_of sheet) e q)
+  build_refused output q = rw (measured_refused (contents_of sheet) q)
 
-  pub build_counted : {t : Totals} → m ≡ Whole t → Counted sheet t.quadwords
+  pub build_counted : {t : Totals} → Whole t ≡ measured_of (contents_of sheet) → Counted sheet t.quadwords
   build_counted q =
-      let a = measured_whole (contents_of sheet) e q in
+      let a = measured_whole (contents_of sheet) q in
       record { records = a.records; accepted = a.are; sum = ap (λ (t : Totals). t.quadwords) a.sums }
-
--- the number that the bench host gets
-pub exported : {l : Left} {x y : BuildAnswer} {o : List ℕ} → left x o ≡ l → x ≡ y → (exported_number y ≡ exported_number l.answer) × (o ≡ l.output)
-exported e q = rw (← e, q) (refl, refl)

@@ -1,12 +1,12 @@
 -- The chain written record by record: what inner functions require of their input, and what they make of it; no promise of a public function cites them.
-use Rattle.std.specs.Prelude.{ℕ, ◌+◌, ◌*◌, ◌<◌, ◌≤◌, ◌≡◌, List, [], ◌∷◌, ◌++◌, length}
+use Rattle.std.specs.Prelude.{ℕ, ◌+◌, ◌*◌, ◌<◌, ◌≤◌, List, [], ◌∷◌, ◌++◌, length}
 use Rattle.std.proofs.lemmas.List.Edits.{sets}
 use Rattle.sheet.specs.declared.Kind.{Kind}
+use Rattle.sheet_builder.specs.declared.writer.Writer.{Writer}
 use Rattle.sheet.specs.Records.{Record, body_length}
 use Rattle.sheet.specs.Reader.{Contents, valid, refused}
-use Rattle.sheet.specs.Sizes.{record_quadwords, sheet_quadwords}
+use Rattle.sheet.specs.Sizes.{record_quadwords}
 use Rattle.sheet.specs.Layout.{laid_out, chain_of}
-use Rattle.sheet.specs.Editions.{contents_of}
 
 -- the chain of a sheet's contents, none where it is refused
 abbrev pub chain_in : Contents → List ℕ
@@ -33,15 +33,13 @@ pub record Out : Type 0 where
 abbrev pub out : List ℕ → ℕ → Out
 out output to = record { output = output; to = to }
 
+-- a writer with these
+abbrev pub with_out : Writer → Out → Writer
+with_out w o = record w { output = record w.output { now = o.output }; to = o.to }
+
 unfoldable pub write : List Record → Out → Out
 write rs o = out (sets o.output o.to (laid_all rs)) (o.to + length (laid_all rs))
 
 -- the records' chain fits from there on, its end tag too
 pub record WriteRoom (rs : List Record) (o : Out) : Type 0 where
   pub room : o.to + length (chain_of rs) ≤ length o.output
-
--- an accepted sheet, whose chain has so many quadwords
-pub record Counted (sheet : List ℕ) (quadwords : ℕ) : Type 0 where
-  pub records : List Record
-  pub accepted : contents_of sheet ≡ valid records
-  pub sum : quadwords ≡ sheet_quadwords records

@@ -4,9 +4,12 @@ use mathlib.Core.Bool.{true}
 use mathlib.Core.List.{List, []}
 use Prim.Native.Nat.{ℕ, ◌+◌, ◌*◌, ◌-◌, ◌/◌, ◌<◌, ◌≤◌}
 use native.Mathlib.Omega.{arith}
-use borrow.Author.Tests.{ne_eqb, lt-ltb, le-ltb}
+use borrow.Author.Tests.{lt-ltb, le-ltb}
 use lib.ListN.{length}
 use Rattle.fields.specs.Fields.{if}
+use Rattle.fields.specs.declared.refusals.Refusal.{Refusal}
+use Rattle.fields.specs.Refusals.{refusal_number}
+use Rattle.fields.proofs.RefusalLaws.{refusal_not_none}
 use Rattle.gif.proofs.RangeLaws.{log_fits}
 use Rattle.gif.specs.Log.{entry_size, entries_in}
 use Rattle.gif.proofs.LogLaws.{in_count}
@@ -14,23 +17,22 @@ use Rattle.memories.specs.declared.VifUnit.TheVariants.{Vif1}
 use Rattle.memories.specs.Units.{data_words, code_bytes}
 use Rattle.memories.specs.Lengths.{lent}
 use Rattle.memories.proofs.LengthLaws.{lengths_fit}
-use Rattle.sheet.specs.declared.MeaningAnswer.TheVariants.{Meant, Refused}
-use Rattle.sheet.specs.declared.MatchAnswer.TheVariants.{Matched, Refused as MatchRefused}
+use Rattle.sheet.specs.MeaningAnswer.{Meant, Refused}
+use Rattle.sheet.specs.MatchAnswer.{Matched, Refused as MatchRefused}
 use Rattle.sheet_meaning.specs.declared.matching.Front.{Front}
 use Rattle.sheet.specs.declared.sums.Totals.{Totals}
-use Rattle.sheet.specs.declared.Measured.{Measured}
-use Rattle.sheet.specs.declared.Measured.TheVariants.{Whole, Refused as MeasureRefused}
+use Rattle.sheet.specs.Measured.{Whole, Refused as MeasureRefused}
 use Rattle.sheet.specs.Records.{Record}
 use Rattle.sheet.specs.Reader.{valid}
 use Rattle.sheet.specs.Editions.{expansion_from, contents_of}
-use Rattle.sheet.specs.Acts.{SheetFits, sheet_done, first_item}
+use Rattle.sheet.specs.Acts.{SheetFits, records_in, first_item}
 use Rattle.sheet.specs.Sizes.{sheet_entries}
 use Rattle.sheet.specs.Meaning.{Plain, plain, meaning_of}
 use Rattle.sheet.specs.Results.{left, length_refusal, meaning_of_sheet}
 use Rattle.sheet.specs.Match.{left as leftMatched, leading, match_of_sheet}
 use Rattle.sheet.specs.Sums.{measured_of}
 use Rattle.sheet.specs.Fed.{Fed, fed, fed_all}
-use Rattle.sheet_meaning.specs.Feeding.{RecordsRoom, Means}
+use Rattle.sheet_meaning.specs.Feeding.{RecordsRoom}
 use Rattle.sheet_meaning.specs.Met.{front, met_all, Matching, matching, matched_all, MatchRoom}
 use Rattle.sheet.proofs.EditionLaws.{contents_items}
 use Rattle.sheet.proofs.TotalsLaws.{measured_whole, measured_refused}
@@ -49,7 +51,14 @@ lengths_of mem code log used h =
     let f = lengths_fit Vif1 (lent mem code log) used h in
     record { words = f.long; bytes = f.wide; held = (log_fits log used f.logged).holds }
 
--- an accepted sheet, and the room of the log
+-- an accepted sheet with so many entries, and memories and a log whose lengths are accepted
+pub record Means (sheet mem code log : List ℕ) (used entries : ℕ) : Type 0 where
+  pub records : List Record
+  pub accepted : contents_of sheet ≡ valid records
+  pub sum : entries ≡ sheet_entries records
+  pub lengths : length_refusal mem code log used ≡ 0
+
+-- such a sheet, and the room of the log
 module _ {sheet mem code log : List ℕ} {used entries : ℕ} (m : Means sheet mem code log used entries) where
   pub means_lengths : Lengths mem code log used
   means_lengths = lengths_of mem code log used m.lengths
@@ -78,14 +87,14 @@ module _ {sheet mem code log : List ℕ} {used entries : ℕ} (m : Means sheet m
         }
 
     -- the whole sheet fed is its meaning
-    fed_meaning : sheet_done fed_all (expansion_from sheet (first_item sheet)) (fed mem code log used) ≡ fed_plain (meaning_of m.records (plain mem code (entries_in log used))) log
+    fed_meaning : fed_all (records_in (expansion_from sheet (first_item sheet))) (fed mem code log used) ≡ fed_plain (meaning_of m.records (plain mem code (entries_in log used))) log
     fed_meaning =
         let l = means_lengths in
         let n = in_count log used l.held in
         let s : fed_plain (plain mem code (entries_in log used)) log ≡ fed mem code log used = rw (log_same log used l.held, n) in
         rw (contents_items sheet m.records m.accepted, ← s) (fed_sheet m.records (plain mem code (entries_in log used)) log (rw n room))
 
-    pub mean_fed : {mem' code' log' : List ℕ} {r : ℕ} → fed mem' code' log' r ≡ sheet_done fed_all (expansion_from sheet (first_item sheet)) (fed mem code log used)
+    pub mean_fed : {mem' code' log' : List ℕ} {r : ℕ} → fed mem' code' log' r ≡ fed_all (records_in (expansion_from sheet (first_item sheet))) (fed mem code log used)
         → left (Meant r) mem' code' log' ≡ meaning_of_sheet sheet mem code log used
     unfolding meaning_of_sheet if
     mean_fed e =
@@ -95,28 +104,28 @@ module _ {sheet mem code log : List ℕ} {used entries : ℕ} (m : Means sheet m
 -- ---- refusals
 
 -- of the lengths
-pub mean_lengths : (sheet mem code log : List ℕ) (used : ℕ) {n : ℕ} → n ≡ length_refusal mem code log used → (n ≡ 0 → ⊥)
-    → left (Refused n 0) mem code log ≡ meaning_of_sheet sheet mem code log used
+pub mean_lengths : (sheet mem code log : List ℕ) (used : ℕ) (e : Refusal) → refusal_number e ≡ length_refusal mem code log used
+    → left (Refused (refusal_number e) 0) mem code log ≡ meaning_of_sheet sheet mem code log used
 unfolding meaning_of_sheet if
-mean_lengths sheet mem code log used e z = rw (← e, ne_eqb _ _ z)
+mean_lengths sheet mem code log used e q = rw (← q, refusal_not_none e)
 
 -- of the sheet, which is measured
-module _ (sheet mem code log : List ℕ) (used : ℕ) {n : ℕ} (l : n ≡ length_refusal mem code log used) (z : n ≡ 0) {m : Measured} (e : m ≡ measured_of (contents_of sheet)) where
-  pub mean_refused : {k offset : ℕ} → m ≡ MeasureRefused k offset → left (Refused k offset) mem code log ≡ meaning_of_sheet sheet mem code log used
+module _ (sheet mem code log : List ℕ) (used : ℕ) (l : 0 ≡ length_refusal mem code log used) where
+  pub mean_refused : {k offset : ℕ} → MeasureRefused k offset ≡ measured_of (contents_of sheet) → left (Refused k offset) mem code log ≡ meaning_of_sheet sheet mem code log used
   unfolding meaning_of_sheet if
-  mean_refused q = rw (← l, z, measured_refused (contents_of sheet) e q)
+  mean_refused q = rw (← l, measured_refused (contents_of sheet) q)
 
-  pub mean_means : {t : Totals} → m ≡ Whole t → Means sheet mem code log used t.entries
+  pub mean_means : {t : Totals} → Whole t ≡ measured_of (contents_of sheet) → Means sheet mem code log used t.entries
   mean_means q =
-      let a = measured_whole (contents_of sheet) e q in
-      record { records = a.records; accepted = a.are; sum = ap (λ (t : Totals). t.entries) a.sums; lengths = sym l ∙ z }
+      let a = measured_whole (contents_of sheet) q in
+      record { records = a.records; accepted = a.are; sum = ap (λ (t : Totals). t.entries) a.sums; lengths = sym l }
 
 -- ---- beside a log
 
-pub match_lengths : (sheet mem code log : List ℕ) (used : ℕ) {n : ℕ} → n ≡ length_refusal mem code log used → (n ≡ 0 → ⊥)
-    → leftMatched (MatchRefused n 0) mem code ≡ match_of_sheet sheet mem code log used
+pub match_lengths : (sheet mem code log : List ℕ) (used : ℕ) (e : Refusal) → refusal_number e ≡ length_refusal mem code log used
+    → leftMatched (MatchRefused (refusal_number e) 0) mem code ≡ match_of_sheet sheet mem code log used
 unfolding match_of_sheet if
-match_lengths sheet mem code log used e z = rw (← e, ne_eqb _ _ z)
+match_lengths sheet mem code log used e q = rw (← q, refusal_not_none e)
 
 -- the parts of what is left, where nothing is refused
 match_left : (sheet mem code log : List ℕ) (used : ℕ) {rs : List Record} → length_refusal mem code log used ≡ 0 → contents_of sheet ≡ valid rs → {k n : ℕ} {mem' code' : List ℕ}
@@ -128,14 +137,14 @@ match_left : (sheet mem code log : List ℕ) (used : ℕ) {rs : List Record} →
 unfolding match_of_sheet if
 match_left sheet mem code log used l a ek en em ec = rw (l, a, ek, en, em, ec)
 
-module _ (sheet mem code log : List ℕ) (used : ℕ) {n : ℕ} (l : n ≡ length_refusal mem code log used) (z : n ≡ 0) {m : Measured} (e : m ≡ measured_of (contents_of sheet)) where
-  pub match_refused : {k offset : ℕ} → m ≡ MeasureRefused k offset → leftMatched (MatchRefused k offset) mem code ≡ match_of_sheet sheet mem code log used
+module _ (sheet mem code log : List ℕ) (used : ℕ) (l : 0 ≡ length_refusal mem code log used) where
+  pub match_refused : {k offset : ℕ} → MeasureRefused k offset ≡ measured_of (contents_of sheet) → leftMatched (MatchRefused k offset) mem code ≡ match_of_sheet sheet mem code log used
   unfolding match_of_sheet if
-  match_refused q = rw (← l, z, measured_refused (contents_of sheet) e q)
+  match_refused q = rw (← l, measured_refused (contents_of sheet) q)
 
-  module _ {t : Totals} (q : m ≡ Whole t) where
+  module _ {t : Totals} (q : Whole t ≡ measured_of (contents_of sheet)) where
     accepted : Means sheet mem code log used t.entries
-    accepted = mean_means sheet mem code log used l z e q
+    accepted = mean_means sheet mem code log used l q
 
     pub match_fits : SheetFits (MatchRoom log used) sheet (first_item sheet) (matching mem code (front 0 true))
     match_fits =
@@ -158,7 +167,7 @@ module _ (sheet mem code log : List ℕ) (used : ℕ) {n : ℕ} (l : n ≡ lengt
 
     -- the whole sheet matched: the memories of its meaning, and how far its entries go with the log's
     pub match_done : {mem' code' : List ℕ} {f : Front}
-        → matching mem' code' f ≡ sheet_done (matched_all log used) (expansion_from sheet (first_item sheet)) (matching mem code (front 0 true))
+        → matching mem' code' f ≡ matched_all log used (records_in (expansion_from sheet (first_item sheet))) (matching mem code (front 0 true))
         → leftMatched (Matched f.leading t.entries) mem' code' ≡ match_of_sheet sheet mem code log used
     unfolding met_all
     match_done {mem'} {code'} {f} g =

@@ -5,11 +5,15 @@ use Prim.Native.Nat.{ℕ, suc, ◌+◌, ◌*◌, ◌-◌, ◌%◌, ◌≤◌, �
 use native.Mathlib.Nat.{add-zero, sub-zero}
 use native.Mathlib.Numerals.{add-one}
 use native.Mathlib.Omega.{arith}
-use lib.ListN.{length, get_or, set}
+use lib.ListN.{length, get_or}
 use lib.Seq.{sets, length-sets}
+use Rattle.gif.specs.declared.Entry.{Entry}
 use Rattle.gif.specs.Log.{entry_size, entry, numbers}
 use Rattle.memories.specs.declared.VifUnit.TheVariants.{Vif1}
 use Rattle.memories.specs.Units.{quadwords, instructions}
+use borrow.Rule.Slice.PartMut.{put_mid}
+use Rattle.fields.specs.Memory.{word_at, long_at}
+use Rattle.sheet.proofs.ListLaws.{put_part}
 use Rattle.sheet.specs.Records.{bytes_at, number}
 use Rattle.sheet.specs.Meaning.{vector_of, put_vectors, put_instructions, entry_at, entries_at}
 use Rattle.sheet.proofs.MeaningLaws.{Turns, vector_turns, instruction_turns}
@@ -21,15 +25,13 @@ use Rattle.sheet_meaning.proofs.ByteLaws.{bytes_inside, bytes_more, bytes_four}
 number_byte : (l : List ℕ) (i : ℕ) → i < length l → number (bytes_at l i 1) ≡ get_or l i 0
 number_byte l i h = rw (bytes_more l i 0 {k = i + 1} h refl) (omega arith)
 
-pub number_word : (l : List ℕ) (i : ℕ) → i + 4 ≤ length l
-    → get_or l i 0 + get_or l (i + 1) 0 * 256 + get_or l (i + 2) 0 * 65536 + get_or l (i + 3) 0 * 16777216 ≡ number (bytes_at l i 4)
+number_word : (l : List ℕ) (i : ℕ) → i + 4 ≤ length l → word_at l i ≡ number (bytes_at l i 4)
+unfolding word_at
 number_word l i h = rw (bytes_four l i 0 h) (omega arith)
 
-pub number_long : (l : List ℕ) (i : ℕ) → i + 8 ≤ length l
-    → number (bytes_at l i 4) + number (bytes_at l (i + 4) 4) * 4294967296 ≡ number (bytes_at l i 8)
-number_long l i h =
-    let k : i + 4 ≤ length l = omega arith in
-    rw (bytes_four l i 0 k, bytes_four l i 4 k) (omega arith)
+pub number_long : (l : List ℕ) (i : ℕ) → i + 8 ≤ length l → long_at l i ≡ number (bytes_at l i 8)
+unfolding word_at long_at
+number_long l i h = rw (bytes_four l i 4 (omega arith), bytes_four l (i + 4) 0 (omega arith)) (omega arith)
 
 -- ---- n items stored one after another
 
@@ -77,30 +79,13 @@ entries_all used body n log = rw add-zero
 
 -- ---- the items of a body, where the body lies in the sheet
 
-pub vector_stored : (m l : List ℕ) (q i : ℕ) {x y z w : ℕ}
-    → x ≡ number (bytes_at l i 4) → y ≡ number (bytes_at l (i + 4) 4) → z ≡ number (bytes_at l (i + 8) 4) → w ≡ number (bytes_at l (i + 12) 4)
-    → set (set (set (set m (4 * q) x) (4 * q + 1) y) (4 * q + 2) z) (4 * q + 3) w ≡ sets m (4 * q) (vector_at l i)
-vector_stored m l q i ex ey ez ew =
-    let e1 : 4 * q + 1 ≡ suc (4 * q) = omega arith in
-    let e2 : 4 * q + 2 ≡ suc (suc (4 * q)) = omega arith in
-    let e3 : 4 * q + 3 ≡ suc (suc (suc (4 * q))) = omega arith in
-    rw (ex, ey, ez, ew, e1, e2, e3)
-
-pub instruction_stored : (m l : List ℕ) (to i : ℕ) → i + 8 ≤ length l
-    → set (set (set (set (set (set (set (set m to (get_or l i 0)) (to + 1) (get_or l (i + 1) 0)) (to + 2) (get_or l (i + 2) 0)) (to + 3) (get_or l (i + 3) 0)) (to + 4) (get_or l (i + 4) 0)) (to + 5) (get_or l (i + 5) 0)) (to + 6) (get_or l (i + 6) 0)) (to + 7) (get_or l (i + 7) 0)
-    ≡ sets m to (bytes_at l i 8)
-instruction_stored m l to i h =
-    let t1 : to + 1 ≡ suc to = omega arith in
-    let t2 : to + 2 ≡ suc (suc to) = omega arith in
-    let t3 : to + 3 ≡ suc (suc (suc to)) = omega arith in
-    let t4 : to + 4 ≡ suc (suc (suc (suc to))) = omega arith in
-    let t5 : to + 5 ≡ suc (suc (suc (suc (suc to)))) = omega arith in
-    let t6 : to + 6 ≡ suc (suc (suc (suc (suc (suc to))))) = omega arith in
-    let t7 : to + 7 ≡ suc (suc (suc (suc (suc (suc (suc to)))))) = omega arith in
-    let i5 : i + 4 + 1 ≡ i + 5 = omega arith in
-    let i6 : i + 4 + 2 ≡ i + 6 = omega arith in
-    let i7 : i + 4 + 3 ≡ i + 7 = omega arith in
-    rw (bytes_four l i 4 (omega arith), bytes_four l (i + 4) 0 (omega arith), i5, i6, i7, t1, t2, t3, t4, t5, t6, t7)
+pub vector_stored : (m l : List ℕ) (q i : ℕ) {x y z w : ℕ} {v : List ℕ} → i + 16 ≤ length l → 4 * q + 4 ≤ length m
+    → x ≡ word_at l i → y ≡ word_at l (i + 4) → z ≡ word_at l (i + 8) → w ≡ word_at l (i + 12)
+    → v ≡ x ∷ y ∷ z ∷ w ∷ []
+    → put_mid (4 * q) (4 * q + 4 - 4 * q) m v ≡ sets m (4 * q) (vector_at l i)
+vector_stored m l q i h g ex ey ez ew e =
+    rw (e, ex, ey, ez, ew, number_word l i (omega arith), number_word l (i + 4) (omega arith), number_word l (i + 8) (omega arith), number_word l (i + 12) (omega arith))
+    (put_part m (vector_at l i) (4 * q) (4 * q + 4 - 4 * q) (omega arith) (omega arith))
 
 module _ (l : List ℕ) (b n j : ℕ) (h : j < n) where
   vector_inside : vector_at l (b + 16 * j) ≡ vector_of (bytes_at l b (16 * n)) j
@@ -115,12 +100,11 @@ module _ (l : List ℕ) (b n j : ℕ) (h : j < n) where
   instruction_inside : bytes_at l (b + 8 * j) 8 ≡ bytes_at (bytes_at l b (8 * n)) (8 * j) 8
   instruction_inside = rw (bytes_inside l b (8 * n) (8 * j) 8 {k = b + 8 * j} (omega arith) refl)
 
-  pub entry_inside : {r v : ℕ} → b + 16 * n ≤ length l → r ≡ get_or l (b + 16 * j + 8) 0 → v ≡ number (bytes_at l (b + 16 * j) 8)
-      → entry 2 r v ≡ entry_at (bytes_at l b (16 * n)) j
-  entry_inside f er ev =
+  pub entry_inside : {e : Entry} → b + 16 * n ≤ length l → e ≡ entry 2 (get_or l (b + 16 * j + 8) 0) (number (bytes_at l (b + 16 * j) 8))
+      → e ≡ entry_at (bytes_at l b (16 * n)) j
+  entry_inside f q =
       rw (
-        er,
-        ev,
+        q,
         bytes_inside l b (16 * n) (16 * j + 8) 1 {k = b + 16 * j + 8} (omega arith) (omega arith),
         bytes_inside l b (16 * n) (16 * j) 8 {k = b + 16 * j} (omega arith) refl,
         number_byte l (b + 16 * j + 8) (omega arith),

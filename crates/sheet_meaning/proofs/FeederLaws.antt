@@ -1,88 +1,37 @@
--- Records that are fed one after another: an action on the memories and a log.
-use mathlib.Core.Path.{◌≡◌, refl, ◌∙◌}
-use mathlib.Core.List.{List, [], ◌∷◌, ◌++◌}
-use Prim.Native.Nat.{ℕ, ◌+◌, ◌*◌}
-use native.Mathlib.Nat.{zero-add, add-zero, add_assoc}
-use native.Mathlib.Omega.{arith}
-use lib.ListN.{length}
-use lib.Seq.{length-sets}
-use Rattle.gif.specs.Log.{entry_size, numbers}
+-- One record that is fed: the room that it takes, and what it makes of a feeder.
+use Rattle.std.proofs.Common.{◌≡◌, ℕ, ◌+◌, ◌*◌, ◌≤◌, List, [], ◌∷◌, arith, add-zero}
+use lib.Seq.{sets}
+use Rattle.gif.specs.Log.{entry_size, entry, numbers}
 use Rattle.sheet.specs.declared.Kind.{Kind}
-use Rattle.sheet.specs.declared.Header.{Header}
-use Rattle.sheet.specs.declared.Header.TheVariants.{Single}
-use Rattle.sheet.specs.Records.{Record}
-use Rattle.sheet.specs.Sizes.{sheet_entries}
-use Rattle.sheet.specs.Meaning.{entries_by}
-use Rattle.sheet.specs.Groups.{header_at}
-use Rattle.sheet.specs.Fed.{Fed, fed, fed_by, fed_all}
-use Rattle.sheet_meaning.specs.Feeding.{FeedRoom, RecordsRoom}
-use Rattle.sheet.proofs.RestLaws.{record_at}
-use Rattle.sheet.proofs.MeaningLaws.{mem_kept, code_kept}
-use Rattle.sheet.proofs.ActLaws.{Action}
-use Rattle.sheet.proofs.HeaderLaws.{single_inside}
+use Rattle.sheet.specs.declared.Kind.TheVariants.{Data, Code, Gs, Start}
+use Rattle.sheet.specs.Records.{record_of}
+use Rattle.sheet.specs.Sizes.{entries_of, sheet_entries}
+use Rattle.sheet.specs.Meaning.{put_vectors, put_instructions, entries_at}
+use Rattle.sheet.specs.Fed.{fed_by, fed_all}
+use Rattle.sheet_meaning.specs.declared.plain.Feeder.{Feeder}
+use Rattle.sheet_meaning.specs.Feeding.{fed_in, with_fed}
 
-entries_append : (rs ss : List Record) → sheet_entries (rs ++ ss) ≡ sheet_entries rs + sheet_entries ss
+pub entries_room : (k : Kind) (n a : ℕ) (body : List ℕ) (used : ℕ) {l : ℕ} → entry_size * (used + sheet_entries (record_of k n a body ∷ [])) ≤ l → entry_size * (used + entries_of k n) ≤ l
 unfolding sheet_entries
-entries_append [] ss = rw zero-add
-entries_append (r ∷ rs) ss = rw (entries_append rs ss, add_assoc)
+entries_room k n a body used h = omega arith
 
--- what is fed keeps the lengths, and uses the records' entries
-record Kept (rs : List Record) (x y : Fed) : Type 0 where
-  words : length y.mem ≡ length x.mem
-  bytes : length y.code ≡ length x.code
-  numbers : length y.log ≡ length x.log
-  used : y.used ≡ x.used + sheet_entries rs
+module _ (f : Feeder) (n a : ℕ) (body : List ℕ) where
+  pub fed_data : {mem : List ℕ} → mem ≡ put_vectors a body n 0 f.data.now
+      → ◌≡◌ {A = Feeder} (record f { «data» = record f.data { now = mem } }) (with_fed f (fed_all (record_of Data n a body ∷ []) (fed_in f)))
+  unfolding fed_all fed_by
+  fed_data e = rw (e, add-zero)
 
-fed_kept : (rs : List Record) (x : Fed) → Kept rs x (fed_all rs x)
-unfolding fed_all fed_by sheet_entries
-fed_kept [] x = record { words = refl; bytes = refl; numbers = refl; used = rw add-zero }
-fed_kept (r ∷ rs) x =
-    let k = fed_kept rs (fed_by r x) in
-    let u = k.used in
-    record {
-      words = k.words ∙ mem_kept r.kind r.count r.address r.body x.mem;
-      bytes = k.bytes ∙ code_kept r.kind r.count r.address r.body x.code;
-      numbers = k.numbers ∙ length-sets x.log (entry_size * x.used) (numbers (entries_by r.kind r.count r.address r.body));
-      used = omega arith;
-    }
+  pub fed_code : {code : List ℕ} → code ≡ put_instructions a body n 0 f.code.now
+      → ◌≡◌ {A = Feeder} (record f { code = record f.code { now = code } }) (with_fed f (fed_all (record_of Code n a body ∷ []) (fed_in f)))
+  unfolding fed_all fed_by
+  fed_code e = rw (e, add-zero)
 
-pub feed_none : (x : Fed) → fed_all [] x ≡ x
-unfolding fed_all
-feed_none x = refl
+  pub fed_entries : {log : List ℕ} → log ≡ sets f.log.now (entry_size * f.used) (numbers (entries_at body n 0))
+      → ◌≡◌ {A = Feeder} (record f { log = record f.log { now = log }; used = f.used + n }) (with_fed f (fed_all (record_of Gs n a body ∷ []) (fed_in f)))
+  unfolding fed_all fed_by
+  fed_entries e = rw e
 
-pub feed_onward : (rs ss : List Record) (x : Fed) → fed_all ss (fed_all rs x) ≡ fed_all (rs ++ ss) x
-unfolding fed_all
-feed_onward [] ss x = refl
-feed_onward (r ∷ rs) ss x = feed_onward rs ss (fed_by r x)
-
-pub feed_before : (rs ss : List Record) (x : Fed) → RecordsRoom (rs ++ ss) x → RecordsRoom rs x
-feed_before rs ss x h =
-    let r = h.room in
-    let e = entries_append rs ss in
-    record { words = h.words; bytes = h.bytes; room = omega arith }
-
-pub feed_behind : (rs ss : List Record) (x : Fed) → RecordsRoom (rs ++ ss) x → RecordsRoom ss (fed_all rs x)
-feed_behind rs ss x h =
-    let r = h.room in
-    let e = entries_append rs ss in
-    let k = fed_kept rs x in
-    let l = k.numbers in
-    let u = k.used in
-    record { words = k.words ∙ h.words; bytes = k.bytes ∙ h.bytes; room = omega arith }
-
-abbrev pub feeding : Action Fed
-feeding = record { act = fed_all; Room = RecordsRoom; nothing = feed_none; onward = feed_onward; before = feed_before; behind = feed_behind }
-
--- ---- one record
-
-module _ (sheet : List ℕ) (depth at : ℕ) {h : Header} (e : h ≡ header_at sheet depth at) {k : Kind} {n a next : ℕ} (q : h ≡ Single k n a next) where
-  pub feed_room : {mem code log : List ℕ} {used : ℕ} → RecordsRoom (record_at sheet at k n a ∷ []) (fed mem code log used)
-      → FeedRoom sheet (at + 6) k n mem code log used
-  unfolding sheet_entries
-  feed_room w =
-      let r = w.room in
-      record { inside = single_inside sheet depth at e q; words = w.words; bytes = w.bytes; room = omega arith }
-
-pub feed_one : (r : Record) (x : Fed) {y : Fed} → y ≡ fed_by r x → y ≡ fed_all (r ∷ []) x
-unfolding fed_all
-feed_one r x e = e
+  pub fed_start : {log : List ℕ} → log ≡ sets f.log.now (entry_size * f.used) (numbers (entry 0 256 a ∷ []))
+      → ◌≡◌ {A = Feeder} (record f { log = record f.log { now = log }; used = f.used + 1 }) (with_fed f (fed_all (record_of Start n a body ∷ []) (fed_in f)))
+  unfolding fed_all fed_by
+  fed_start e = rw e

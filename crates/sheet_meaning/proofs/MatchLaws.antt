@@ -6,84 +6,63 @@ use Prim.Native.Nat.{ℕ, suc, ◌+◌, ◌*◌, ◌-◌, ◌<◌, ◌≤◌}
 use native.Mathlib.Nat.{add-zero, zero-add, sub-zero}
 use native.Mathlib.Numerals.{add-one}
 use native.Mathlib.Omega.{arith}
-use borrow.Author.Tests.{ltb-true, ltb-false}
+use borrow.Author.Tests.{ltb-true, ltb-false, lt-ltb, le-ltb}
+use mir.Val.{bool_byte}
 use lib.ListN.{length, drop}
 use lib.Seq.{drop-cons}
 use lib.Dec.{ltb}
 use Rattle.fields.specs.Fields.{if}
 use Rattle.gif.specs.declared.Entry.{Entry}
-use Rattle.gif.specs.Log.{entry_size, entries_in}
-use Rattle.sheet.specs.declared.Kind.{Kind}
-use Rattle.sheet.specs.declared.Header.{Header}
-use Rattle.sheet.specs.declared.Header.TheVariants.{Single}
+use Rattle.gif.specs.Log.{entry_size, entry, entries_in}
+use Rattle.sheet.specs.declared.Kind.TheVariants.{Data, Code, Gs, Start}
+use Rattle.sheet_meaning.specs.declared.matching.Matcher.{Matcher}
 use Rattle.sheet_meaning.specs.declared.matching.Front.{Front}
-use Rattle.sheet.specs.Records.{Record}
-use Rattle.sheet.specs.Groups.{header_at}
-use Rattle.sheet.specs.Meaning.{Plain, entry_at, entries_at, entries_by, fed_record, meaning_of}
+use Rattle.sheet.specs.Records.{Record, record_of}
+use Rattle.sheet.specs.Meaning.{Plain, put_vectors, put_instructions, entry_at, entries_at, entries_by, fed_record, meaning_of}
 use Rattle.sheet.specs.Match.{same_entry, leading}
-use Rattle.sheet_meaning.specs.Met.{front, entry_in, next_front, met, met_all, Matching, matching, matched_by, matched_all, MatchRoom, RecordHeld}
-use Rattle.sheet.proofs.RestLaws.{record_at}
-use Rattle.sheet.proofs.MeaningLaws.{mem_kept, code_kept}
-use Rattle.sheet.proofs.ActLaws.{Action}
-use Rattle.sheet.proofs.HeaderLaws.{single_inside}
-
--- ---- an action
-
-module _ (log : List ℕ) (used : ℕ) where
-  record Kept (x y : Matching) : Type 0 where
-    words : length y.mem ≡ length x.mem
-    bytes : length y.code ≡ length x.code
-
-  match_kept : (rs : List Record) (x : Matching) → Kept x (matched_all log used rs x)
-  unfolding matched_all matched_by
-  match_kept [] x = record { words = refl; bytes = refl }
-  match_kept (r ∷ rs) x =
-      let k = match_kept rs (matched_by log used r x) in
-      record {
-        words = k.words ∙ mem_kept r.kind r.count r.address r.body x.mem;
-        bytes = k.bytes ∙ code_kept r.kind r.count r.address r.body x.code;
-      }
-
-  pub match_none : (x : Matching) → matched_all log used [] x ≡ x
-  unfolding matched_all
-  match_none x = refl
-
-  pub match_onward : (rs ss : List Record) (x : Matching) → matched_all log used ss (matched_all log used rs x) ≡ matched_all log used (rs ++ ss) x
-  unfolding matched_all
-  match_onward [] ss x = refl
-  match_onward (r ∷ rs) ss x = match_onward rs ss (matched_by log used r x)
-
-  pub match_before : (rs ss : List Record) (x : Matching) → MatchRoom log used (rs ++ ss) x → MatchRoom log used rs x
-  match_before rs ss x h = record { words = h.words; bytes = h.bytes; held = h.held }
-
-  pub match_behind : (rs ss : List Record) (x : Matching) → MatchRoom log used (rs ++ ss) x → MatchRoom log used ss (matched_all log used rs x)
-  match_behind rs ss x h =
-      let k = match_kept rs x in
-      record { words = k.words ∙ h.words; bytes = k.bytes ∙ h.bytes; held = h.held }
-
-  abbrev pub matchings : Action Matching
-  matchings =
-      record {
-        act = matched_all log used;
-        Room = MatchRoom log used;
-        nothing = match_none;
-        onward = match_onward;
-        before = match_before;
-        behind = match_behind;
-      }
+use Rattle.sheet_meaning.specs.Met.{front, entry_in, next_front, met, met_all, Matching, matching, matching_in, with_matching, matched_by, matched_all}
 
 -- ---- one record
 
-module _ (sheet : List ℕ) (depth at : ℕ) {h : Header} (e : h ≡ header_at sheet depth at) {k : Kind} {n a next : ℕ} (q : h ≡ Single k n a next) where
-  pub match_room : {mem code log : List ℕ} {used : ℕ} {f : Front} → MatchRoom log used (record_at sheet at k n a ∷ []) (matching mem code f)
-      → RecordHeld sheet (at + 6) k n mem code log used
-  match_room w = record { inside = single_inside sheet depth at e q; words = w.words; bytes = w.bytes; held = w.held }
+module _ (m : Matcher) (n a : ℕ) (body : List ℕ) where
+  pub matched_data : {mem : List ℕ} → mem ≡ put_vectors a body n 0 m.data.now
+      → ◌≡◌ {A = Matcher} (record m { «data» = record m.data { now = mem } })
+      (with_matching m (matched_all m.log.numbers.now m.log.used (record_of Data n a body ∷ []) (matching_in m)))
+  unfolding matched_all matched_by met_all
+  matched_data e = rw e
 
-pub match_one : (log : List ℕ) (used : ℕ) (r : Record) (x : Matching) {y : Matching} → y ≡ matched_by log used r x → y ≡ matched_all log used (r ∷ []) x
-unfolding matched_all
-match_one log used r x e = e
+  pub matched_code : {code : List ℕ} → code ≡ put_instructions a body n 0 m.code.now
+      → ◌≡◌ {A = Matcher} (record m { code = record m.code { now = code } })
+      (with_matching m (matched_all m.log.numbers.now m.log.used (record_of Code n a body ∷ []) (matching_in m)))
+  unfolding matched_all matched_by met_all
+  matched_code e = rw e
+
+  pub matched_entries : {f : Front} → f ≡ met_all m.log.numbers.now m.log.used (entries_at body n 0) m.front
+      → ◌≡◌ {A = Matcher} (record m { front = f }) (with_matching m (matched_all m.log.numbers.now m.log.used (record_of Gs n a body ∷ []) (matching_in m)))
+  unfolding matched_all matched_by
+  matched_entries e = rw e
+
+  pub matched_start : {f : Front} → f ≡ met m.log.numbers.now m.log.used (entry 0 256 a) m.front
+      → ◌≡◌ {A = Matcher} (record m { front = f }) (with_matching m (matched_all m.log.numbers.now m.log.used (record_of Start n a body ∷ []) (matching_in m)))
+  unfolding matched_all matched_by met_all
+  matched_start e = rw e
 
 -- ---- entries
+
+-- the front once an entry is compared, and where the log has no more
+front_by : (n : ℕ) (b : Bool) → front (n + bool_byte b) b ≡ if b (front (n + 1) true) (front n false)
+unfolding if
+front_by n true = refl
+front_by n false = rw add-zero
+
+module _ (log : List ℕ) (used n : ℕ) (e : Entry) {w : Bool} {v : ℕ} (ve : v ≡ bool_byte w) where
+  pub front_compared : n < used → w ≡ same_entry e (entry_in log n) → front (n + v) w ≡ next_front log used n e
+  unfolding next_front if
+  front_compared h we = rw (lt-ltb n used h, ve, ← we) (front_by n w)
+
+  pub front_past : used ≤ n → w ≡ ltb n used → front (n + v) w ≡ next_front log used n e
+  unfolding next_front if
+  front_past h we = let z : w ≡ false = we ∙ le-ltb n used h in rw (le-ltb n used h, ve, z, add-zero)
 
 module _ (log : List ℕ) (used : ℕ) where
   pub met_onward : (es fs : List Entry) (f : Front) → met_all log used fs (met_all log used es f) ≡ met_all log used (es ++ fs) f

@@ -5,9 +5,9 @@ use Rattle.gif.specs.declared.Entry.{Entry}
 use Rattle.gif.specs.Log.{entry_size, entry}
 use Rattle.memories.specs.declared.VifUnit.TheVariants.{Vif1}
 use Rattle.memories.specs.Units.{data_words, code_bytes}
-use Rattle.sheet.specs.declared.Kind.{Kind}
 use Rattle.sheet_meaning.specs.declared.matching.Front.{Front}
-use Rattle.sheet.specs.Records.{Record, body_length}
+use Rattle.sheet_meaning.specs.declared.matching.Matcher.{Matcher}
+use Rattle.sheet.specs.Records.{Record}
 use Rattle.sheet.specs.Meaning.{entries_by, mem_by, code_by}
 use Rattle.sheet.specs.Match.{same_entry}
 
@@ -42,6 +42,13 @@ pub record Matching : Type 0 where
 abbrev pub matching : List ℕ → List ℕ → Front → Matching
 matching mem code f = record { mem = mem; code = code; front = f }
 
+-- those that a matcher has, and the matcher with others
+abbrev pub matching_in : Matcher → Matching
+matching_in m = matching m.data.now m.code.now m.front
+
+abbrev pub with_matching : Matcher → Matching → Matcher
+with_matching m x = record m { «data» = record m.data { now = x.mem }; code = record m.code { now = x.code }; front = x.front }
+
 -- what a record does to them
 unfoldable pub matched_by : List ℕ → ℕ → Record → Matching → Matching
 matched_by log used r x =
@@ -57,11 +64,4 @@ matched_all log used (r ∷ rs) x = matched_all log used rs (matched_by log used
 pub record MatchRoom (log : List ℕ) (used : ℕ) (rs : List Record) (x : Matching) : Type 0 where
   pub words : length x.mem ≡ data_words Vif1
   pub bytes : length x.code ≡ code_bytes Vif1
-  pub held : entry_size * used ≤ length log
-
--- and a record's body lies in the sheet
-pub record RecordHeld (sheet : List ℕ) (body : ℕ) (k : Kind) (n : ℕ) (mem code log : List ℕ) (used : ℕ) : Type 0 where
-  pub inside : body + body_length k n ≤ length sheet
-  pub words : length mem ≡ data_words Vif1
-  pub bytes : length code ≡ code_bytes Vif1
   pub held : entry_size * used ≤ length log

@@ -1,10 +1,13 @@
 -- A state's block gives the state back.
+use Rattle.std.specs.Prelude.{None, Option, Some}
 use mathlib.Core.Path.{◌≡◌, refl, ◌∙◌}
-use mathlib.Core.Bool.{Bool, true, false}
+use mathlib.Core.Bool.{Bool, true, false, ◌&&◌}
 use mathlib.Core.List.{List, ◌++◌}
-use Prim.Native.Nat.{ℕ}
+use Prim.Native.Nat.{ℕ, zero, suc}
 use native.Mathlib.Omega.{arith}
-use borrow.Author.Tests.{eq-eqb}
+use borrow.Author.Tests.{eq-eqb, ne_eqb, leb-true}
+use Rattle.std.specs.Bool.{then_some}
+use Rattle.std.proofs.Math.Bool.{and-false}
 use lib.ListN.{get_or, length, length-append}
 use lib.Dec.{eqb, leb}
 use Rattle.fields.specs.Fields.{if}
@@ -12,19 +15,18 @@ use Rattle.fields.specs.Parts.{with_words}
 use Rattle.fields.proofs.ChoiceLaws.{if_ind}
 use Rattle.chain_state.specs.declared.Stack.{Stack}
 use Rattle.chain_state.specs.declared.Stack.TheVariants.{Empty, One, Two}
-use Rattle.chain_state.specs.declared.TagWords.{TagWords}
-use Rattle.chain_state.specs.declared.TagWords.TheVariants.{Nothing as NoTagWords, From}
 use Rattle.chain_state.specs.declared.Payload.{Payload}
 use Rattle.chain_state.specs.declared.Payload.TheVariants.{Nothing as NoPayload, Words}
 use Rattle.chain_state.specs.declared.State.{State}
-use Rattle.state_block.specs.declared.ReadPath.{ReadPath}
-use Rattle.state_block.specs.declared.ReadUnit.{ReadUnit}
-use Rattle.state_block.specs.declared.ReadState.{ReadState}
+use Rattle.gif.specs.declared.Path.{Path}
+use Rattle.vif_codes.specs.declared.Vif.{Vif}
+use Rattle.state_block.specs.Words.{is_bit, bit_at}
+use Rattle.state_block.specs.Read.{ReadPath, ReadUnit, ReadState, known_path, known_unit, known_state}
 use Rattle.state_block.specs.Sizes.{path_size, unit_size, chain_size, vif1_at, path2_at, path3_at, vif0_at, state_size, part}
 use Rattle.state_block.specs.PathBlock.{path_block, path_in_block}
 use Rattle.state_block.specs.UnitBlock.{unit_block, unit_in_block}
 use Rattle.state_block.specs.StateBlock.{stack_words, tags_block, payload_block, chain_words, state_block, chain_exists, stack_in_block, tags_in_block, payload_in_block, used_in_block, held_state, no_state, read_state, state_with, state_in_block}
-use Rattle.state_block.proofs.WordLaws.{bit_is, bit_back, long_back}
+use Rattle.state_block.proofs.WordLaws.{bit_is, bit_back, long_back, then_is}
 use Rattle.state_block.proofs.PartLaws.{part_kept, part_last, begins_none, begins_more, begins_all}
 use Rattle.state_block.proofs.PathLaws.{path_length, path_back}
 use Rattle.state_block.proofs.UnitLaws.{unit_length, unit_back}
@@ -111,9 +113,9 @@ depth_is Empty = refl
 depth_is (One a) = refl
 depth_is (Two a b) = refl
 
-tags_is : (k : TagWords) → leb (get_or (tags_block k) 0 0) 1 ≡ true
-tags_is NoTagWords = refl
-tags_is (From at) = refl
+tags_is : (k : Option ℕ) → leb (get_or (tags_block k) 0 0) 1 ≡ true
+tags_is None = refl
+tags_is (Some at) = refl
 
 stack_of : (b : List ℕ) (k : Stack)
     → get_or b 4 0 ≡ get_or (stack_words k) 0 0
@@ -125,13 +127,13 @@ stack_of b Empty e f g = rw e
 stack_of b (One x) e f g = rw (e, f)
 stack_of b (Two x y) e f g = rw (e, f, g)
 
-tags_of : (b : List ℕ) (k : TagWords)
+tags_of : (b : List ℕ) (k : Option ℕ)
     → get_or b 7 0 ≡ get_or (tags_block k) 0 0
     → get_or b 8 0 ≡ get_or (tags_block k) 1 0
     → tags_in_block b ≡ k
 unfolding tags_in_block if
-tags_of b NoTagWords e f = rw e
-tags_of b (From at) e f = rw (e, f)
+tags_of b None e f = rw e
+tags_of b (Some at) e f = rw (e, f)
 
 -- a payload of no words is written as no payload, so the block does not tell them apart
 pub empty_written : (at : ℕ) → payload_block (Words at 0) ≡ payload_block NoPayload
@@ -226,3 +228,104 @@ state_back s h k h0 k0 e =
       chain_is s,
       held_back s e,
     )
+
+-- ---- what is read
+
+-- the parts of a block, as they are read
+abbrev pub parts_read : List ℕ → ReadState
+parts_read b =
+    state_with (unit_in_block (part vif1_at unit_size b)) (path_in_block (part path2_at path_size b)) (path_in_block (part path3_at path_size b))
+    (unit_in_block (part vif0_at unit_size b)) b
+
+module _ (b : List ℕ) where
+  -- words that are no state's
+  pub chain_missing : chain_exists b ≡ false → None ≡ known_state (parts_read b)
+  unfolding state_with if
+  chain_missing e = rw e
+
+  pub vif1_missing : (unit_in_block (part vif1_at unit_size b)).known ≡ false → None ≡ known_state (parts_read b)
+  unfolding state_with if
+  vif1_missing e = rw (e, and-false (chain_exists b))
+
+  pub vif0_missing : (unit_in_block (part vif0_at unit_size b)).known ≡ false → None ≡ known_state (parts_read b)
+  unfolding state_with if
+  vif0_missing e = rw (e, and-false (unit_in_block (part vif1_at unit_size b)).known, and-false (chain_exists b))
+
+  pub path2_missing : (path_in_block (part path2_at path_size b)).known ≡ false → None ≡ known_state (parts_read b)
+  unfolding state_with if
+  path2_missing e =
+      rw (e, and-false ((unit_in_block (part vif1_at unit_size b)).known && (unit_in_block (part vif0_at unit_size b)).known), and-false (chain_exists b))
+
+  pub path3_missing : (path_in_block (part path3_at path_size b)).known ≡ false → None ≡ known_state (parts_read b)
+  unfolding state_with if
+  path3_missing e =
+      rw (
+        e,
+        and-false (path_in_block (part path2_at path_size b)).known,
+        and-false ((unit_in_block (part vif1_at unit_size b)).known && (unit_in_block (part vif0_at unit_size b)).known),
+        and-false (chain_exists b),
+      )
+
+  pub no_bit_2 : is_bit b 2 ≡ false → chain_exists b ≡ false
+  unfolding chain_exists
+  no_bit_2 e = rw e
+
+  pub no_bit_3 : is_bit b 3 ≡ false → chain_exists b ≡ false
+  unfolding chain_exists
+  no_bit_3 e = rw (e, and-false (is_bit b 2))
+
+  pub no_depth : leb (get_or b 4 0) 2 ≡ false → chain_exists b ≡ false
+  unfolding chain_exists
+  no_depth e = rw (e, and-false (is_bit b 3), and-false (is_bit b 2))
+
+  pub no_bit_7 : is_bit b 7 ≡ false → chain_exists b ≡ false
+  unfolding chain_exists
+  no_bit_7 e = rw (e, and-false (leb (get_or b 4 0) 2), and-false (is_bit b 3), and-false (is_bit b 2))
+
+  -- the pending tag words, by a bit
+  tags_by_bit : is_bit b 7 ≡ true → then_some (bit_at b 7) (get_or b 8 0) ≡ tags_in_block b
+  unfolding tags_in_block if
+  tags_by_bit e = by_number (get_or b 7 0) (get_or b 8 0) e
+    where
+      by_number : (n x : ℕ) → leb n 1 ≡ true → then_some (eqb n 1) x ≡ (if (eqb n 0) None (Some x))
+      by_number zero x e = refl
+      by_number (suc zero) x e = refl
+      by_number (suc (suc n)) x e = absurd (omega (arith, leb-true (suc (suc n)) 1 e))
+
+  pub state_is : {t e : Bool} → Some t ≡ then_some (leb (get_or b 2 0) 1) (eqb (get_or b 2 0) 1)
+      → Some e ≡ then_some (leb (get_or b 3 0) 1) (eqb (get_or b 3 0) 1)
+      → {k : Stack}
+      → Some k ≡ then_some (leb (get_or b 4 0) 2) (stack_in_block b)
+      → {i : Bool}
+      → Some i ≡ then_some (leb (get_or b 7 0) 1) (eqb (get_or b 7 0) 1)
+      → {u v : Vif} {p q : Path}
+      → Some u ≡ known_unit (unit_in_block (part vif1_at unit_size b))
+      → Some p ≡ known_path (path_in_block (part path2_at path_size b))
+      → Some q ≡ known_path (path_in_block (part path3_at path_size b))
+      → Some v ≡ known_unit (unit_in_block (part vif0_at unit_size b))
+      → {s : State}
+      → s ≡ record (held_state b u p q v) { tte = t; ended = e; stack = k; tags = then_some i (get_or b 8 0) }
+      → Some s ≡ known_state (parts_read b)
+  unfolding state_with chain_exists held_state if
+  state_is d e k i u p q v s =
+      let d' = then_is _ _ _ d in
+      let e' = then_is _ _ _ e in
+      let k' = then_is _ _ _ k in
+      let i' = then_is _ _ _ i in
+      let u' = then_is _ _ _ u in
+      let p' = then_is _ _ _ p in
+      let q' = then_is _ _ _ q in
+      let v' = then_is _ _ _ v in
+      rw (s, d'.0, e'.0, k'.0, i'.0, u'.0, p'.0, q'.0, v'.0, d'.1, e'.1, k'.1, i'.1, u'.1, p'.1, q'.1, v'.1, tags_by_bit i'.0)
+
+  pub none_long : (length b ≡ state_size → ⊥) → state_in_block b ≡ read_state false (no_state 1 0)
+  unfolding state_in_block if
+  none_long h = rw (ne_eqb (length b) state_size h)
+
+  pub words_read : length b ≡ state_size → known_state (parts_read b) ≡ known_state (state_in_block b)
+  words_read h = rw (whole_read b h)
+
+  -- what stands for the state of words that are none's
+  pub none_stands : length b ≡ state_size → (state_in_block b).known ≡ false
+      → (state_in_block b).state ≡ no_state (get_or b 0 0) (used_in_block b)
+  none_stands h e = rw (none_read b h e)

@@ -1,26 +1,30 @@
 -- A unit's block gives the unit back.
+use Rattle.std.specs.Prelude.{None, Option, Some}
 use mathlib.Core.Path.{◌≡◌, refl}
-use mathlib.Core.Bool.{true}
+use mathlib.Core.Bool.{Bool, true, false}
 use mathlib.Core.List.{List, [], ◌∷◌, ◌++◌}
 use mathlib.Core.Logic.{⊎_elim}
-use Prim.Native.Nat.{ℕ}
+use Prim.Native.Nat.{ℕ, ◌<◌, ◌≤◌}
 use native.Mathlib.Omega.{arith}
+use borrow.Author.Tests.{eq-eqb, ne_eqb, eqb-true}
+use lib.Dec.{eqb, leb}
 use lib.ListN.{get_or, length, length-append}
+use Rattle.std.specs.Bool.{then_some}
+use Rattle.std.proofs.Math.Bool.{and-false}
 use Rattle.fields.specs.Fields.{if}
+use Rattle.fields.proofs.ChoiceLaws.{if_ind, if_ind_by}
 use Rattle.fields.specs.Parts.{with_words}
 use Rattle.unpack_rules.specs.declared.Format.{Format}
-use Rattle.unpack_rules.specs.declared.NamedFormat.{NamedFormat}
-use Rattle.unpack_rules.specs.declared.NamedFormat.TheVariants.{Named, Missing}
 use Rattle.unpack_rules.specs.Formats.{format_number, format_named}
 use Rattle.unpack_rules.proofs.FormatLaws.{named_number, number_named}
 use Rattle.vif_codes.specs.declared.Waiting.{Waiting}
 use Rattle.vif_codes.specs.declared.Waiting.TheVariants.{Nothing, MaskDue, RowDue, ColDue, MpgDue, DirectDue, DirecthlDue, UnpackDue}
 use Rattle.vif_codes.specs.declared.Vif.{Vif}
-use Rattle.state_block.specs.declared.ReadWaiting.{ReadWaiting}
+use Rattle.state_block.specs.Read.{ReadWaiting, ReadUnit, known_waiting, known_unit}
 use Rattle.state_block.specs.Sizes.{register_size, waiting_size, unit_size}
-use Rattle.state_block.specs.Words.{numbered}
-use Rattle.state_block.specs.UnitBlock.{a_format, read_format, format_numbered, waiting_number, waiting_words, read_waiting, waitings, waiting_in_block, register_words, unit_block, read_unit, unit_with, unit_in_block}
-use Rattle.state_block.proofs.WordLaws.{bit_is, bit_back, has_number}
+use Rattle.state_block.specs.Words.{is_bit, numbered}
+use Rattle.state_block.specs.UnitBlock.{a_format, read_format, format_numbered, waiting_number, waiting_words, read_waiting, unpack_with, waitings, waiting_in_block, register_words, unit_block, held_unit, no_unit, read_unit, unit_with, unit_in_block}
+use Rattle.state_block.proofs.WordLaws.{bit_is, bit_back, has_number, true_false, then_is}
 use Rattle.state_block.proofs.PartLaws.{begins_none, begins_more, begins_all}
 
 -- ---- formats and their numbers
@@ -33,9 +37,9 @@ pub format_has : (n : ℕ) → (format_numbered n).known ≡ true → format_num
 unfolding format_numbered
 format_has n h = by_name (format_named n) refl h
   where
-    by_name : (r : NamedFormat) → format_named n ≡ r → (read_format r).known ≡ true → format_number (read_format r).format ≡ n
-    by_name (Named f) e k = number_named n f e
-    by_name Missing e k = absurd (let z : ◌≡◌ {A = ℕ} 0 1 = cc in omega arith)
+    by_name : (r : Option Format) → format_named n ≡ r → (read_format r).known ≡ true → format_number (read_format r).format ≡ n
+    by_name (Some f) e k = number_named n f e
+    by_name None e k = absurd (let z : ◌≡◌ {A = ℕ} 0 1 = cc in omega arith)
 
 -- ---- the code that waits
 
@@ -112,3 +116,110 @@ unit_back v h k =
       four v.row h,
       four v.col k,
     )
+
+-- ---- what is read
+
+module _ (b : List ℕ) where
+  -- an UNPACK that waits
+  pub no_interrupt : is_bit b 22 ≡ false → None ≡ known_waiting (unpack_with (format_numbered (get_or b 26 0)) b)
+  no_interrupt e = rw e
+
+  pub no_usn : is_bit b 27 ≡ false → None ≡ known_waiting (unpack_with (format_numbered (get_or b 26 0)) b)
+  no_usn e = rw (e, and-false (is_bit b 22))
+
+  pub no_mask : is_bit b 28 ≡ false → None ≡ known_waiting (unpack_with (format_numbered (get_or b 26 0)) b)
+  no_mask e = rw (e, and-false (is_bit b 27), and-false (is_bit b 22))
+
+  pub no_format_read : None ≡ format_named (get_or b 26 0) → None ≡ known_waiting (unpack_with (format_numbered (get_or b 26 0)) b)
+  unfolding format_numbered
+  no_format_read e = rw (← e, and-false (is_bit b 28), and-false (is_bit b 27), and-false (is_bit b 22))
+
+  pub unpack_read : {u m i : Bool} → Some u ≡ then_some (leb (get_or b 27 0) 1) (eqb (get_or b 27 0) 1)
+      → Some m ≡ then_some (leb (get_or b 28 0) 1) (eqb (get_or b 28 0) 1)
+      → Some i ≡ then_some (leb (get_or b 22 0) 1) (eqb (get_or b 22 0) 1)
+      → {f : Format}
+      → Some f ≡ format_named (get_or b 26 0)
+      → Some
+      (UnpackDue f
+      (record {
+        address = get_or b 24 0;
+        count = get_or b 25 0;
+        due = get_or b 23 0;
+        usn = u;
+        masked = m;
+        interrupt = i;
+        first = get_or b 29 0;
+        second = get_or b 30 0;
+        third = get_or b 31 0;
+      }))
+      ≡ known_waiting (unpack_with (format_numbered (get_or b 26 0)) b)
+  unfolding format_numbered
+  unpack_read p q r e =
+      let x = then_is _ _ _ p in
+      let y = then_is _ _ _ q in
+      let z = then_is _ _ _ r in
+      rw (← e, x.0, y.0, z.0, x.1, y.1, z.1)
+
+  -- the code that waits
+  pub nothing_read : get_or b 21 0 ≡ 0 → Some Nothing ≡ known_waiting (waiting_in_block b)
+  unfolding waiting_in_block waitings numbered if
+  nothing_read e = rw e
+
+  pub bit_missing : (get_or b 21 0 ≡ 0 → ⊥) → is_bit b 22 ≡ false → None ≡ known_waiting (waiting_in_block b)
+  unfolding waiting_in_block waitings numbered
+  bit_missing n e =
+      let P : ReadWaiting → Type 0 = λ r. None ≡ known_waiting r in
+      if_ind_by P (eqb (get_or b 21 0) 0) (λ t. absurd (n (eqb-true _ _ t)))
+      (λ f.
+      if_ind P _ (rw e refl)
+      (if_ind P _ (rw e refl)
+      (if_ind P _ (rw e refl)
+      (if_ind P _ (rw e refl) (if_ind P _ (rw e refl) (if_ind P _ (rw e refl) (if_ind P _ (rw e refl) refl)))))))
+
+  pub waits_missing : 7 < get_or b 21 0 → None ≡ known_waiting (waiting_in_block b)
+  unfolding waiting_in_block waitings numbered if
+  waits_missing h =
+      let n : (k : ℕ) → k ≤ 7 → eqb (get_or b 21 0) k ≡ false = λ k l. ne_eqb _ _ (λ e. omega (arith, e)) in
+      rw (n 0 (omega arith), n 1 (omega arith), n 2 (omega arith), n 3 (omega arith), n 4 (omega arith), n 5 (omega arith), n 6 (omega arith), n 7 (omega arith))
+
+  -- the unit
+  pub no_bit_8 : is_bit b 8 ≡ false → None ≡ known_unit (unit_with (waiting_in_block b) b)
+  unfolding unit_with if
+  no_bit_8 e = rw e
+
+  pub no_bit_10 : is_bit b 10 ≡ false → None ≡ known_unit (unit_with (waiting_in_block b) b)
+  unfolding unit_with if
+  no_bit_10 e = rw (e, and-false (is_bit b 8))
+
+  pub none_waits : (waiting_in_block b).known ≡ false → None ≡ known_unit (unit_with (waiting_in_block b) b)
+  unfolding unit_with if
+  none_waits e = rw (e, and-false (is_bit b 10), and-false (is_bit b 8))
+
+  pub unit_read : {t u : Bool} → Some t ≡ then_some (leb (get_or b 8 0) 1) (eqb (get_or b 8 0) 1)
+      → Some u ≡ then_some (leb (get_or b 10 0) 1) (eqb (get_or b 10 0) 1)
+      → {w : Waiting}
+      → Some w ≡ known_waiting (waiting_in_block b)
+      → {v : Vif}
+      → v ≡ record (held_unit b w) { dbf = t; mskpath3 = u }
+      → Some v ≡ known_unit (unit_with (waiting_in_block b) b)
+  unfolding unit_with if
+  unit_read p q r e =
+      let x = then_is _ _ _ p in
+      let y = then_is _ _ _ q in
+      let z = then_is _ _ _ r in
+      rw (e, x.0, y.0, z.0, x.1, y.1, z.1)
+
+  pub none_long : (length b ≡ unit_size → ⊥) → None ≡ known_unit (unit_in_block b)
+  unfolding unit_in_block if
+  none_long h = rw (ne_eqb (length b) unit_size h)
+
+  pub words_read : length b ≡ unit_size → known_unit (unit_with (waiting_in_block b) b) ≡ known_unit (unit_in_block b)
+  unfolding unit_in_block if
+  words_read h = rw (eq-eqb (length b) unit_size h)
+
+  -- what stands for the unit of words that are none's
+  pub none_stands : (unit_in_block b).known ≡ false → (unit_in_block b).unit ≡ no_unit
+  unfolding unit_in_block unit_with
+  none_stands =
+      let P : ReadUnit → Type 0 = λ r. r.known ≡ false → r.unit ≡ no_unit in
+      if_ind P _ (if_ind P _ (λ h. absurd (true_false h)) (λ h. refl)) (λ h. refl)

@@ -1,14 +1,12 @@
 -- The path block: a GIF path as nine words.
-use Rattle.std.specs.Prelude.{ℕ, ◌/◌, ◌%◌, ◌^◌, Bool, true, false, ◌&&◌, List, [], ◌∷◌, length, get_or, eqb, leb}
+use Rattle.std.specs.Prelude.{ℕ, ◌/◌, ◌%◌, ◌^◌, Bool, true, false, ◌&&◌, List, [], ◌∷◌, length, get_or, eqb, leb, None, Option, Some}
 use Rattle.fields.specs.Fields.{if}
 use Rattle.gif.specs.declared.TagFormat.{TagFormat}
 use Rattle.gif.specs.declared.TagFormat.TheVariants.{Packed, Reglist, Image}
 use Rattle.gif.specs.declared.HeldTag.{HeldTag}
-use Rattle.gif.specs.declared.Place.{Place}
-use Rattle.gif.specs.declared.Place.TheVariants.{Idle, Data}
 use Rattle.gif.specs.declared.Path.{Path}
 use Rattle.gif.specs.Tag.{path_of}
-use Rattle.state_block.specs.declared.ReadPath.{ReadPath}
+use Rattle.state_block.specs.Read.{ReadPath}
 use Rattle.state_block.specs.Sizes.{path_size}
 use Rattle.state_block.specs.Words.{bit_of, is_bit, bit_at, long_of, numbered}
 
@@ -22,9 +20,9 @@ tag_format_number Image = 2
 unfoldable pub tag_format_numbered : ℕ → TagFormat
 tag_format_numbered n = numbered tag_format_number n (Packed ∷ Reglist ∷ []) Image
 
-abbrev pub place_block : ℕ → Place → List ℕ
-place_block q Idle = q ∷ 0 ∷ 0 ∷ 0 ∷ 0 ∷ 0 ∷ 0 ∷ 0 ∷ 0 ∷ []
-place_block q (Data t) =
+abbrev pub place_block : ℕ → Option HeldTag → List ℕ
+place_block q None = q ∷ 0 ∷ 0 ∷ 0 ∷ 0 ∷ 0 ∷ 0 ∷ 0 ∷ 0 ∷ []
+place_block q (Some t) =
     q
     ∷ 1
     ∷ tag_format_number t.format
@@ -57,19 +55,19 @@ tag_in_block b =
 
 -- stands for the path of words that are no path's: out of range, since a held tag has loops
 abbrev pub no_path : Path
-no_path = path_of 0 (Data (record { nloop = 0; eop = false; format = Image; nreg = 0; descriptors = 0; due = 0 }))
+no_path = path_of 0 (Some (record { nloop = 0; eop = false; format = Image; nreg = 0; descriptors = 0; due = 0 }))
 
 abbrev pub read_path : Bool → Path → ReadPath
 read_path known path = record { known = known; path = path }
 
-abbrev pub a_path : ℕ → Place → ReadPath
+abbrev pub a_path : ℕ → Option HeldTag → ReadPath
 a_path q place = read_path true (path_of q place)
 
 -- the path of a block, if it is a path's; words 2 to 8 are ignored where the place is 0
 unfoldable pub path_in_block : List ℕ → ReadPath
 path_in_block b =
     if (eqb (length b) path_size)
-    (if (eqb (get_or b 1 0) 0) (a_path (get_or b 0 0) Idle)
-    (if (tag_exists b) (a_path (get_or b 0 0) (Data (tag_in_block b)))
+    (if (eqb (get_or b 1 0) 0) (a_path (get_or b 0 0) None)
+    (if (tag_exists b) (a_path (get_or b 0 0) (Some (tag_in_block b)))
     (read_path false no_path)))
     (read_path false no_path)

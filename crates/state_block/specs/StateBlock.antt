@@ -1,19 +1,17 @@
 -- The state block: a saved state as 95 words, the chain's own and then the blocks of VIF1, of paths 2 and 3, and of VIF0.
-use Rattle.std.specs.Prelude.{ℕ, ◌/◌, ◌%◌, ◌^◌, Bool, true, false, ◌&&◌, List, [], ◌∷◌, ◌++◌, length, get_or, eqb, leb}
+use Rattle.std.specs.Prelude.{ℕ, ◌/◌, ◌%◌, ◌^◌, Bool, true, false, ◌&&◌, List, [], ◌∷◌, ◌++◌, length, get_or, eqb, leb, None, Option, Some}
 use Rattle.fields.specs.Fields.{if}
 use Rattle.gif.specs.declared.Path.{Path}
 use Rattle.vif_codes.specs.declared.Vif.{Vif}
 use Rattle.chain_state.specs.declared.Stack.{Stack}
 use Rattle.chain_state.specs.declared.Stack.TheVariants.{Empty, One, Two}
-use Rattle.chain_state.specs.declared.TagWords.{TagWords}
-use Rattle.chain_state.specs.declared.TagWords.TheVariants.{Nothing as NoTagWords, From}
 use Rattle.chain_state.specs.declared.Payload.{Payload}
 use Rattle.chain_state.specs.declared.Payload.TheVariants.{Nothing as NoPayload, Words}
 use Rattle.chain_state.specs.declared.State.{State}
 use Rattle.chain_state.specs.Start.{reset_path, reset_unit}
-use Rattle.state_block.specs.declared.ReadPath.{ReadPath}
-use Rattle.state_block.specs.declared.ReadUnit.{ReadUnit}
-use Rattle.state_block.specs.declared.ReadState.{ReadState}
+use Rattle.state_block.specs.Read.{ReadPath}
+use Rattle.state_block.specs.Read.{ReadUnit}
+use Rattle.state_block.specs.Read.{ReadState}
 use Rattle.state_block.specs.Sizes.{path_size, unit_size, vif1_at, path2_at, path3_at, vif0_at, state_size, part}
 use Rattle.state_block.specs.Words.{bit_of, is_bit, bit_at, long_of}
 use Rattle.state_block.specs.PathBlock.{path_block, path_in_block}
@@ -28,9 +26,9 @@ stack_words (One a) = 1 ∷ a ∷ 0 ∷ []
 stack_words (Two a b) = 2 ∷ a ∷ b ∷ []
 
 -- words 7 and 8
-abbrev pub tags_block : TagWords → List ℕ
-tags_block NoTagWords = 0 ∷ 0 ∷ []
-tags_block (From at) = 1 ∷ at ∷ []
+abbrev pub tags_block : Option ℕ → List ℕ
+tags_block None = 0 ∷ 0 ∷ []
+tags_block (Some at) = 1 ∷ at ∷ []
 
 -- words 9 and 10: how many words, and the address of the next, 0 where none is pending
 abbrev pub payload_block : Payload → List ℕ
@@ -70,8 +68,8 @@ unfoldable pub stack_in_block : List ℕ → Stack
 stack_in_block b = if (eqb (get_or b 4 0) 0) Empty (if (eqb (get_or b 4 0) 1) (One (get_or b 5 0)) (Two (get_or b 5 0) (get_or b 6 0)))
 
 -- the pending tag words by words 7 and 8; word 8 is ignored where word 7 is 0
-unfoldable pub tags_in_block : List ℕ → TagWords
-tags_in_block b = if (eqb (get_or b 7 0) 0) NoTagWords (From (get_or b 8 0))
+unfoldable pub tags_in_block : List ℕ → Option ℕ
+tags_in_block b = if (eqb (get_or b 7 0) 0) None (Some (get_or b 8 0))
 
 -- the pending payload by words 9 and 10; word 10 is ignored where word 9 is 0
 unfoldable pub payload_in_block : List ℕ → Payload
@@ -108,7 +106,7 @@ no_state channel used =
       tte = false;
       ended = false;
       stack = Empty;
-      tags = NoTagWords;
+      tags = None;
       payload = NoPayload;
       used = used;
       vif0 = reset_unit;

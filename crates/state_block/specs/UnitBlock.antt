@@ -1,10 +1,8 @@
 -- The unit block: a VIF unit as 32 words.
-use Rattle.std.specs.Prelude.{ℕ, Bool, true, false, ◌&&◌, List, [], ◌∷◌, ◌++◌, length, get_or, eqb}
+use Rattle.std.specs.Prelude.{ℕ, Bool, true, false, ◌&&◌, List, [], ◌∷◌, ◌++◌, length, get_or, eqb, None, Option, Some}
 use Rattle.fields.specs.Fields.{if}
 use Rattle.unpack_rules.specs.declared.Format.{Format}
 use Rattle.unpack_rules.specs.declared.Format.TheVariants.{S32}
-use Rattle.unpack_rules.specs.declared.NamedFormat.{NamedFormat}
-use Rattle.unpack_rules.specs.declared.NamedFormat.TheVariants.{Named, Missing}
 use Rattle.unpack_rules.specs.Formats.{format_number, format_named}
 use Rattle.unpack_rules.specs.declared.Unpacking.{Unpacking}
 use Rattle.vif_codes.specs.declared.Waiting.{Waiting}
@@ -12,9 +10,9 @@ use Rattle.vif_codes.specs.declared.Waiting.TheVariants.{Nothing, MaskDue, RowDu
 use Rattle.vif_codes.specs.declared.Vif.{Vif}
 use Rattle.vif_codes.specs.Setters.{with_waiting}
 use Rattle.chain_state.specs.Start.{reset_unit}
-use Rattle.state_block.specs.declared.ReadFormat.{ReadFormat}
-use Rattle.state_block.specs.declared.ReadWaiting.{ReadWaiting}
-use Rattle.state_block.specs.declared.ReadUnit.{ReadUnit}
+use Rattle.state_block.specs.Read.{ReadFormat}
+use Rattle.state_block.specs.Read.{ReadWaiting}
+use Rattle.state_block.specs.Read.{ReadUnit}
 use Rattle.state_block.specs.Sizes.{unit_size}
 use Rattle.state_block.specs.Words.{bit_of, is_bit, bit_at, numbered}
 
@@ -27,9 +25,9 @@ a_format f = record { known = true; format = f }
 abbrev pub no_format : ReadFormat
 no_format = record { known = false; format = S32 }
 
-abbrev pub read_format : NamedFormat → ReadFormat
-read_format (Named f) = a_format f
-read_format Missing = no_format
+abbrev pub read_format : Option Format → ReadFormat
+read_format (Some f) = a_format f
+read_format None = no_format
 
 unfoldable pub format_numbered : ℕ → ReadFormat
 format_numbered n = read_format (format_named n)

@@ -6,9 +6,9 @@ mod state;
 mod unit;
 mod words;
 
-pub use path::{path_block, path_in_block};
-pub use state::{state_block, state_in_block};
-pub use unit::{unit_block, unit_in_block};
+pub use path::{path_block, path_given, path_in_block};
+pub use state::{state_block, state_given, state_in_block};
+pub use unit::{unit_block, unit_given, unit_in_block};
 
 // The words of a path block.
 pub const PATH_WORDS: usize = 9;
@@ -35,38 +35,3 @@ const PATH3_AT: usize = PATH2_AT + PATH_WORDS;
 pub const VIF0_AT: usize = PATH3_AT + PATH_WORDS;
 
 pub const STATE_WORDS: usize = VIF0_AT + UNIT_WORDS;
-
-// What a path block holds, and whether it is a path's; where it is none's, `path` is one out of range.
-#[derive(Clone, Copy)]
-pub struct ReadPath {
-    pub known: bool,
-    pub path: gif::Path,
-}
-
-// What a format's number says, and whether it is a format's.
-#[derive(Clone, Copy)]
-pub(crate) struct ReadFormat {
-    pub(crate) known: bool,
-    pub(crate) format: unpack_rules::Format,
-}
-
-// The code that a unit block says waits, and whether its words are one's.
-#[derive(Clone, Copy)]
-pub(crate) struct ReadWaiting {
-    pub(crate) known: bool,
-    pub(crate) waiting: vif_codes::Waiting,
-}
-
-// What a unit block holds, and whether it is a unit's; where it is none's, `unit` is one out of range.
-#[derive(Clone, Copy)]
-pub struct ReadUnit {
-    pub known: bool,
-    pub unit: vif_codes::Vif,
-}
-
-// What a state block holds, and whether it is a state's; where it is none's, `state` is one out of range.
-#[derive(Clone, Copy)]
-pub struct ReadState {
-    pub known: bool,
-    pub state: chain_state::State,
-}

@@ -1,17 +1,17 @@
 // The state block: a saved state as 95 words.
-ghost use Rattle.std.specs.Prelude.{◌≡◌, false, ◌&&◌, length};
-ghost use Rattle.state_block.specs.Sizes.{state_size};
-ghost use Rattle.state_block.specs.StateBlock.{stack_words, tags_block, payload_block, chain_words, state_block, chain_exists, stack_in_block, tags_in_block, payload_in_block, used_in_block, held_state, no_state, read_state, state_with, state_in_block};
+ghost use Rattle.std.specs.Prelude.{◌≡◌, get_or, leb};
+ghost use Rattle.std.specs.Bool.{then_some};
+ghost use Rattle.state_block.specs.Sizes.{vif1_at, path2_at, path3_at, vif0_at, path_size, unit_size, part};
+ghost use Rattle.state_block.specs.Read.{known_state};
+ghost use Rattle.state_block.specs.PathBlock.{path_in_block};
+ghost use Rattle.state_block.specs.UnitBlock.{unit_in_block};
+ghost use Rattle.state_block.specs.StateBlock.{stack_words, tags_block, payload_block, chain_words, state_block, stack_in_block, payload_in_block, used_in_block, no_state, state_with, state_in_block};
 
 use super::path::{path_block, path_in_block};
 use super::unit::{unit_block, unit_in_block};
-use super::words::{bit, both, joined};
-use super::{
-    CHAIN_WORDS, PATH2_AT, PATH3_AT, ReadPath, ReadState, ReadUnit, STATE_WORDS, VIF0_AT, VIF1_AT,
-};
-use chain_state::{Payload, Stack, State, TagWords};
-use gif::Path;
-use vif_codes::Vif;
+use super::words::{bit_in, halves, joined};
+use super::{CHAIN_WORDS, PATH2_AT, PATH3_AT, STATE_WORDS, VIF0_AT, VIF1_AT};
+use chain_state::{Payload, Stack, State};
 
 // Words 4 to 6.
 fn stack_words(stack: Stack) -> [u32; 3]
@@ -25,12 +25,12 @@ fn stack_words(stack: Stack) -> [u32; 3]
 }
 
 // Words 7 and 8.
-fn tag_words(tags: TagWords) -> [u32; 2]
+fn tag_words(tags: Option<u32>) -> [u32; 2]
     ensures { result ≡ tags_block tags }
 {
     match tags {
-        TagWords::Nothing => [0, 0],
-        TagWords::From(at) => [1, at],
+        None => [0, 0],
+        Some(at) => [1, at],
     }
 }
 
@@ -40,39 +40,33 @@ fn payload_words(payload: Payload) -> [u32; 2]
 {
     match payload {
         Payload::Nothing => [0, 0],
-        Payload::Words { at, count } => {
-            if count == 0 {
-                return [0, 0];
-            }
-            [count, at]
-        }
+        Payload::Words { at, count } => { if count == 0 { [0, 0] } else { [count, at] } }
     }
 }
 
 // Words 0 to 12.
+#[tactic(auto, using(crate::proofs::WordLaws::bit_from), unfolding(crate::specs::StateBlock::chain_words))]
 fn chain_words(state: State) -> [u32; CHAIN_WORDS]
     ensures { result ≡ chain_words state }
 {
-    let stack = state.stack;
-    let tags = state.tags;
-    let payload = state.payload;
-    let s = stack_words(stack);
-    let t = tag_words(tags);
-    let p = payload_words(payload);
+    let [depth, bottom, top] = stack_words(state.stack);
+    let [pending, tags_at] = tag_words(state.tags);
+    let [count, payload_at] = payload_words(state.payload);
+    let [used, used_high] = halves(state.used);
     [
         state.channel,
         state.tadr,
-        bit(state.tte),
-        bit(state.ended),
-        s[0],
-        s[1],
-        s[2],
-        t[0],
-        t[1],
-        p[0],
-        p[1],
-        (state.used % 0x1_0000_0000) as u32,
-        (state.used / 0x1_0000_0000) as u32,
+        u32::from(state.tte),
+        u32::from(state.ended),
+        depth,
+        bottom,
+        top,
+        pending,
+        tags_at,
+        count,
+        payload_at,
+        used,
+        used_high,
     ]
 }
 
@@ -80,15 +74,11 @@ fn chain_words(state: State) -> [u32; CHAIN_WORDS]
 pub fn state_block(state: State) -> [u32; STATE_WORDS]
     ensures { result ≡ state_block state }
 {
-    let vif1 = state.vif1;
-    let vif0 = state.vif0;
-    let path2 = state.path2;
-    let path3 = state.path3;
     let c = chain_words(state);
-    let u = unit_block(vif1);
-    let p = path_block(path2);
-    let q = path_block(path3);
-    let v = unit_block(vif0);
+    let u = unit_block(state.vif1);
+    let p = path_block(state.path2);
+    let q = path_block(state.path3);
+    let v = unit_block(state.vif0);
     let mut block = [0; STATE_WORDS];
     fields::put_words(&mut block, 0, &c);
     fields::put_words(&mut block, VIF1_AT, &u);
@@ -98,134 +88,83 @@ pub fn state_block(state: State) -> [u32; STATE_WORDS]
     block
 }
 
-fn chain_exists(block: &[u32]) -> bool
-    requires { length block.now ≡ state_size }
-    ensures { result ≡ chain_exists block.now }
-{
-    both(
-        block[2] <= 1,
-        both(block[3] <= 1, both(block[4] <= 2, block[7] <= 1)),
-    )
-}
-
-fn stack_in_block(block: &[u32]) -> Stack
-    requires { length block.now ≡ state_size }
-    ensures { result ≡ stack_in_block block.now }
+fn stack_in_words(block: &[u32; STATE_WORDS]) -> Option<Stack>
+    ensures { result ≡ then_some (leb (get_or block.now 4 0) 2) (stack_in_block block.now) }
 {
     match block[4] {
-        0 => Stack::Empty,
-        1 => Stack::One(block[5]),
-        _ => Stack::Two(block[5], block[6]),
+        0 => Some(Stack::Empty),
+        1 => Some(Stack::One(block[5])),
+        2 => Some(Stack::Two(block[5], block[6])),
+        _ => None,
     }
 }
 
-fn tags_in_block(block: &[u32]) -> TagWords
-    requires { length block.now ≡ state_size }
-    ensures { result ≡ tags_in_block block.now }
-{
-    match block[7] {
-        0 => TagWords::Nothing,
-        _ => TagWords::From(block[8]),
-    }
-}
-
-fn payload_in_block(block: &[u32]) -> Payload
-    requires { length block.now ≡ state_size }
+fn payload_in_words(block: &[u32; STATE_WORDS]) -> Payload
     ensures { result ≡ payload_in_block block.now }
 {
     match block[9] {
         0 => Payload::Nothing,
-        _ => Payload::Words {
+        count => Payload::Words {
             at: block[10],
-            count: block[9],
+            count,
         },
     }
 }
 
-fn used_in_block(block: &[u32]) -> u64
-    requires { length block.now ≡ state_size }
+fn used_in_words(block: &[u32; STATE_WORDS]) -> u64
     ensures { result ≡ used_in_block block.now }
 {
     joined(block[11], block[12])
 }
 
-fn held_state(block: &[u32], vif1: Vif, path2: Path, path3: Path, vif0: Vif) -> State
-    requires { length block.now ≡ state_size }
-    ensures { result ≡ held_state block.now vif1 path2 path3 vif0 }
+// The state of a block's words, where they are a state's.
+fn state_in_words(block: &[u32; STATE_WORDS]) -> Option<State>
+    ensures { result
+        ≡ known_state (state_with (unit_in_block (part vif1_at unit_size block.now)) (path_in_block (part path2_at path_size block.now))
+        (path_in_block (part path3_at path_size block.now)) (unit_in_block (part vif0_at unit_size block.now)) block.now) }
 {
-    let stack = stack_in_block(block);
-    let tags = tags_in_block(block);
-    let payload = payload_in_block(block);
-    State {
+    Some(State {
         channel: block[0],
         tadr: block[1],
-        tte: block[2] == 1,
-        ended: block[3] == 1,
-        stack,
-        tags,
-        payload,
-        used: used_in_block(block),
-        vif0,
-        vif1,
-        path2,
-        path3,
+        tte: bit_in(block[2])?,
+        ended: bit_in(block[3])?,
+        stack: stack_in_words(block)?,
+        tags: bit_in(block[7])?.then_some(block[8]),
+        payload: payload_in_words(block),
+        used: used_in_words(block),
+        vif1: unit_in_block(&block[VIF1_AT..PATH2_AT])?,
+        path2: path_in_block(&block[PATH2_AT..PATH3_AT])?,
+        path3: path_in_block(&block[PATH3_AT..VIF0_AT])?,
+        vif0: unit_in_block(&block[VIF0_AT..])?,
+    })
+}
+
+// The state of a block, where its words are a state's.
+pub fn state_in_block(block: &[u32]) -> Option<State>
+    ensures { result ≡ known_state (state_in_block block.now) }
+{
+    state_in_words(block.as_array()?)
+}
+
+// Stands for the state of words that are no state's: the reset state with TADR 1, so out of range, with the channel and the entries used that the words say.
+#[tactic(auto, unfolding(crate::specs::StateBlock::no_state, chain_state::specs::Start::reset_state))]
+fn no_state(channel: u32, used: u64) -> State
+    ensures { result ≡ no_state channel used }
+{
+    State {
+        channel,
+        tadr: 1,
+        used,
+        ..chain_state::reset()
     }
 }
 
-fn no_state(channel: u32, used: u64) -> ReadState
-    ensures { result ≡ read_state false (no_state channel used) }
+// The state of a block, or one out of range where there is none.
+pub fn state_given(block: &[u32]) -> State
+    ensures { result ≡ (state_in_block block.now).state }
 {
-    let reset = chain_state::reset();
-    ReadState {
-        known: false,
-        state: State {
-            channel,
-            tadr: 1,
-            used,
-            ..reset
-        },
+    match block.as_array() {
+        None => no_state(1, 0),
+        Some(words) => { state_in_words(words).unwrap_or(no_state(words[0], used_in_words(words))) }
     }
-}
-
-fn parts_known(vif1: ReadUnit, path2: ReadPath, path3: ReadPath, vif0: ReadUnit) -> bool
-    ensures { result ≡ ((vif1.known && vif0.known) && (path2.known && path3.known)) }
-{
-    both(both(vif1.known, vif0.known), both(path2.known, path3.known))
-}
-
-fn state_with(
-    vif1: ReadUnit,
-    path2: ReadPath,
-    path3: ReadPath,
-    vif0: ReadUnit,
-    block: &[u32],
-) -> ReadState
-    requires { length block.now ≡ state_size }
-    ensures { result ≡ state_with vif1 path2 path3 vif0 block.now }
-{
-    let u = vif1.unit;
-    let p = path2.path;
-    let q = path3.path;
-    let v = vif0.unit;
-    if both(chain_exists(block), parts_known(vif1, path2, path3, vif0)) {
-        return ReadState {
-            known: true,
-            state: held_state(block, u, p, q, v),
-        };
-    }
-    no_state(block[0], used_in_block(block))
-}
-
-// The state of a block, where there is one.
-pub fn state_in_block(block: &[u32]) -> ReadState
-    ensures { result ≡ state_in_block block.now }
-{
-    if block.len() != STATE_WORDS {
-        return no_state(1, 0);
-    }
-    let vif1 = unit_in_block(&block[VIF1_AT..PATH2_AT]);
-    let path2 = path_in_block(&block[PATH2_AT..PATH3_AT]);
-    let path3 = path_in_block(&block[PATH3_AT..VIF0_AT]);
-    let vif0 = unit_in_block(&block[VIF0_AT..STATE_WORDS]);
-    state_with(vif1, path2, path3, vif0, block)
 }

@@ -1,38 +1,53 @@
 // The unit block: a VIF unit as 32 words.
-ghost use Rattle.std.specs.Prelude.{◌≡◌, false, ◌∷◌, length};
-ghost use Rattle.state_block.specs.Sizes.{unit_size};
-ghost use Rattle.state_block.specs.UnitBlock.{a_format, no_format, format_numbered, due_words, mpg_words, unpack_words, waiting_words, read_waiting, unpacking_in_block, unpack_with, waiting_in_block, register_words, unit_block, held_unit, no_unit, read_unit, unit_with, unit_in_block};
+ghost use Rattle.std.specs.Prelude.{◌≡◌, ◌∷◌, get_or};
+ghost use Rattle.state_block.specs.Read.{known_waiting, known_unit};
+ghost use Rattle.state_block.specs.UnitBlock.{format_numbered, due_words, mpg_words, unpack_words, waiting_words, unpack_with, waiting_in_block, register_words, unit_block, no_unit, unit_with, unit_in_block};
 
-use super::words::{bit, both};
-use super::{REGISTER_WORDS, ReadFormat, ReadUnit, ReadWaiting, UNIT_WORDS, WAITING_WORDS};
-use unpack_rules::{Format, NamedFormat, Unpacking};
+use super::words::bit_in;
+use super::{REGISTER_WORDS, UNIT_WORDS, WAITING_WORDS};
+use unpack_rules::{Format, Unpacking};
 use vif_codes::{Vif, Waiting};
 
 // Words 21 to 31 of a code that has nothing but its payload due.
+#[tactic(auto, using(crate::proofs::WordLaws::bit_from))]
 fn due_words(code: u32, interrupt: bool, due: u32) -> [u32; WAITING_WORDS]
     ensures { result ≡ code ∷ due_words interrupt due }
 {
-    [code, bit(interrupt), due, 0, 0, 0, 0, 0, 0, 0, 0]
+    [code, u32::from(interrupt), due, 0, 0, 0, 0, 0, 0, 0, 0]
 }
 
+#[tactic(auto, using(crate::proofs::WordLaws::bit_from))]
 fn mpg_words(address: u32, count: u32, due: u32, interrupt: bool) -> [u32; WAITING_WORDS]
     ensures { result ≡ 4 ∷ mpg_words address count due interrupt }
 {
-    [4, bit(interrupt), due, address, count, 0, 0, 0, 0, 0, 0]
+    [
+        4,
+        u32::from(interrupt),
+        due,
+        address,
+        count,
+        0,
+        0,
+        0,
+        0,
+        0,
+        0,
+    ]
 }
 
+#[tactic(auto, using(crate::proofs::WordLaws::bit_from))]
 fn unpack_words(f: Format, u: Unpacking) -> [u32; WAITING_WORDS]
     ensures { result ≡ 7 ∷ unpack_words f u }
 {
     [
         7,
-        bit(u.interrupt),
+        u32::from(u.interrupt),
         u.due,
         u.address,
         u.count,
         unpack_rules::format_number(f),
-        bit(u.usn),
-        bit(u.masked),
+        u32::from(u.usn),
+        u32::from(u.masked),
         u.first,
         u.second,
         u.third,
@@ -61,11 +76,12 @@ fn waiting_words(waiting: Waiting) -> [u32; WAITING_WORDS]
 }
 
 // Words 0 to 20.
+#[tactic(auto, using(crate::proofs::WordLaws::bit_from))]
 fn register_words(unit: Vif) -> [u32; REGISTER_WORDS]
     ensures { result ≡ register_words unit }
 {
-    let row = unit.row;
-    let col = unit.col;
+    let [r0, r1, r2, r3] = unit.row;
+    let [c0, c1, c2, c3] = unit.col;
     [
         unit.cl,
         unit.wl,
@@ -75,19 +91,19 @@ fn register_words(unit: Vif) -> [u32; REGISTER_WORDS]
         unit.top,
         unit.itops,
         unit.itop,
-        bit(unit.dbf),
+        u32::from(unit.dbf),
         unit.mode,
-        bit(unit.mskpath3),
+        u32::from(unit.mskpath3),
         unit.mark,
         unit.mask,
-        row[0],
-        row[1],
-        row[2],
-        row[3],
-        col[0],
-        col[1],
-        col[2],
-        col[3],
+        r0,
+        r1,
+        r2,
+        r3,
+        c0,
+        c1,
+        c2,
+        c3,
     ]
 }
 
@@ -95,113 +111,64 @@ fn register_words(unit: Vif) -> [u32; REGISTER_WORDS]
 pub fn unit_block(unit: Vif) -> [u32; UNIT_WORDS]
     ensures { result ≡ unit_block unit }
 {
-    let waiting = unit.waiting;
     let r = register_words(unit);
-    let w = waiting_words(waiting);
+    let w = waiting_words(unit.waiting);
     let mut block = [0; UNIT_WORDS];
     fields::put_words(&mut block, 0, &r);
     fields::put_words(&mut block, REGISTER_WORDS, &w);
     block
 }
 
-fn a_format(format: Format) -> ReadFormat
-    ensures { result ≡ a_format format }
+// The UNPACK that waits, where its format and its bits exist.
+fn unpack_in_block(block: &[u32; UNIT_WORDS]) -> Option<Waiting>
+    ensures { result ≡ known_waiting (unpack_with (format_numbered (get_or block.now 26 0)) block.now) }
 {
-    ReadFormat {
-        known: true,
-        format,
-    }
-}
-
-fn no_format() -> ReadFormat
-    ensures { result ≡ no_format }
-{
-    ReadFormat {
-        known: false,
-        format: Format::S32,
-    }
-}
-
-fn format_numbered(n: u32) -> ReadFormat
-    ensures { result ≡ format_numbered n }
-{
-    match unpack_rules::format_named(n) {
-        NamedFormat::Named(f) => a_format(f),
-        NamedFormat::Missing => no_format(),
-    }
-}
-
-fn unpacking_in_block(block: &[u32]) -> Unpacking
-    requires { length block.now ≡ unit_size }
-    ensures { result ≡ unpacking_in_block block.now }
-{
-    Unpacking {
+    let unpacking = Unpacking {
         address: block[24],
         count: block[25],
         due: block[23],
-        usn: block[27] == 1,
-        masked: block[28] == 1,
-        interrupt: block[22] == 1,
+        usn: bit_in(block[27])?,
+        masked: bit_in(block[28])?,
+        interrupt: bit_in(block[22])?,
         first: block[29],
         second: block[30],
         third: block[31],
-    }
-}
-
-fn read_waiting(known: bool, waiting: Waiting) -> ReadWaiting
-    ensures { result ≡ read_waiting known waiting }
-{
-    ReadWaiting { known, waiting }
-}
-
-fn unpack_with(f: ReadFormat, block: &[u32]) -> ReadWaiting
-    requires { length block.now ≡ unit_size }
-    ensures { result ≡ unpack_with f block.now }
-{
-    let format = f.format;
-    let bits = both(block[27] <= 1, both(block[28] <= 1, f.known));
-    read_waiting(
-        both(block[22] <= 1, bits),
-        Waiting::UnpackDue(format, unpacking_in_block(block)),
-    )
+    };
+    let format = unpack_rules::format_named(block[26])?;
+    Some(Waiting::UnpackDue(format, unpacking))
 }
 
 // The code that waits, by words 21 to 31, where they are one's.
-fn waiting_in_block(block: &[u32]) -> ReadWaiting
-    requires { length block.now ≡ unit_size }
-    ensures { result ≡ waiting_in_block block.now }
+fn waiting_in_block(block: &[u32; UNIT_WORDS]) -> Option<Waiting>
+    ensures { result ≡ known_waiting (waiting_in_block block.now) }
 {
-    let known = block[22] <= 1;
-    let interrupt = block[22] == 1;
+    if block[21] == 0 {
+        return Some(Waiting::Nothing);
+    }
+    let interrupt = bit_in(block[22])?;
     let due = block[23];
-    let address = block[24];
-    let count = block[25];
     match block[21] {
-        0 => read_waiting(true, Waiting::Nothing),
-        1 => read_waiting(both(known, due == 1), Waiting::MaskDue(interrupt)),
-        2 => read_waiting(known, Waiting::RowDue { due, interrupt }),
-        3 => read_waiting(known, Waiting::ColDue { due, interrupt }),
-        4 => read_waiting(
-            known,
-            Waiting::MpgDue {
-                address,
-                count,
-                due,
-                interrupt,
-            },
-        ),
-        5 => read_waiting(known, Waiting::DirectDue { due, interrupt }),
-        6 => read_waiting(known, Waiting::DirecthlDue { due, interrupt }),
-        7 => unpack_with(format_numbered(block[26]), block),
-        _ => read_waiting(false, Waiting::Nothing),
+        1 => (due == 1).then_some(Waiting::MaskDue(interrupt)),
+        2 => Some(Waiting::RowDue { due, interrupt }),
+        3 => Some(Waiting::ColDue { due, interrupt }),
+        4 => Some(Waiting::MpgDue {
+            address: block[24],
+            count: block[25],
+            due,
+            interrupt,
+        }),
+        5 => Some(Waiting::DirectDue { due, interrupt }),
+        6 => Some(Waiting::DirecthlDue { due, interrupt }),
+        7 => unpack_in_block(block),
+        _ => None,
     }
 }
 
-fn held_unit(block: &[u32], waiting: Waiting) -> Vif
-    requires { length block.now ≡ unit_size }
-    ensures { result ≡ held_unit block.now waiting }
+// The unit of a block's words, where they are a unit's.
+fn unit_in_words(block: &[u32; UNIT_WORDS]) -> Option<Vif>
+    ensures { result ≡ known_unit (unit_with (waiting_in_block block.now) block.now) }
 {
-    Vif {
+    Some(Vif {
         cl: block[0],
         wl: block[1],
         ofst: block[2],
@@ -210,52 +177,42 @@ fn held_unit(block: &[u32], waiting: Waiting) -> Vif
         top: block[5],
         itops: block[6],
         itop: block[7],
-        dbf: block[8] == 1,
+        dbf: bit_in(block[8])?,
         mode: block[9],
-        mskpath3: block[10] == 1,
+        mskpath3: bit_in(block[10])?,
         mark: block[11],
         mask: block[12],
         row: [block[13], block[14], block[15], block[16]],
         col: [block[17], block[18], block[19], block[20]],
-        waiting,
-    }
+        waiting: waiting_in_block(block)?,
+    })
 }
 
-fn no_unit() -> ReadUnit
-    ensures { result ≡ read_unit false no_unit }
+// The unit of a block, where its words are a unit's.
+pub fn unit_in_block(block: &[u32]) -> Option<Vif>
+    ensures { result ≡ known_unit (unit_in_block block.now) }
 {
-    let reset = chain_state::reset();
-    let unit = reset.vif1;
+    unit_in_words(block.as_array()?)
+}
+
+// Stands for the unit of words that are no unit's: out of range, since an STROW that waits has words due.
+#[tactic(auto, unfolding(chain_state::specs::Start::reset_state))]
+fn no_unit() -> Vif
+    ensures { result ≡ no_unit }
+{
     let waiting = Waiting::RowDue {
         due: 0,
         interrupt: false,
     };
-    ReadUnit {
-        known: false,
-        unit: Vif { waiting, ..unit },
+    Vif {
+        waiting,
+        ..chain_state::reset().vif1
     }
 }
 
-fn unit_with(w: ReadWaiting, block: &[u32]) -> ReadUnit
-    requires { length block.now ≡ unit_size }
-    ensures { result ≡ unit_with w block.now }
+// The unit of a block, or one out of range where there is none.
+pub fn unit_given(block: &[u32]) -> Vif
+    ensures { result ≡ (unit_in_block block.now).unit }
 {
-    let waiting = w.waiting;
-    if both(block[8] <= 1, both(block[10] <= 1, w.known)) {
-        return ReadUnit {
-            known: true,
-            unit: held_unit(block, waiting),
-        };
-    }
-    no_unit()
-}
-
-// The unit of a block, where there is one.
-pub fn unit_in_block(block: &[u32]) -> ReadUnit
-    ensures { result ≡ unit_in_block block.now }
-{
-    if block.len() != UNIT_WORDS {
-        return no_unit();
-    }
-    unit_with(waiting_in_block(block), block)
+    unit_in_block(block).unwrap_or(no_unit())
 }

@@ -8,9 +8,8 @@ use Rattle.gif.specs.Log.{log_most}
 use Rattle.memories.specs.declared.VifUnit.TheVariants.{Vif1}
 use Rattle.memories.specs.Units.{data_words, code_bytes}
 use Rattle.memories.specs.Lengths.{Lent}
-use Rattle.chain_state.specs.declared.StartResult.{StartResult}
-use Rattle.chain_state.specs.Start.{reset_state}
-use Rattle.sheet.specs.declared.BuildAnswer.TheVariants.{Built}
+use Rattle.chain_state.specs.Start.{StartResult, reset_state}
+use Rattle.sheet.specs.BuildAnswer.{Built}
 use Rattle.sheet.specs.Records.{Record}
 use Rattle.sheet.specs.Reader.{Contents, valid, refused}
 use Rattle.sheet.specs.Editions.{contents_of}

@@ -1,35 +1,34 @@
 -- A run from reset: it is VIF1's from the first step to the last, so what it leaves has the lengths that it was lent.
+use Rattle.std.specs.Prelude.{None, Option, Some, Result, Ok, Err}
+use Rattle.std.specs.Result.{IsOk}
 use mathlib.Core.Path.{◌≡◌, refl, sym, ap, ◌∙◌}
 use mathlib.Core.Bool.{false, not}
 use mathlib.Core.List.{List}
 use Prim.Native.Nat.{ℕ}
+use native.Mathlib.Omega.{arith}
 use borrow.Author.Tests.{eqb-true, not-false}
 use lib.ListN.{length}
 use lib.Dec.{eqb}
 use Rattle.fields.specs.declared.Counts.{Counts}
 use Rattle.fields.specs.declared.UnitCounts.{UnitCounts}
+use Rattle.fields.specs.declared.refusals.Refusal.{Refusal}
 use Rattle.fields.specs.Fields.{if}
 use Rattle.fields.specs.Memory.{quadword_at}
 use Rattle.fields.specs.Refusals.{main_length}
 use Rattle.fields.proofs.ChoiceLaws.{if_ind, if_ind_by}
-use Rattle.gif.specs.declared.GifAnswer.{GifAnswer}
-use Rattle.gif.specs.declared.GifAnswer.TheVariants.{Taken, Refused as GifRefused}
+use Rattle.gif.specs.GifAnswer.{GifAnswer, Taken, Refused as GifRefused}
 use Rattle.gif.specs.declared.GifPath.TheVariants.{Three}
 use Rattle.gif.specs.Step.{gif_step}
 use Rattle.memories.specs.declared.VifUnit.TheVariants.{Vif1}
 use Rattle.memories.specs.Lengths.{Lent, LengthsFit, lengths_refusal}
-use Rattle.vif_codes.specs.declared.VifAnswer.{VifAnswer}
-use Rattle.vif_codes.specs.declared.VifAnswer.TheVariants.{Word, Quadword, Refused as VifRefused}
-use Rattle.chain_state.specs.declared.StartAnswer.TheVariants.{Started}
-use Rattle.chain_state.specs.declared.StartResult.{StartResult}
-use Rattle.chain.specs.declared.StepResult.{StepResult}
-use Rattle.chain_state.specs.declared.TagWords.{TagWords}
-use Rattle.chain_state.specs.declared.TagWords.TheVariants.{Nothing as NoTagWords, From}
+use Rattle.vif_codes.specs.VifAnswer.{VifAnswer, Word, Quadword, Refused as VifRefused}
+use Rattle.chain_state.specs.StartAnswer.{Started}
+use Rattle.chain.specs.StepAnswer.{StateStepped}
 use Rattle.chain_state.specs.declared.Payload.{Payload}
 use Rattle.chain_state.specs.declared.Payload.TheVariants.{Nothing as NoPayload, Words}
 use Rattle.chain_state.specs.declared.State.{State}
 use Rattle.chain_state.specs.Range.{unit_of, main_refused, start_in_range, channel_in_range, stack_in_range, tags_in_range, payload_in_range, tags_inside, payload_inside, entry_refusal}
-use Rattle.chain_state.specs.Start.{reset_state, start_result, started_from, start_of}
+use Rattle.chain_state.specs.Start.{StartResult, reset_state, start_result, started_from, started_by, start_of}
 use Rattle.chain.specs.Tags.{tag_state, tag_read, tag_step}
 use Rattle.chain_state.specs.Pending.{tags_after, payload_after}
 use Rattle.chain.specs.Step.{Machine, machine, Stepped, stepped_by, fed_unit, after_vif, vif_took, vif_given, after_gif, gif_given, payload_step, payload_or_tag, pending_or_tag, step_of}
@@ -51,9 +50,9 @@ record Keeps (s : State) (x : Stepped) : Type 0 where
 module _ (main : List ℕ) (s : State) (m : Lent) where
   tag_keeps : Keeps s (stepped_by (tag_step main s) m)
   unfolding tag_read tag_state
-  tag_keeps = if_ind (λ (x : StepResult). Keeps s (stepped_by x m)) _ (record { channel = refl }) (record { channel = refl })
+  tag_keeps = if_ind (λ (x : StateStepped). Keeps s (stepped_by x m)) _ (record { channel = refl }) (record { channel = refl })
 
-  vif_keeps : (a : ℕ) (t : TagWords) (p : ℕ → Payload) → Keeps s (vif_given main a t p s m)
+  vif_keeps : (a : ℕ) (t : Option ℕ) (p : ℕ → Payload) → Keeps s (vif_given main a t p s m)
   unfolding vif_given
   vif_keeps a t p = go (vif_took (fed_unit s) main a s m).answer _
     where
@@ -77,9 +76,9 @@ module _ (main : List ℕ) (s : State) (m : Lent) where
       if_ind (Keeps s) (eqb n 0) tag_keeps
       (if_ind (Keeps s) (eqb s.channel 2) (gif_keeps at (payload_after at n 4)) (vif_keeps at s.tags (payload_after at n)))
 
-  pending_keeps : (t : TagWords) (p : Payload) → Keeps s (pending_or_tag t p main s m)
-  pending_keeps NoTagWords p = payload_keeps p
-  pending_keeps (From a) p = vif_keeps a (tags_after a) (λ k. s.payload)
+  pending_keeps : (t : Option ℕ) (p : Payload) → Keeps s (pending_or_tag t p main s m)
+  pending_keeps None p = payload_keeps p
+  pending_keeps (Some a) p = vif_keeps a (tags_after a) (λ k. s.payload)
 
   step_keeps : Keeps s (step_of main s m)
   unfolding step_of
@@ -102,6 +101,15 @@ stops_keep main n x o (at_refusal c e l p h b) = along p
 pub reset_starts : start_of reset_state 1 0 false ≡ start_result Started (started_from reset_state 1 0 false)
 unfolding start_in_range channel_in_range
 reset_starts = start_accepted reset_state 0 reset_ranged refl
+
+-- a start from reset is accepted
+pub reset_ok : {s : State} (r : Result State Refusal) → s ≡ reset_state → started_by s r ≡ start_of s 1 0 false → IsOk r
+reset_ok (Ok t) e q = refl
+reset_ok (Err x) e q = absurd (let k = ap (λ (y : StartResult). y.answer) (rw (e, reset_starts) at q) in let z : ◌≡◌ {A = ℕ} 0 1 = cc in omega arith)
+
+pub reset_begins : {s t : State} {r : Result State Refusal} → s ≡ reset_state → r ≡ Ok t → started_by s r ≡ start_of s 1 0 false → t ≡ begun
+unfolding begun
+reset_begins e o q = ap (λ (y : StartResult). y.state) (rw (o, e) at q)
 
 begun_made : begun ≡ started_from reset_state 1 0 false
 unfolding begun

@@ -18,8 +18,7 @@ use Rattle.gif.proofs.LogLaws.{in_count}
 use Rattle.memories.specs.declared.VifUnit.TheVariants.{Vif1}
 use Rattle.memories.specs.Units.{quadwords, instructions, data_words, code_bytes}
 use Rattle.memories.specs.Lengths.{Lent, LengthsFit}
-use Rattle.chain.specs.declared.Answer.{Answer}
-use Rattle.chain.specs.declared.Answer.TheVariants.{Done, Allowance, Interrupt, Refused as RunRefused}
+use Rattle.chain.specs.Answer.{Answer, Done, Allowance, Interrupt, Refused as RunRefused}
 use Rattle.chain_state.specs.declared.State.{State}
 use Rattle.chain_state.specs.Range.{entry_refusal}
 use Rattle.chain.specs.Run.{Ran, run_of}
@@ -33,8 +32,7 @@ use Rattle.compare.specs.Elements.{differs as differsAt, first_differing, found_
 use Rattle.compare.specs.Equal.{FirstDifference, Says as FoundSays}
 use Rattle.compare.proofs.TestLaws.{first_is}
 use Rattle.compare.proofs.ListLaws.{found_says}
-use Rattle.supplier.specs.declared.CheckAnswer.{CheckAnswer}
-use Rattle.supplier.specs.declared.CheckAnswer.TheVariants.{Accepted, Entry as EntryDiffers, Entries}
+use Rattle.supplier.specs.CheckAnswer.{CheckAnswer, Accepted, Entry as EntryDiffers, Entries}
 use Rattle.supplier.specs.Check.{begun, run_from_reset, meant_from, lowest_quadword, lowest_instruction, lowest_entry, difference, judged, Checked, check_sheet, check_of}
 use Rattle.supplier.specs.Claims.{Equal, Differs, quadword, instruction, entry, number, Matches, Says, matches, refused_entry, refused_sheet, stopped, differs}
 use Rattle.supplier.proofs.EntryLaws.{entry_first, other_number, entries_same, same_entries}

@@ -9,8 +9,7 @@ use Rattle.gif.specs.Log.{entries_in}
 use Rattle.memories.specs.declared.VifUnit.TheVariants.{Vif1}
 use Rattle.memories.specs.Units.{quadwords, instructions}
 use Rattle.memories.specs.Lengths.{Lent}
-use Rattle.chain.specs.declared.Answer.{Answer}
-use Rattle.chain.specs.declared.Answer.TheVariants.{Done, Allowance, Interrupt, Refused as RunRefused}
+use Rattle.chain.specs.Answer.{Answer, Done, Allowance, Interrupt, Refused as RunRefused}
 use Rattle.chain_state.specs.declared.State.{State}
 use Rattle.chain_state.specs.Range.{entry_refusal}
 use Rattle.chain_state.specs.Start.{reset_state, start_of}
@@ -21,8 +20,7 @@ use Rattle.sheet.specs.Editions.{contents_of}
 use Rattle.sheet.specs.Meaning.{Plain, plain, meaning_of}
 use Rattle.sheet.specs.Match.{leading}
 use Rattle.compare.specs.Elements.{first_differing}
-use Rattle.supplier.specs.declared.CheckAnswer.{CheckAnswer}
-use Rattle.supplier.specs.declared.CheckAnswer.TheVariants.{Accepted, Refused, Stopped, Quadword, Instruction, Entry as EntryDiffers, Entries}
+use Rattle.supplier.specs.CheckAnswer.{CheckAnswer, Accepted, Refused, Stopped, Quadword, Instruction, Entry as EntryDiffers, Entries}
 
 -- "from reset on channel 1 at address 0, tag transfer off"
 unfoldable pub begun : State

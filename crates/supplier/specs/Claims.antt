@@ -5,11 +5,10 @@ use Rattle.gif.specs.Log.{entry_size, entries_in}
 use Rattle.memories.specs.declared.VifUnit.TheVariants.{Vif1}
 use Rattle.memories.specs.Units.{quadwords, instructions}
 use Rattle.memories.specs.Lengths.{Lent}
-use Rattle.chain.specs.declared.Answer.{Answer}
-use Rattle.chain.specs.declared.Answer.TheVariants.{Done}
+use Rattle.chain.specs.Answer.{Answer, Done}
 use Rattle.chain_state.specs.Range.{entry_refusal}
 use Rattle.chain.specs.Run.{Ran}
-use Rattle.sheet.specs.declared.BuildAnswer.TheVariants.{Built}
+use Rattle.sheet.specs.BuildAnswer.{Built}
 use Rattle.sheet.specs.Records.{Record}
 use Rattle.sheet.specs.Reader.{valid, refused}
 use Rattle.sheet.specs.Editions.{contents_of}
@@ -18,8 +17,7 @@ use Rattle.sheet.specs.Build.{build_of}
 use Rattle.sheet.specs.Meaning.{Plain}
 use Rattle.conformance.specs.Demand.{records_of, steps_meant}
 use Rattle.compare.specs.Equal.{FirstDifference}
-use Rattle.supplier.specs.declared.CheckAnswer.{CheckAnswer}
-use Rattle.supplier.specs.declared.CheckAnswer.TheVariants.{Accepted, Refused, Stopped, Quadword, Instruction, Entry as EntryDiffers, Entries}
+use Rattle.supplier.specs.CheckAnswer.{CheckAnswer, Accepted, Refused, Stopped, Quadword, Instruction, Entry as EntryDiffers, Entries}
 use Rattle.supplier.specs.Check.{begun, run_from_reset, meant_from, Checked}
 
 -- ---- what a run left beside a meaning

@@ -2,3 +2,4 @@
 pub mod Check
 pub mod Claims
 pub mod Inner
+pub mod CheckAnswer

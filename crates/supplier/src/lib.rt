@@ -2,29 +2,32 @@
 #![tactic(auto)]
 
 mod check;
+mod judging;
 mod numbers;
-mod verdict;
 
+use chain::Ending;
 pub use check::check_chain;
+use fields::{Counts, Refusal};
 pub use numbers::{kind, number, offset};
+use sheet::SheetError;
 
-// Accepted; a refusal before the run, with the record's offset (0 for all but 40 to 45 and 52); the run's answer where it is not 0; or the first difference between
-// what the run left and the sheet's meaning: the lowest quadword, instruction or entry that differs, or the run's number of entries.
+// Accepted; the run's answer where it is not 0; or the first difference between what the run left and the sheet's meaning: the lowest quadword, instruction or entry
+// that differs, or the run's number of entries.
 #[derive(Clone, Copy)]
-pub enum CheckAnswer {
+pub enum Verdict {
     Accepted,
-    Refused { number: u32, offset: usize },
-    Stopped(chain::Answer),
+    Stopped(Result<Ending, Refusal>),
     Quadword(u64),
     Instruction(u64),
     Entry(u64),
     Entries(u64),
 }
 
-// The answer, and the run's entries used and counts; those are 0 where it is refused.
+// The verdict, or a refusal before the run, with the record's offset (0 for all but 40 to 45 and 52); and the run's entries used and counts, which are 0 where it is
+// refused.
 #[derive(Clone, Copy)]
 pub struct CheckResult {
-    pub answer: CheckAnswer,
+    pub answer: Result<Verdict, SheetError>,
     pub used: u64,
-    pub counts: fields::Counts,
+    pub counts: Counts,
 }

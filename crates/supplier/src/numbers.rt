@@ -1,66 +1,46 @@
 // An answer in numbers.
 ghost use Rattle.std.specs.Prelude.{◌≡◌};
-ghost use Rattle.chain.specs.Run.{number_of};
+ghost use Rattle.supplier.specs.CheckAnswer.{check_answer};
 ghost use Rattle.supplier.specs.Check.{check_kind, check_number, check_offset};
 
-use super::CheckAnswer;
-use chain::Answer;
-
-fn run_number(answer: Answer) -> u64
-    ensures { result ≡ number_of answer }
-{
-    match answer {
-        Answer::Done => 0,
-        Answer::Allowance => 90,
-        Answer::Interrupt => 91,
-        Answer::Refused(n) => n as u64,
-    }
-}
+use super::Verdict;
+use chain::answer_number;
+use sheet::SheetError;
 
 // The kind of an answer.
-pub fn kind(answer: CheckAnswer) -> u32
-    ensures { result ≡ check_kind answer }
+pub fn kind(answer: Result<Verdict, SheetError>) -> u32
+    ensures { result ≡ check_kind (check_answer answer) }
 {
     match answer {
-        CheckAnswer::Accepted => 0,
-        CheckAnswer::Refused {
-            number: _,
-            offset: _,
-        } => 1,
-        CheckAnswer::Stopped(_) => 2,
-        CheckAnswer::Quadword(_) => 3,
-        CheckAnswer::Instruction(_) => 4,
-        CheckAnswer::Entry(_) => 5,
-        CheckAnswer::Entries(_) => 6,
+        Ok(Verdict::Accepted) => 0,
+        Err(_) => 1,
+        Ok(Verdict::Stopped(_)) => 2,
+        Ok(Verdict::Quadword(_)) => 3,
+        Ok(Verdict::Instruction(_)) => 4,
+        Ok(Verdict::Entry(_)) => 5,
+        Ok(Verdict::Entries(_)) => 6,
     }
 }
 
 // Its number: the refusal's, the run's answer, the quadword, instruction or entry, or the number of entries.
-pub fn number(answer: CheckAnswer) -> u64
-    ensures { result ≡ check_number answer }
+pub fn number(answer: Result<Verdict, SheetError>) -> u64
+    ensures { result ≡ check_number (check_answer answer) }
 {
     match answer {
-        CheckAnswer::Accepted => 0,
-        CheckAnswer::Refused { number, offset: _ } => number as u64,
-        CheckAnswer::Stopped(stopped) => run_number(stopped),
-        CheckAnswer::Quadword(q) => q,
-        CheckAnswer::Instruction(i) => i,
-        CheckAnswer::Entry(e) => e,
-        CheckAnswer::Entries(n) => n,
+        Ok(Verdict::Accepted) => 0,
+        Ok(Verdict::Stopped(stopped)) => u64::from(answer_number(stopped)),
+        Ok(Verdict::Quadword(n) | Verdict::Instruction(n)) => n,
+        Ok(Verdict::Entry(n) | Verdict::Entries(n)) => n,
+        Err(error) => u64::from(error.refusal.number()),
     }
 }
 
 // The offset of the refused record, 0 where there is none.
-pub fn offset(answer: CheckAnswer) -> usize
-    ensures { result ≡ check_offset answer }
+pub fn offset(answer: Result<Verdict, SheetError>) -> usize
+    ensures { result ≡ check_offset (check_answer answer) }
 {
     match answer {
-        CheckAnswer::Accepted => 0,
-        CheckAnswer::Refused { number: _, offset } => offset,
-        CheckAnswer::Stopped(_) => 0,
-        CheckAnswer::Quadword(_) => 0,
-        CheckAnswer::Instruction(_) => 0,
-        CheckAnswer::Entry(_) => 0,
-        CheckAnswer::Entries(_) => 0,
+        Ok(_) => 0,
+        Err(error) => error.offset,
     }
 }

@@ -1,6 +1,8 @@
 -- Calls on a state block.
+use Rattle.std.specs.Prelude.{Result, Ok, Err}
 use mathlib.Core.Path.{◌≡◌, refl, ap}
-use mathlib.Core.Bool.{Bool, true, not, ◌||◌}
+use mathlib.Core.Bool.{true, not, ◌||◌}
+use mathlib.Core.Logic.{◌⊎◌}
 use mathlib.Core.List.{List}
 use Prim.Native.Nat.{ℕ, ◌<◌, ◌≤◌}
 use borrow.Author.Tests.{eq-eqb, ne_eqb, lt-ltb, le-ltb}
@@ -8,28 +10,29 @@ use lib.ListN.{length}
 use lib.Dec.{eqb, ltb}
 use Rattle.fields.specs.Counts.{count_numbers}
 use Rattle.fields.specs.Fields.{if}
+use Rattle.fields.specs.declared.refusals.Refusal.{Refusal}
+use Rattle.fields.specs.Refusals.{refusal_number}
 use Rattle.fields.proofs.ChoiceLaws.{if_ind}
 use Rattle.memories.specs.Lengths.{Lent}
 use Rattle.chain_state.specs.declared.State.{State}
-use Rattle.state_block.specs.declared.ReadState.{ReadState}
-use Rattle.chain_state.specs.declared.StartAnswer.{StartAnswer}
-use Rattle.chain_state.specs.declared.StartAnswer.TheVariants.{Started, Refused}
-use Rattle.chain_state.specs.declared.StartResult.{StartResult}
+use Rattle.chain_state.specs.StartAnswer.{StartAnswer, Started, Refused}
 use Rattle.chain.specs.declared.RunResult.{RunResult}
 use Rattle.state_block.specs.Sizes.{state_size}
 use Rattle.state_block.specs.StateBlock.{state_block, read_state, state_in_block}
 use Rattle.chain.specs.Step.{Machine}
-use Rattle.chain_state.specs.Start.{reset_state, start_number, start_of}
+use Rattle.chain_state.specs.Start.{reset_state, start_number, started_by, start_of}
+use Rattle.chain.specs.Answer.{run_answer}
 use Rattle.chain.specs.Run.{number_of, left_by, run_of}
 use Rattle.chain.proofs.ResumeLaws.{stopping_changes_nothing}
 use Rattle.chain_state.specs.Range.{unit_of}
 use Rattle.chain_state.specs.Setters.{with_unit}
-use Rattle.console.specs.declared.SetAnswer.{SetAnswer}
+use Rattle.console.specs.SetAnswer.{SetAnswer}
 use Rattle.console.specs.Register.{set_number, set_of}
 use Rattle.console.specs.Block.{unit_held, set_block, set_in_block}
 use Rattle.console.proofs.ReadLaws.{block_as_unit}
 use Rattle.tejborun.specs.Buffers.{short, wrong_block, written, written_back}
 use Rattle.tejborun.specs.Runs.{Blocked, blocked, reset_call, started, start_call, set_call, Left, left, counts_size, run_call}
+use Rattle.tejborun.proofs.BufferLaws.{either_short, both_enough}
 
 module _ (block : List ℕ) where
   pub reset_short : (length block ≡ state_size → ⊥) → blocked short block ≡ reset_call block
@@ -49,18 +52,15 @@ module _ (block : List ℕ) (channel tadr tte : ℕ) where
   unfolding start_call if
   start_high h l = rw (eq-eqb (length block) state_size h, lt-ltb 1 tte l)
 
-  pub start_done : length block ≡ state_size → tte ≤ 1 → {read : ReadState} → read ≡ state_in_block block
-      → {x : StartResult}
-      → x ≡ start_of read.state channel tadr (eqb tte 1)
-      → {effect : Bool}
-      → effect ≡ started x.answer
-      → {after : List ℕ}
-      → after ≡ written_back effect x.state block
-      → {n : ℕ}
-      → n ≡ start_number x.answer
-      → blocked n after ≡ start_call block channel tadr tte
-  unfolding start_call if
-  start_done h l e q f b k = rw (eq-eqb (length block) state_size h, le-ltb 1 tte l, ← e, ← q, b, f, k)
+  module _ (h : length block ≡ state_size) (l : tte ≤ 1) {s : State} (e : s ≡ (state_in_block block).state) {r : Result State Refusal}
+      (q : started_by s r ≡ start_of s channel tadr (eqb tte 1)) where
+    pub start_done : {t : State} → r ≡ Ok t → {after : List ℕ} → after ≡ state_block t → blocked 0 after ≡ start_call block channel tadr tte
+    unfolding start_call written_back if
+    start_done o w = rw (eq-eqb (length block) state_size h, le-ltb 1 tte l, ← e, ← q, o, w)
+
+    pub start_fails : {x : Refusal} → r ≡ Err x → blocked (refusal_number x) block ≡ start_call block channel tadr tte
+    unfolding start_call written_back if
+    start_fails o = rw (eq-eqb (length block) state_size h, le-ltb 1 tte l, ← e, ← q, o)
 
   refused_stays : (a : StartAnswer) (s : State) → (start_number a ≡ 0 → ⊥) → written_back (started a) s block ≡ block
   unfolding written_back if
@@ -97,27 +97,23 @@ module _ (block : List ℕ) (unit number value : ℕ) where
   set_seen k h known = rw (eq-eqb (length block) state_size h) (block_as_unit block unit number value k h known).1
 
 module _ (main : List ℕ) (m : Lent) (block : List ℕ) (allowance : ℕ) (result : List ℕ) where
-  pub run_no_block : (length block ≡ state_size → ⊥) → left short m block result ≡ run_call main m block allowance result
+  pub run_short : (length block ≡ state_size → ⊥) ⊎ (length block ≡ state_size) × (length result < counts_size)
+      → left short m block result ≡ run_call main m block allowance result
   unfolding run_call if
-  run_no_block h = rw (ne_eqb (length block) state_size h)
+  run_short h = rw (either_short block result state_size counts_size h)
 
-  module _ (h : length block ≡ state_size) where
-    pub run_short : length result < counts_size → left short m block result ≡ run_call main m block allowance result
-    unfolding run_call if
-    run_short l = rw (eq-eqb (length block) state_size h, lt-ltb (length result) counts_size l)
-
-    pub run_done : counts_size ≤ length result → {read : ReadState} → read ≡ state_in_block block
-        → {x : RunResult} {m' : Lent}
-        → left_by x m' ≡ run_of main allowance read.state m
-        → {after : List ℕ}
-        → after ≡ written_back (not (eqb x.counts.steps 0)) x.state block
-        → {numbers : List ℕ}
-        → numbers ≡ written (count_numbers x.counts) result
-        → {n : ℕ}
-        → n ≡ number_of x.answer
-        → left n m' after numbers ≡ run_call main m block allowance result
-    unfolding run_call if
-    run_done l e q b w k = rw (eq-eqb (length block) state_size h, le-ltb (length result) counts_size l, ← e, ← q, b, w, k)
+  pub run_done : length block ≡ state_size → counts_size ≤ length result → {s : State} → s ≡ (state_in_block block).state
+      → (x : RunResult) {m' : Lent}
+      → left_by x m' ≡ run_of main allowance s m
+      → {after : List ℕ}
+      → after ≡ written_back (not (eqb x.counts.steps 0)) x.state block
+      → {numbers : List ℕ}
+      → numbers ≡ written (count_numbers x.counts) result
+      → {n : ℕ}
+      → n ≡ number_of (run_answer x.answer)
+      → left n m' after numbers ≡ run_call main m block allowance result
+  unfolding run_call if
+  run_done h l e x q b w k = rw (both_enough block result state_size counts_size h l, ← e, ← q, b, w, k)
 
 -- request 9, "an allowance of 0 changes nothing": the block stays word for word, and so do the memories and the log
 pub idle_run : (main : List ℕ) (m : Lent) (block result : List ℕ) → ((run_call main m block 0 result).block ≡ block) × ((run_call main m block 0 result).memories ≡ m)

@@ -6,10 +6,10 @@ use borrow.Author.Tests.{lt-ltb, le-ltb}
 use lib.ListN.{length}
 use Rattle.fields.specs.Fields.{if}
 use Rattle.memories.specs.Lengths.{Lent, lent}
-use Rattle.sheet.specs.declared.StepsAnswer.{StepsAnswer}
-use Rattle.sheet.specs.declared.MeaningAnswer.{MeaningAnswer}
+use Rattle.sheet.specs.StepsAnswer.{StepsAnswer}
+use Rattle.sheet.specs.MeaningAnswer.{MeaningAnswer}
 use Rattle.sheet.specs.Results.{left, steps_of_sheet, meaning_of_sheet}
-use Rattle.salvage.specs.declared.SalvageAnswer.{SalvageAnswer}
+use Rattle.salvage.specs.SalvageAnswer.{SalvageAnswer}
 use Rattle.salvage.specs.Salvage.{left as salvageLeaves, answer_number, salvage_of}
 use Rattle.tejborun.specs.Buffers.{short, written, Answered, answered}
 use Rattle.tejborun.specs.Sheets.{steps_answered, steps_call, Meant, meant, meaning_answered, meaning_call, Rescued, rescued, salvage_numbers, salvage_call}
@@ -20,9 +20,9 @@ module _ (sheet result : List ℕ) where
   steps_short h = rw (lt-ltb (length result) 2 h)
 
   -- by the steps' answer
-  pub steps_told : 2 ≤ length result → {a b : StepsAnswer} → a ≡ steps_of_sheet sheet → a ≡ b → {x : Answered} → x ≡ steps_answered b result → x ≡ steps_call sheet result
+  pub steps_told : 2 ≤ length result → {a : StepsAnswer} → a ≡ steps_of_sheet sheet → {x : Answered} → x ≡ steps_answered a result → x ≡ steps_call sheet result
   unfolding steps_call if
-  steps_told h e q k = rw (le-ltb (length result) 2 h, ← e, q) k
+  steps_told h e k = rw (le-ltb (length result) 2 h, ← e) k
 
 module _ (sheet : List ℕ) (m : Lent) (used : ℕ) (result : List ℕ) where
   pub meaning_short : length result < 2 → meant short m result ≡ meaning_call sheet m used result
@@ -30,13 +30,12 @@ module _ (sheet : List ℕ) (m : Lent) (used : ℕ) (result : List ℕ) where
   meaning_short h = rw (lt-ltb (length result) 2 h)
 
   -- by the meaning's answer
-  pub meaning_told : 2 ≤ length result → {a b : MeaningAnswer} {mem code log : List ℕ} → left a mem code log ≡ meaning_of_sheet sheet m.mem m.code m.log used
-      → a ≡ b
+  pub meaning_told : 2 ≤ length result → {a : MeaningAnswer} {mem code log : List ℕ} → left a mem code log ≡ meaning_of_sheet sheet m.mem m.code m.log used
       → {x : Meant}
-      → x ≡ meaning_answered b (lent mem code log) used result
+      → x ≡ meaning_answered a (lent mem code log) used result
       → x ≡ meaning_call sheet m used result
   unfolding meaning_call if
-  meaning_told h e q k = rw (le-ltb (length result) 2 h, ← e, q) k
+  meaning_told h e k = rw (le-ltb (length result) 2 h, ← e) k
 
 module _ (sheet output ranges result : List ℕ) where
   pub salvage_short : length result < 2 → rescued short output ranges result ≡ salvage_call sheet output ranges result
@@ -44,9 +43,9 @@ module _ (sheet output ranges result : List ℕ) where
   salvage_short h = rw (lt-ltb (length result) 2 h)
 
   -- by the salvage's answer
-  pub salvage_told : 2 ≤ length result → {a b : SalvageAnswer} {o l : List ℕ} → salvageLeaves a o l ≡ salvage_of sheet output ranges → a ≡ b
+  pub salvage_told : 2 ≤ length result → {a : SalvageAnswer} {o l : List ℕ} → salvageLeaves a o l ≡ salvage_of sheet output ranges
       → {x : Rescued}
-      → x ≡ rescued (answer_number b) o l (written (salvage_numbers b) result)
+      → x ≡ rescued (answer_number a) o l (written (salvage_numbers a) result)
       → x ≡ salvage_call sheet output ranges result
   unfolding salvage_call if
-  salvage_told h e q k = rw (le-ltb (length result) 2 h, ← e, q) k
+  salvage_told h e k = rw (le-ltb (length result) 2 h, ← e) k

@@ -1,24 +1,28 @@
 -- Calls on totals.
 use mathlib.Core.Path.{◌≡◌, refl}
 use mathlib.Core.Bool.{Bool, true, false}
+use mathlib.Core.Logic.{◌⊎◌}
 use mathlib.Core.List.{List, [], ◌∷◌, append-nil}
 use Prim.Native.Nat.{ℕ, ◌<◌, ◌≤◌}
 use native.Mathlib.Omega.{arith}
-use borrow.Author.Tests.{eq-eqb, ne_eqb, lt-ltb, le-ltb, eqb-true, not-false}
+use borrow.Author.Tests.{eqb-true, not-false}
 use lib.ListN.{length, drop_of_length-le}
 use lib.Dec.{eqb}
+use Rattle.std.specs.Prelude.{Result, Ok, Err}
 use Rattle.fields.specs.declared.Counts.{Counts}
+use Rattle.fields.specs.declared.refusals.Refusal.{Refusal}
 use Rattle.fields.specs.Counts.{count_numbers}
 use Rattle.fields.specs.Fields.{if}
+use Rattle.fields.specs.Refusals.{refusal_number}
 use Rattle.fields.proofs.ChoiceLaws.{if_ind, if_ind_by, or_left}
-use Rattle.totals.specs.declared.AddResult.{AddResult}
 use Rattle.totals.specs.declared.Share.{Share}
 use Rattle.totals.specs.declared.Totals.{Totals}
-use Rattle.totals.specs.Totals.{numbers_of, added, any_passes, add_number, add_of}
+use Rattle.totals.specs.Totals.{AddResult, numbers_of, added, any_passes, added_by, add_of}
 use Rattle.totals.specs.Numbers.{totals_from, counts_from}
 use Rattle.totals.specs.Share.{NopShare}
 use Rattle.totals.proofs.NumberLaws.{numbers_read}
 use Rattle.tejborun.specs.Buffers.{short, written, Answered, answered}
+use Rattle.tejborun.proofs.BufferLaws.{either_short, both_enough}
 use Rattle.tejborun.specs.Totals.{short_call, add_left, add_call, ShareCall}
 
 -- numbers in place of as many
@@ -29,18 +33,13 @@ written_whole ns l h = rw (drop_of_length-le l {i = length ns} (omega arith)) (a
 -- ---- the tests
 
 module _ (sums other : List ℕ) (least : ℕ) where
-  pub not_eleven : (length sums ≡ 11 → ⊥) → short_call sums other least ≡ true
+  pub too_short : (length sums ≡ 11 → ⊥) ⊎ (length sums ≡ 11) × (length other < least) → short_call sums other least ≡ true
   unfolding short_call
-  not_eleven h = rw (ne_eqb (length sums) 11 h)
+  too_short = either_short sums other 11 least
 
-  module _ (h : length sums ≡ 11) where
-    pub too_few : length other < least → short_call sums other least ≡ true
-    unfolding short_call
-    too_few l = rw (eq-eqb (length sums) 11 h, lt-ltb (length other) least l)
-
-    pub enough : least ≤ length other → short_call sums other least ≡ false
-    unfolding short_call
-    enough l = rw (eq-eqb (length sums) 11 h, le-ltb (length other) least l)
+  pub enough : length sums ≡ 11 → least ≤ length other → short_call sums other least ≡ false
+  unfolding short_call
+  enough = both_enough sums other 11 least
 
 eleven : (sums other : List ℕ) (least : ℕ) → short_call sums other least ≡ false → length sums ≡ 11
 unfolding short_call
@@ -53,11 +52,16 @@ module _ (sums numbers : List ℕ) where
   unfolding add_call if
   add_short h = rw h
 
-  pub add_done : length sums ≡ 11 → short_call sums numbers 12 ≡ false → {t : Totals} → t ≡ totals_from sums → {c : Counts} → c ≡ counts_from numbers
-      → {x : AddResult} → x ≡ add_of t c → {after : List ℕ} → after ≡ written (numbers_of x.totals) sums → {n : ℕ} → n ≡ add_number x.answer
-      → answered n after ≡ add_call sums numbers
-  unfolding add_call if
-  add_done l h et ec {x} ex ea en = rw (h, ea, en, written_whole (numbers_of x.totals) sums l, ex, et, ec)
+  module _ (l : length sums ≡ 11) (h : short_call sums numbers 12 ≡ false) {t : Totals} (et : t ≡ totals_from sums) {c : Counts} (ec : c ≡ counts_from numbers)
+      {r : Result Totals Refusal} (q : added_by t r ≡ add_of t c) where
+    pub add_done : {a : Totals} → r ≡ Ok a → {after : List ℕ} → after ≡ written (numbers_of a) sums → answered 0 after ≡ add_call sums numbers
+    unfolding add_call if
+    add_done {a} o w = rw (h, ← et, ← ec, ← q, o, w, written_whole (numbers_of a) sums l)
+
+    -- a refusal leaves the totals as they stand
+    pub add_refused : {e : Refusal} → r ≡ Err e → answered (refusal_number e) sums ≡ add_call sums numbers
+    unfolding add_call if
+    add_refused o = rw (h, ← et, ← ec, ← q, o, et, numbers_read sums l)
 
 no_both : {b : Bool} {C : Type 0} → b ≡ true → b ≡ false → C
 no_both t f = absurd (let z : ◌≡◌ {A = ℕ} 0 1 = cc in omega arith)

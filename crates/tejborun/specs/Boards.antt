@@ -1,10 +1,8 @@
 -- Two boards compared.
-use Rattle.std.specs.Prelude.{ℕ, ◌+◌, ◌≤◌, ◌≡◌, Bool, true, false, List, [], ◌∷◌, length, ltb}
+use Rattle.std.specs.Prelude.{ℕ, ◌+◌, Bool, true, false, List, [], ◌∷◌, length, ltb}
 use Rattle.fields.specs.Fields.{if}
-use Rattle.fields.specs.Refusals.{out_of_range}
 use Rattle.compare.specs.declared.Comparison.{Comparison}
-use Rattle.compare.specs.declared.CompareAnswer.{CompareAnswer}
-use Rattle.compare.specs.declared.CompareAnswer.TheVariants.{Compared, Refused}
+use Rattle.compare.specs.CompareAnswer.{CompareAnswer, Compared, Refused}
 use Rattle.compare.specs.Boards.{Board, compare_of, same_of}
 use Rattle.compare.specs.Within.{compare_within}
 use Rattle.tejborun.specs.Buffers.{short, written, Answered, answered}
@@ -46,7 +44,3 @@ compare_call parts a b result = compared_call (compare_of parts a b) result
 -- the same with data memories compared in quadwords first to last alone
 unfoldable pub compare_within_call : ℕ → ℕ → ℕ → Board → Board → List ℕ → Answered
 compare_within_call parts first last a b result = compared_call (compare_within parts first last a b) result
-
--- a refusal has a small number
-pub record SmallRefusal (answer : CompareAnswer) : Type 0 where
-  pub small : (n : ℕ) → answer ≡ Refused n → n ≤ out_of_range

@@ -4,8 +4,7 @@ use Rattle.fields.specs.Counts.{count_numbers}
 use Rattle.fields.specs.Fields.{if}
 use Rattle.memories.specs.Lengths.{Lent}
 use Rattle.state_block.specs.StateBlock.{state_in_block}
-use Rattle.conformance.specs.declared.PlayAnswer.{PlayAnswer}
-use Rattle.conformance.specs.declared.PlayAnswer.TheVariants.{Ended, Refused}
+use Rattle.conformance.specs.PlayAnswer.{PlayAnswer, Ended, Refused}
 use Rattle.conformance.specs.Play.{Played, play_of, play_number}
 use Rattle.tejborun.specs.Buffers.{short, wrong_block, written, written_back}
 use Rattle.tejborun.specs.Runs.{counts_size}

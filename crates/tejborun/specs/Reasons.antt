@@ -2,9 +2,9 @@
 use Rattle.std.specs.Prelude.{ℕ, ◌||◌, List, length, ltb}
 use Rattle.fields.specs.Fields.{if}
 use Rattle.memories.specs.Lengths.{Lent}
-use Rattle.state_block.specs.declared.ReadState.{ReadState}
+use Rattle.state_block.specs.Read.{ReadState}
 use Rattle.state_block.specs.StateBlock.{state_in_block}
-use Rattle.diagnosis.specs.declared.Reason.{Reason}
+use Rattle.diagnosis.specs.Reason.{Reason}
 use Rattle.diagnosis.specs.Why.{why_of, reason_kind, reason_numbers}
 use Rattle.tejborun.specs.Buffers.{short, wrong_block, written, Answered, answered}
 

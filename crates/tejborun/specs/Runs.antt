@@ -3,11 +3,9 @@ use Rattle.std.specs.Prelude.{ℕ, Bool, true, false, not, ◌||◌, List, lengt
 use Rattle.fields.specs.Counts.{count_numbers}
 use Rattle.fields.specs.Fields.{if}
 use Rattle.memories.specs.Lengths.{Lent}
-use Rattle.chain_state.specs.declared.StartAnswer.{StartAnswer}
-use Rattle.chain_state.specs.declared.StartAnswer.TheVariants.{Started, Refused}
-use Rattle.chain_state.specs.declared.StartResult.{StartResult}
+use Rattle.chain_state.specs.StartAnswer.{StartAnswer, Started, Refused}
 use Rattle.state_block.specs.StateBlock.{state_block, state_in_block}
-use Rattle.chain_state.specs.Start.{reset_state, start_number, start_of}
+use Rattle.chain_state.specs.Start.{StartResult, reset_state, start_number, start_of}
 use Rattle.chain.specs.Run.{Ran, number_of, run_of}
 use Rattle.console.specs.Register.{set_number}
 use Rattle.console.specs.Block.{SetBlock, set_in_block}

@@ -2,13 +2,10 @@
 use Rattle.std.specs.Prelude.{ℕ, List, [], ◌∷◌, length, ltb}
 use Rattle.fields.specs.Fields.{if}
 use Rattle.memories.specs.Lengths.{Lent, lent}
-use Rattle.sheet.specs.declared.StepsAnswer.{StepsAnswer}
-use Rattle.sheet.specs.declared.StepsAnswer.TheVariants.{Steps, Refused as StepsRefused}
-use Rattle.sheet.specs.declared.MeaningAnswer.{MeaningAnswer}
-use Rattle.sheet.specs.declared.MeaningAnswer.TheVariants.{Meant as IsMeant, Refused as MeaningRefused}
+use Rattle.sheet.specs.StepsAnswer.{StepsAnswer, Steps, Refused as StepsRefused}
+use Rattle.sheet.specs.MeaningAnswer.{MeaningAnswer, Meant as IsMeant, Refused as MeaningRefused}
 use Rattle.sheet.specs.Results.{Left, steps_of_sheet, meaning_of_sheet}
-use Rattle.salvage.specs.declared.SalvageAnswer.{SalvageAnswer}
-use Rattle.salvage.specs.declared.SalvageAnswer.TheVariants.{Salvaged, Refused as SalvageRefused}
+use Rattle.salvage.specs.SalvageAnswer.{SalvageAnswer, Salvaged, Refused as SalvageRefused}
 use Rattle.salvage.specs.Salvage.{Left as SalvageLeft, answer_number, salvage_of}
 use Rattle.tejborun.specs.Buffers.{short, written, Answered, answered}
 

@@ -1,9 +1,8 @@
 -- Calls on totals: eleven numbers, in the order of `numbersOf`. Counts of a run are twelve, the steps first.
 use Rattle.std.specs.Prelude.{ℕ, Bool, true, false, not, ◌||◌, List, [], ◌∷◌, ◌≡◌, length, get_or, eqb, ltb}
 use Rattle.fields.specs.Fields.{if}
-use Rattle.totals.specs.declared.AddResult.{AddResult}
 use Rattle.totals.specs.declared.Share.{Share}
-use Rattle.totals.specs.Totals.{numbers_of, add_number, add_of}
+use Rattle.totals.specs.Totals.{AddResult, numbers_of, add_number, add_of}
 use Rattle.totals.specs.Numbers.{totals_from, counts_from}
 use Rattle.totals.specs.Share.{share, NopShare}
 use Rattle.tejborun.specs.Buffers.{short, written, Answered, answered}

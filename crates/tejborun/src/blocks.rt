@@ -12,7 +12,7 @@ pub(crate) fn put_state(block: &mut [u32], state: State)
     ensures { block.new ≡ state_block state }
 {
     let words = state_block::state_block(state);
-    fields::put_words(block, 0, &words);
+    block.copy_from_slice(&words);
 }
 
 // Writes the state that a call left, where it took effect.
@@ -20,8 +20,7 @@ pub(crate) fn put_back(block: &mut [u32], effect: bool, state: State)
     requires { length block.old ≡ state_size }
     ensures { block.new ≡ written_back effect state block.old }
 {
-    if !effect {
-        return;
+    if effect {
+        put_state(block, state);
     }
-    put_state(block, state);
 }

@@ -1,51 +1,72 @@
 // Two boards compared.
 ghost use Rattle.std.specs.Prelude.{◌≡◌, ◌≤◌, length};
-ghost use Rattle.compare.specs.Boards.{memories, board};
-ghost use Rattle.tejborun.specs.Buffers.{answered, written};
-ghost use Rattle.tejborun.specs.Boards.{found_numbers, verdict, compare_answered, compare_call, compare_within_call, SmallRefusal};
+ghost use Rattle.compare.specs.Boards.{memories, board, board_now};
+ghost use Rattle.compare.specs.CompareAnswer.{compare_answer};
+ghost use Rattle.tejborun.specs.Buffers.{answered};
+ghost use Rattle.tejborun.specs.Boards.{found_numbers, compare_answered, compare_call, compare_within_call};
 
-use super::results::put_ten;
-use compare::{CompareAnswer, Comparison};
-use fields::refusals;
+use super::results::put;
+use compare::{Board, Comparison, Memories};
+use fields::{BUFFER_SHORT, Refusal};
 
-fn put_comparison(res: &mut [u64], c: Comparison)
-    requires { 10 ≤ length res.old }
-    ensures { res.new ≡ written (found_numbers c) res.old }
+// A board of what is lent: the memories of VIF1 and VIF0, a log and its entries used.
+fn make_board<'a>(
+    data1: &'a [u32],
+    code1: &'a [u8],
+    data0: &'a [u32],
+    code0: &'a [u8],
+    log: &'a [u64],
+    used: u64,
+) -> Board<'a>
+    ensures { board_now result
+        ≡ board (memories data1.now code1.now) (memories data0.now code0.now) log.now used }
 {
-    put_ten(
-        res,
-        c.vif1.quadwords.first,
-        c.vif1.quadwords.count,
-        c.vif1.instructions.first,
-        c.vif1.instructions.count,
+    Board {
+        vif1: Memories {
+            data: data1,
+            code: code1,
+        },
+        vif0: Memories {
+            data: data0,
+            code: code0,
+        },
+        log,
+        used,
+    }
+}
+
+fn found_numbers(c: Comparison) -> [u64; 10]
+    ensures { result ≡ found_numbers c }
+{
+    let u = c.vif1;
+    let v = c.vif0;
+    [
+        u.quadwords.first,
+        u.quadwords.count,
+        u.instructions.first,
+        u.instructions.count,
         c.entries.first,
         c.entries.count,
-        c.vif0.quadwords.first,
-        c.vif0.quadwords.count,
-        c.vif0.instructions.first,
-        c.vif0.instructions.count,
-    );
+        v.quadwords.first,
+        v.quadwords.count,
+        v.instructions.first,
+        v.instructions.count,
+    ]
 }
 
-fn verdict(same: bool) -> u32
-    ensures { result ≡ verdict same }
-{
-    if same { 0 } else { 1 }
-}
-
-// Writes what a comparison says, and gives its number.
-fn put_answer(res: &mut [u64], answer: CompareAnswer) -> u32
-    requires { (10 ≤ length res.old) × SmallRefusal answer }
-    ensures { answered result res.new ≡ compare_answered answer res.old }
+// Writes what a comparison says, and gives its number: 0 where the boards are the same, 1 where they differ, 100 more than a refusal's.
+fn put_answer(res: &mut [u64], answer: Result<Comparison, Refusal>) -> u32
+    requires { 10 ≤ length res.old }
+    ensures { answered result res.new ≡ compare_answered (compare_answer answer) res.old }
 {
     match answer {
-        CompareAnswer::Compared(comparison) => {
-            put_comparison(res, comparison);
-            verdict(compare::same(comparison))
+        Ok(comparison) => {
+            put(res, &found_numbers(comparison));
+            u32::from(!compare::same(comparison))
         }
-        CompareAnswer::Refused(number) => {
-            put_ten(res, 0, 0, 0, 0, 0, 0, 0, 0, 0, 0);
-            100 + number
+        Err(refusal) => {
+            put(res, &[0; 10]);
+            100 + refusal.number()
         }
     }
 }
@@ -74,12 +95,11 @@ pub extern "C" fn tejborun_compare(
         res.old }
 {
     if res.len() < 10 {
-        return refusals::BUFFER_SHORT;
+        return BUFFER_SHORT;
     }
-    let answer = compare::compare(
-        d1a, c1a, d0a, c0a, la, ua, d1b, c1b, d0b, c0b, lb, ub, parts,
-    );
-    put_answer(res, answer)
+    let a = make_board(d1a, c1a, d0a, c0a, la, ua);
+    let b = make_board(d1b, c1b, d0b, c0b, lb, ub);
+    put_answer(res, compare::compare(a, b, parts))
 }
 
 #[unsafe(no_mangle)]
@@ -108,10 +128,9 @@ pub extern "C" fn tejborun_compare_within(
         res.old }
 {
     if res.len() < 10 {
-        return refusals::BUFFER_SHORT;
+        return BUFFER_SHORT;
     }
-    let answer = compare::compare_within(
-        d1a, c1a, d0a, c0a, la, ua, d1b, c1b, d0b, c0b, lb, ub, parts, first, last,
-    );
-    put_answer(res, answer)
+    let a = make_board(d1a, c1a, d0a, c0a, la, ua);
+    let b = make_board(d1b, c1b, d0b, c0b, lb, ub);
+    put_answer(res, compare::compare_within(a, b, parts, first, last))
 }

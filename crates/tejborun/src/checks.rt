@@ -3,8 +3,8 @@ ghost use Rattle.std.specs.Prelude.{◌≡◌};
 ghost use Rattle.memories.specs.Lengths.{lent};
 ghost use Rattle.tejborun.specs.Checks.{left, check_call};
 
-use super::results::put_after_three;
-use fields::refusals;
+use super::results::put_before;
+use fields::BUFFER_SHORT;
 
 #[unsafe(no_mangle)]
 pub extern "C" fn tejborun_check(
@@ -20,17 +20,11 @@ pub extern "C" fn tejborun_check(
         ≡ check_call sheet.now main.now (lent «data».old code.old log.old) allowance res.old }
 {
     if res.len() < 15 {
-        return refusals::BUFFER_SHORT;
+        return BUFFER_SHORT;
     }
     let r = supplier::check_chain(sheet, main, data, code, log, allowance);
-    let answer = r.answer;
-    let counts = r.counts;
-    put_after_three(
-        res,
-        supplier::number(answer),
-        supplier::offset(answer) as u64,
-        r.used,
-        counts,
-    );
-    supplier::kind(answer)
+    let number = supplier::number(r.answer);
+    let offset = supplier::offset(r.answer) as u64;
+    put_before(res, &[number, offset, r.used], r.counts);
+    supplier::kind(r.answer)
 }

@@ -1,44 +1,40 @@
 // A sheet's chain built in main memory, started and run.
 ghost use Rattle.std.specs.Prelude.{◌≡◌};
 ghost use Rattle.memories.specs.Lengths.{lent};
+ghost use Rattle.conformance.specs.PlayAnswer.{play_answer};
 ghost use Rattle.conformance.specs.Play.{play_number};
 ghost use Rattle.tejborun.specs.Play.{play_offset, begun, left, play_call};
 
 use super::blocks::put_back;
-use super::results::put_after;
-use super::runs::run_number;
-use conformance::PlayAnswer;
-use fields::refusals;
-use state_block::{STATE_WORDS, state_in_block};
+use super::results::put_before;
+use chain::{Ending, answer_number};
+use conformance::PlayError;
+use fields::BUFFER_SHORT;
+use state_block::{STATE_WORDS, state_given};
 
-fn play_number(answer: PlayAnswer) -> u32
-    ensures { result ≡ play_number answer }
+fn play_number(answer: Result<Ending, PlayError>) -> u32
+    ensures { result ≡ play_number (play_answer answer) }
 {
     match answer {
-        PlayAnswer::Ended(ended) => run_number(ended),
-        PlayAnswer::Refused { number, offset: _ } => number,
+        Ok(ending) => answer_number(Ok(ending)),
+        Err(PlayError::Run(refusal)) => refusal.number(),
+        Err(PlayError::Sheet(error)) => error.refusal.number(),
     }
 }
 
 // Whether a run was begun.
-fn begun(answer: PlayAnswer) -> bool
-    ensures { result ≡ begun answer }
+fn begun(answer: Result<Ending, PlayError>) -> bool
+    ensures { result ≡ begun (play_answer answer) }
 {
-    match answer {
-        PlayAnswer::Ended(_) => true,
-        PlayAnswer::Refused {
-            number: _,
-            offset: _,
-        } => false,
-    }
+    !matches!(answer, Err(PlayError::Sheet(_)))
 }
 
-fn play_offset(answer: PlayAnswer) -> u64
-    ensures { result ≡ play_offset answer }
+fn play_offset(answer: Result<Ending, PlayError>) -> u64
+    ensures { result ≡ play_offset (play_answer answer) }
 {
     match answer {
-        PlayAnswer::Ended(_) => 0,
-        PlayAnswer::Refused { number: _, offset } => offset as u64,
+        Err(PlayError::Sheet(error)) => error.offset as u64,
+        _ => 0,
     }
 }
 
@@ -57,19 +53,12 @@ pub extern "C" fn tejborun_build_and_run(
     ensures { left result main.new (lent «data».new code.new log.new) block.new res.new
         ≡ play_call sheet.now main.old address (lent «data».old code.old log.old) block.old allowance res.old }
 {
-    if block.len() != STATE_WORDS {
-        return refusals::BUFFER_SHORT;
+    if block.len() != STATE_WORDS || res.len() < 13 {
+        return BUFFER_SHORT;
     }
-    if res.len() < 13 {
-        return refusals::BUFFER_SHORT;
-    }
-    let read = state_in_block(block);
-    let given = read.state;
+    let given = state_given(block);
     let r = conformance::build_and_run(sheet, main, address, data, code, log, given, allowance);
-    let answer = r.answer;
-    let state = r.state;
-    put_back(block, begun(answer), state);
-    let counts = r.counts;
-    put_after(res, play_offset(answer), counts);
-    play_number(answer)
+    put_back(block, begun(r.answer), r.state);
+    put_before(res, &[play_offset(r.answer)], r.counts);
+    play_number(r.answer)
 }

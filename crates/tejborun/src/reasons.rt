@@ -1,46 +1,45 @@
 // Why a run stopped.
-ghost use Rattle.std.specs.Prelude.{◌≡◌, ◌≤◌, length};
+ghost use Rattle.std.specs.Prelude.{◌≡◌};
 ghost use Rattle.memories.specs.Lengths.{lent};
+ghost use Rattle.diagnosis.specs.Reason.{reason};
 ghost use Rattle.diagnosis.specs.Why.{reason_kind, reason_numbers};
-ghost use Rattle.tejborun.specs.Buffers.{written, answered};
+ghost use Rattle.tejborun.specs.Buffers.{answered};
 ghost use Rattle.tejborun.specs.Reasons.{why_call};
 
-use super::results::put_four;
+use super::results::put;
 use diagnosis::Reason;
-use fields::refusals;
-use state_block::{STATE_WORDS, state_in_block};
+use fields::BUFFER_SHORT;
+use state_block::{STATE_WORDS, state_given};
 
-fn reason_kind(reason: Reason) -> u32
-    ensures { result ≡ reason_kind reason }
+fn reason_kind(told: Reason) -> u32
+    ensures { result ≡ reason_kind (reason told) }
 {
-    match reason {
+    match told {
         Reason::NoComplaint => 0,
         Reason::Ended => 1,
         Reason::Entry(_) => 2,
-        Reason::Step {
-            refusal: _,
-            address: _,
-            first: _,
-            second: _,
-        } => 3,
+        Reason::Step { .. } => 3,
     }
 }
 
 // The refusal, the address and the two numbers that are shown.
-fn put_reason(res: &mut [u64], reason: Reason)
-    requires { 4 ≤ length res.old }
-    ensures { res.new ≡ written (reason_numbers reason) res.old }
+fn reason_numbers(told: Reason) -> [u64; 4]
+    ensures { result ≡ reason_numbers (reason told) }
 {
-    match reason {
-        Reason::NoComplaint => put_four(res, 0, 0, 0, 0),
-        Reason::Ended => put_four(res, 0, 0, 0, 0),
-        Reason::Entry(n) => put_four(res, n as u64, 0, 0, 0),
+    match told {
+        Reason::NoComplaint | Reason::Ended => [0; 4],
+        Reason::Entry(refusal) => [u64::from(refusal.number()), 0, 0, 0],
         Reason::Step {
             refusal,
             address,
             first,
             second,
-        } => put_four(res, refusal as u64, address as u64, first, second),
+        } => [
+            u64::from(refusal.number()),
+            u64::from(address),
+            first,
+            second,
+        ],
     }
 }
 
@@ -56,15 +55,11 @@ pub extern "C" fn tejborun_why(
     ensures { answered result res.new
         ≡ why_call main.now (lent «data».now code.now log.now) block.now res.old }
 {
-    if block.len() != STATE_WORDS {
-        return refusals::BUFFER_SHORT;
+    if block.len() != STATE_WORDS || res.len() < 4 {
+        return BUFFER_SHORT;
     }
-    if res.len() < 4 {
-        return refusals::BUFFER_SHORT;
-    }
-    let read = state_in_block(block);
-    let given = read.state;
-    let reason = diagnosis::why(main, data, code, log, given);
-    put_reason(res, reason);
-    reason_kind(reason)
+    let given = state_given(block);
+    let why = diagnosis::why(main, data, code, log, given);
+    put(res, &reason_numbers(why));
+    reason_kind(why)
 }

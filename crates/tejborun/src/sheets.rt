@@ -5,10 +5,8 @@ ghost use Rattle.memories.specs.Lengths.{lent};
 ghost use Rattle.tejborun.specs.Buffers.{answered};
 ghost use Rattle.tejborun.specs.Sheets.{steps_call, meant, meaning_call, rescued, salvage_call};
 
-use super::results::put_two;
-use fields::refusals;
-use salvage::SalvageAnswer;
-use sheet::{MeaningAnswer, StepsAnswer};
+use super::results::put;
+use fields::BUFFER_SHORT;
 
 // What the bench host calls.
 #[unsafe(no_mangle)]
@@ -24,16 +22,16 @@ pub extern "C" fn tejborun_steps(sheet: &[u8], res: &mut [u64]) -> u32
     ensures { answered result res.new ≡ steps_call sheet.now res.old }
 {
     if res.len() < 2 {
-        return refusals::BUFFER_SHORT;
+        return BUFFER_SHORT;
     }
     match sheet::steps(sheet) {
-        StepsAnswer::Steps(steps) => {
-            put_two(res, steps, 0);
+        Ok(steps) => {
+            put(res, &[steps, 0]);
             0
         }
-        StepsAnswer::Refused { number, offset } => {
-            put_two(res, 0, offset as u64);
-            number
+        Err(error) => {
+            put(res, &[0, error.offset as u64]);
+            error.refusal.number()
         }
     }
 }
@@ -51,16 +49,16 @@ pub extern "C" fn tejborun_meaning(
         ≡ meaning_call sheet.now (lent «data».old code.old log.old) used res.old }
 {
     if res.len() < 2 {
-        return refusals::BUFFER_SHORT;
+        return BUFFER_SHORT;
     }
     match sheet_meaning::meaning(sheet, data, code, log, used) {
-        MeaningAnswer::Meant(entries) => {
-            put_two(res, entries, 0);
+        Ok(entries) => {
+            put(res, &[entries, 0]);
             0
         }
-        MeaningAnswer::Refused { number, offset } => {
-            put_two(res, used, offset as u64);
-            number
+        Err(error) => {
+            put(res, &[used, error.offset as u64]);
+            error.refusal.number()
         }
     }
 }
@@ -76,19 +74,16 @@ pub extern "C" fn tejborun_salvage(
         ≡ salvage_call sheet.now output.old ranges.old res.old }
 {
     if res.len() < 2 {
-        return refusals::BUFFER_SHORT;
+        return BUFFER_SHORT;
     }
     match salvage::salvage(sheet, output, ranges) {
-        SalvageAnswer::Salvaged {
-            bytes,
-            ranges: count,
-        } => {
-            put_two(res, bytes as u64, count as u64);
+        Ok(sums) => {
+            put(res, &[sums.bytes as u64, sums.ranges as u64]);
             0
         }
-        SalvageAnswer::Refused(number) => {
-            put_two(res, 0, 0);
-            number
+        Err(refusal) => {
+            put(res, &[0, 0]);
+            refusal.number()
         }
     }
 }

@@ -5,7 +5,7 @@ use native.Mathlib.Nat.{zero-mul, dvd-sub, eq-one_of_dvd-one}
 use native.Mathlib.Omega.{arith}
 use Rattle.fields.specs.Counts.{units, no_qwc, qwcs, counts}
 use Rattle.fields.specs.Fields.{if}
-use Rattle.totals.specs.declared.AddAnswer.TheVariants.{Added, Refused}
+use Rattle.totals.specs.AddAnswer.{Added, Refused}
 use Rattle.totals.specs.Totals.{totals, passes, any_passes, add_result, add_of}
 use Rattle.totals.specs.Share.{share, NopShare}
 

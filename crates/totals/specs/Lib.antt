@@ -3,3 +3,4 @@ pub mod Totals
 pub mod Numbers
 pub mod Share
 pub mod Inner
+pub mod AddAnswer

@@ -1,14 +1,13 @@
 -- Request 14: "a call adds them to our totals. Over many runs we want exact sums: QWC by tag ID, VIF words taken (one-word steps), NOPs, packets closed".
-use Rattle.std.specs.Prelude.{ℕ, ◌+◌, ◌-◌, ◌^◌, Bool, false, ◌||◌, List, [], ◌∷◌, ltb}
+use Rattle.std.specs.Prelude.{ℕ, ◌+◌, ◌-◌, ◌^◌, Bool, false, ◌||◌, List, [], ◌∷◌, ltb, Option, Some, None, Result, Ok, Err}
 use Rattle.fields.specs.declared.Qwc.{Qwc}
 use Rattle.fields.specs.declared.Counts.{Counts}
-use Rattle.fields.specs.Counts.{units, no_qwc, plus_qwc, qwc_numbers, counts}
+use Rattle.fields.specs.Counts.{no_qwc, plus_qwc, qwc_numbers}
 use Rattle.fields.specs.Fields.{if}
-use Rattle.fields.specs.Refusals.{total_full}
+use Rattle.fields.specs.declared.refusals.Refusal.{Refusal}
+use Rattle.fields.specs.Refusals.{refusal_number, total_full}
 use Rattle.totals.specs.declared.Totals.{Totals}
-use Rattle.totals.specs.declared.AddAnswer.{AddAnswer}
-use Rattle.totals.specs.declared.AddAnswer.TheVariants.{Added, Refused}
-use Rattle.totals.specs.declared.AddResult.{AddResult}
+use Rattle.totals.specs.AddAnswer.{AddAnswer, Added, Refused}
 
 abbrev pub totals : ℕ → ℕ → ℕ → Qwc → Totals
 totals packets words nops q = record { packets = packets; words = words; nops = nops; qwc = q }
@@ -33,6 +32,11 @@ unfoldable pub any_passes : List ℕ → Bool
 any_passes [] = false
 any_passes (n ∷ ns) = passes n || any_passes ns
 
+-- the answer to an addition, and the totals after it
+pub record AddResult : Type 0 where
+  pub answer : AddAnswer
+  pub totals : Totals
+
 abbrev pub add_result : AddAnswer → Totals → AddResult
 add_result a t = record { answer = a; totals = t }
 
@@ -45,12 +49,7 @@ add_number (Refused n) = n
 unfoldable pub add_of : Totals → Counts → AddResult
 add_of t c = if (any_passes (numbers_of (added t c))) (add_result (Refused total_full) t) (add_result Added (added t c))
 
--- ---- totals as counts
-
--- of no step
-abbrev pub counts_of : Totals → Counts
-counts_of t = counts (units 0 t.packets t.words t.nops) t.qwc
-
--- but for the steps
-abbrev pub totals_in : Counts → Totals
-totals_in c = totals c.packets c.words c.nops c.qwc
+-- what a call on these totals leaves: on a refusal, them
+abbrev pub added_by : Totals → Result Totals Refusal → AddResult
+added_by t (Ok sums) = add_result Added sums
+added_by t (Err e) = add_result (Refused (refusal_number e)) t

@@ -18,18 +18,6 @@ pub struct Totals {
     pub qwc: fields::Qwc,
 }
 
-#[derive(Clone, Copy)]
-pub enum AddAnswer {
-    Added,
-    Refused(u32),
-}
-
-#[derive(Clone, Copy)]
-pub struct AddResult {
-    pub answer: AddAnswer,
-    pub totals: Totals,
-}
-
 // NOPs over VIF words.
 #[derive(Clone, Copy)]
 pub struct Share {

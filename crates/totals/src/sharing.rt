@@ -8,12 +8,9 @@ use super::{Share, Totals};
 fn greatest_divisor(a: u64, b: u64) -> u64
     ensures { Greatest a b result }
 {
-    let mut x = a;
-    let mut y = b;
+    let (mut x, mut y) = (a, b);
     while y != 0 {
-        let rest = x % y;
-        x = y;
-        y = rest;
+        (x, y) = (y, x % y);
     }
     x
 }

@@ -3,7 +3,7 @@ ghost use Rattle.std.specs.Prelude.{◌≡◌, ◌<◌, ◌≤◌, ◌+◌, ◌/
 ghost use Rattle.unpack_rules.specs.Position.{vectors_before, writes_done};
 ghost use Rattle.unpack_rules.specs.Range.{CycleFits};
 
-use unpack_rules::{is_fill, smaller};
+use unpack_rules::is_fill;
 
 // The vectors that the writes up to write i take, from those that the writes before it take.
 pub(crate) fn vectors_after(cl: u32, wl: u32, vectors: u32, i: u32) -> u32
@@ -23,7 +23,8 @@ pub(crate) fn writes_done(cl: u32, wl: u32, vectors: u32, n: u32) -> u32
     ensures { result ≡ writes_done cl wl vectors n }
 {
     if cl < wl {
-        return smaller(n, vectors / cl * wl + vectors % cl);
+        n.min(vectors / cl * wl + vectors % cl)
+    } else {
+        vectors
     }
-    vectors
 }

@@ -3,13 +3,13 @@ ghost use Rattle.std.specs.Prelude.{◌≡◌, ◌≤◌};
 ghost use Rattle.unpack_rules.specs.Payload.{payload_words, whole_vectors};
 ghost use Rattle.unpack_rules.specs.Step.{unpacking_of};
 
-use unpack_rules::{ADDRESSES, Format, Unpacking, count_of, vector_bits, vectors_before};
+use unpack_rules::{ADDRESSES, Format, Unpacking, count_of, vectors_before};
 
 pub(crate) fn payload_words(f: Format, count: u32) -> u32
     requires { count ≤ 256 }
     ensures { result ≡ payload_words f count }
 {
-    (count * vector_bits(f) + 31) / 32
+    (count * f.vector_bits()).div_ceil(32)
 }
 
 // The vectors that lie wholly in the first words.
@@ -17,8 +17,7 @@ pub(crate) fn whole_vectors(f: Format, count: u32, words: u32) -> u32
     requires { words ≤ 1024 }
     ensures { result ≡ whole_vectors f count words }
 {
-    let n = 32 * words / vector_bits(f);
-    if count < n { count } else { n }
+    count.min(32 * words / f.vector_bits())
 }
 
 // An UNPACK code whose whole payload is due under CL and WL.

@@ -11,41 +11,22 @@ ghost use Rattle.unpack.specs.Short.{is_whole, goes_short, stores_from, ShortFit
 use super::copy::{copy_writes, word_inside};
 use super::cycle::writes_done;
 use super::words::held;
-use super::write::{place, store_quadword};
+use super::write::{Writes, store_quadword};
 use fields::word_at;
 use unpack_rules::{Format, Registers, Unpacking, vectors_before};
 
 fn is_whole(f: Format) -> bool
     ensures { result ≡ is_whole f }
 {
-    match f {
-        Format::S32 => false,
-        Format::S16 => false,
-        Format::S8 => false,
-        Format::V2x32 => false,
-        Format::V2x16 => false,
-        Format::V2x8 => false,
-        Format::V3x32 => false,
-        Format::V3x16 => false,
-        Format::V3x8 => false,
-        Format::V4x32 => true,
-        Format::V4x16 => false,
-        Format::V4x8 => false,
-        Format::V4x5 => false,
-    }
+    matches!(f, Format::V4x32)
 }
 
 // Whether an UNPACK takes the short way.
+#[tactic(auto, unfolding(crate::specs::Short::goes_short))]
 pub(crate) fn goes_short(f: Format, u: Unpacking, r: Registers) -> bool
     ensures { result ≡ goes_short f u r }
 {
-    if u.masked {
-        return false;
-    }
-    if r.mode != 0 {
-        return false;
-    }
-    is_whole(f)
+    !u.masked && r.mode == 0 && is_whole(f)
 }
 
 // Four words, of 32 bits each.
@@ -56,24 +37,14 @@ fn four(a: u32, b: u32, c: u32, d: u32) -> [u32; 4]
 }
 
 // The writes from number `first` to below `last`, all of one vector.
-fn store_each(
-    size: u32,
-    address: u32,
-    r: Registers,
-    first: u32,
-    last: u32,
-    words: [u32; 4],
-    data: &mut [u32],
-)
-    requires { CycleFits r.cl r.wl × MemoryFits size «data».old × (address ≤ address_most) × (last ≤ 256) }
-    ensures { «data».new
-        ≡ stores_from (position_of size address r.cl r.wl) (λ (i : ℕ). words) (last - first) first «data».old }
+fn store_each(w: Writes, words: [u32; 4], data: &mut [u32])
+    requires { let r = w.registers in CycleFits r.cl r.wl × MemoryFits w.size «data».old × (w.address ≤ address_most) × (w.last ≤ 256) }
+    ensures { let r = w.registers in «data».new
+        ≡ stores_from (position_of w.size w.address r.cl r.wl) (λ (i : ℕ). words) (w.last - w.first) w.first «data».old }
 {
-    let mut i = first;
-    while i < last {
-        let quad = place(size, address, r.cl, r.wl, i);
+    for i in w.first..w.last {
+        let quad = w.place(i);
         store_quadword(data, quad as usize, words);
-        i += 1;
     }
 }
 
@@ -86,10 +57,15 @@ pub(crate) fn take_short(size: u32, u: Unpacking, r: Registers, word: u32, data:
         return;
     }
     let v = vectors_before(r.cl, r.wl, u.count) - u.due / 4 - 1;
-    let first = writes_done(r.cl, r.wl, v, u.count);
-    let last = writes_done(r.cl, r.wl, v + 1, u.count);
     let words = four(u.first, u.second, u.third, word);
-    store_each(size, u.address, r, first, last, words, data);
+    let writes = Writes {
+        size,
+        address: u.address,
+        registers: r,
+        first: writes_done(r.cl, r.wl, v, u.count),
+        last: writes_done(r.cl, r.wl, v + 1, u.count),
+    };
+    store_each(writes, words, data);
 }
 
 // The whole vectors of n payload words after those of a vector begun, which lie in main memory from byte a on, and the fills after them.
@@ -107,9 +83,14 @@ fn copy_vectors(
         → ShortCopy size begun r (words_from main.now a n) «data».old «data».new }
 {
     let v = vectors_before(r.cl, r.wl, u.count) - u.due / 4;
-    let first = writes_done(r.cl, r.wl, v, u.count);
-    let last = writes_done(r.cl, r.wl, v + n / 4, u.count);
-    copy_writes(size, u.address, r, first, last, main, a, data);
+    let writes = Writes {
+        size,
+        address: u.address,
+        registers: r,
+        first: writes_done(r.cl, r.wl, v, u.count),
+        last: writes_done(r.cl, r.wl, v + n / 4, u.count),
+    };
+    copy_writes(writes, main, a, data);
 }
 
 // What waits after k words that end at a byte.
@@ -119,15 +100,11 @@ pub(crate) fn skip(u: Unpacking, k: u32, main: &[u8], end: usize) -> Unpacking
         ≡ skipped u k (word_at main.now (end - 12)) (word_at main.now (end - 8)) (word_at main.now (end - 4)) }
 {
     Unpacking {
-        address: u.address,
-        count: u.count,
         due: u.due - k,
-        usn: u.usn,
-        masked: u.masked,
-        interrupt: u.interrupt,
         first: word_inside(main, end - 12),
         second: word_inside(main, end - 8),
         third: word_inside(main, end - 4),
+        ..u
     }
 }
 
@@ -145,12 +122,10 @@ fn take_singly(
     ensures { ShortWords size u r (words_from main.now a n) «data».old result «data».new }
 {
     let mut rest = u;
-    let mut k: u32 = 0;
-    while k < n {
+    for k in 0..n {
         let word = word_at(main, a + 4 * k);
         take_short(size, rest, r, word, data);
         rest = held(rest, word);
-        k += 1;
     }
     rest
 }
@@ -170,10 +145,7 @@ pub(crate) fn has_vectors(main: &[u8], a: u32, lead: u32, n: u32) -> bool
     requires { (lead < 4) × (a ≤ 1048576) × (n ≤ 1024) }
     ensures { result ≡ true → (lead + 4 ≤ n) × (a + 4 * n ≤ length main.now) }
 {
-    if n < lead + 4 {
-        return false;
-    }
-    a as usize + 4 * n as usize <= main.len()
+    lead + 4 <= n && a as usize + 4 * n as usize <= main.len()
 }
 
 // The next n payload words, not the last: those that end a vector begun, whole vectors copied, and those after them.

@@ -1,7 +1,6 @@
 // One payload word of an UNPACK.
 ghost use Rattle.std.specs.Prelude.{◌≡◌, [], ◌-◌, ◌≤◌, ◌+◌};
-ghost use Rattle.fields.specs.Fields.{if};
-ghost use Rattle.unpack_rules.specs.Payload.{is_five};
+ghost use Rattle.unpack_rules.specs.Position.{address_most};
 ghost use Rattle.unpack_rules.specs.Write.{written, writes_from};
 ghost use Rattle.unpack_rules.specs.Range.{CycleFits, UnpackingFits};
 ghost use Rattle.unpack_rules.specs.Inner.{MemoryFits, VectorIn, WordFits, CompletedFits, completed_writes, UnfedFits};
@@ -12,30 +11,21 @@ use super::payload::{payload_words, whole_vectors};
 use super::range::unpacking_in_range;
 use super::short::{goes_short, take_short};
 use super::vector::vector;
-use super::write::{fill_at, write_at};
+use super::write::{Writes, fill_at, write_at};
 use unpack_rules::{
-    ADDRESS_MOST, ADDRESSES, Format, Registers, Rows, Unpacking, cycle_in_range, is_five, mask_of,
-    row_of_cycle, unfold_mask, vector_bits, vectors_before,
+    ADDRESS_MOST, ADDRESSES, Format, Registers, Unpacking, cycle_in_range, mask_of, row_of_cycle,
+    unfold_mask, vectors_before,
 };
 
 // The registers as an UNPACK reads them.
 pub(crate) fn acting_registers(f: Format, u: Unpacking, r: Registers) -> Registers
     ensures { result ≡ acting f u r }
 {
-    let col = r.col;
     Registers {
-        cl: r.cl,
-        wl: r.wl,
-        mode: mode_of(f, r.mode),
+        mode: if f.is_five() { 0 } else { r.mode },
         mask: mask_of(u.masked, r.mask),
-        col,
+        ..r
     }
-}
-
-fn mode_of(f: Format, mode: u32) -> u32
-    ensures { result ≡ if (is_five f) 0 mode }
-{
-    if is_five(f) { 0 } else { mode }
 }
 
 // Vector i, from the three words held and word k.
@@ -43,40 +33,35 @@ fn held_vector(f: Format, u: Unpacking, word: u32, k: u32, i: u32) -> [u32; 4]
     requires { VectorIn f k i × (k ≤ 1024) × (i ≤ 255) }
     ensures { result ≡ held_vector f u word k i }
 {
-    let at = i * vector_bits(f) + 96 - 32 * k;
-    vector(f, u.usn, u.first, u.second, u.third, word, at)
+    let at = i * f.vector_bits() + 96 - 32 * k;
+    vector(f, u.usn, [u.first, u.second, u.third, word], at)
 }
 
 // The writes from number `from` to below `to`, which word k completes.
 fn write_vectors(
-    size: u32,
+    w: Writes,
     f: Format,
     u: Unpacking,
-    r: Registers,
     word: u32,
     k: u32,
-    from: u32,
-    to: u32,
     row: [u32; 4],
     data: &mut [u32],
 ) -> [u32; 4]
-    requires { WordFits size f u r k from to «data».old }
+    requires { WordFits w.size f u w.registers k w.first w.last «data».old × (w.address ≤ address_most) }
     ensures { written result «data».new
-        ≡ writes_from size u.address r (held_vector f u word k) (to - from) from (written row «data».old) }
+        ≡ writes_from w.size w.address w.registers (held_vector f u word k) (w.last - w.first) w.first (written row «data».old) }
 {
+    let r = w.registers;
     let codes = unfold_mask(r.mask);
     let col = r.col;
     let mut rows = row;
-    let mut vectors = vectors_before(r.cl, r.wl, from);
-    let mut i = from;
-    while i < to {
+    let mut vectors = vectors_before(r.cl, r.wl, w.first);
+    for i in w.first..w.last {
         vectors = vectors_after(r.cl, r.wl, vectors, i);
         let fields = held_vector(f, u, word, k, vectors - 1);
         let c = row_of_cycle(r.wl, i) as usize;
-        let chosen = codes[c];
-        let next = write_at(size, u.address, r, i, fields, chosen, col[c], rows, data);
+        let next = write_at(w, i, fields, codes[c], col[c], rows, data);
         rows = next;
-        i += 1;
     }
     rows
 }
@@ -98,10 +83,14 @@ pub(crate) fn write_completed(
     ensures { written result «data».new
         ≡ completed_writes size f u r word k from to (written row «data».old) }
 {
-    let first = writes_done(r.cl, r.wl, from, u.count);
-    let last = writes_done(r.cl, r.wl, to, u.count);
-    let s = acting_registers(f, u, r);
-    write_vectors(size, f, u, s, word, k, first, last, row, data)
+    let writes = Writes {
+        size,
+        address: u.address,
+        registers: acting_registers(f, u, r),
+        first: writes_done(r.cl, r.wl, from, u.count),
+        last: writes_done(r.cl, r.wl, to, u.count),
+    };
+    write_vectors(writes, f, u, word, k, row, data)
 }
 
 // The next payload word, where all was tested.
@@ -140,23 +129,17 @@ pub fn take_word(
     word: u32,
     row: [u32; 4],
     data: &mut [u32],
-) -> Rows
-    ensures { left result «data».new ≡ take_of size f u r word row «data».old }
+) -> Option<[u32; 4]>
+    ensures { left row result «data».new ≡ take_of size f u r word row «data».old }
 {
     if acceptable_input(size, f, u, r, data) {
-        let rows = take(size, f, u, r, word, row, data);
-        Rows {
-            accepted: true,
-            row: rows,
-        }
+        Some(take(size, f, u, r, word, row, data))
     } else {
-        Rows {
-            accepted: false,
-            row,
-        }
+        None
     }
 }
 
+#[tactic(auto, unfolding(unpack_rules::specs::Step::acceptable))]
 pub(crate) fn acceptable_input(
     size: u32,
     f: Format,
@@ -166,20 +149,11 @@ pub(crate) fn acceptable_input(
 ) -> bool
     ensures { result ≡ acceptable size f u r «data».now }
 {
-    if size < 1 {
-        return false;
-    }
-    if ADDRESSES < size {
-        return false;
-    }
-    if data.len() != 4 * size as usize {
-        return false;
-    }
-    if cycle_in_range(r.cl, r.wl) {
-        unpacking_in_range(f, r.cl, r.wl, u)
-    } else {
-        false
-    }
+    1 <= size
+        && size <= ADDRESSES
+        && data.len() == 4 * size as usize
+        && cycle_in_range(r.cl, r.wl)
+        && unpacking_in_range(f, r.cl, r.wl, u)
 }
 
 // All writes of an UNPACK with CL 0, each a fill without a vector before it.
@@ -190,37 +164,30 @@ fn write_unfed(size: u32, u: Unpacking, r: Registers, row: [u32; 4], data: &mut 
 {
     let codes = unfold_mask(r.mask);
     let col = r.col;
-    let mut i = 0;
-    while i < u.count {
+    let writes = Writes {
+        size,
+        address: u.address,
+        registers: r,
+        first: 0,
+        last: u.count,
+    };
+    for i in 0..u.count {
         let c = row_of_cycle(r.wl, i) as usize;
-        let chosen = codes[c];
-        fill_at(size, u.address, r, i, chosen, col[c], row, data);
-        i += 1;
+        fill_at(writes, i, codes[c], col[c], row, data);
     }
 }
 
+#[tactic(auto, unfolding(unpack_rules::specs::Step::unfed_acceptable))]
 fn unfed_acceptable(size: u32, u: Unpacking, r: Registers, data: &[u32]) -> bool
     ensures { result ≡ unfed_acceptable size u r «data».now }
 {
-    if size < 1 {
-        return false;
-    }
-    if ADDRESSES < size {
-        return false;
-    }
-    if data.len() != 4 * size as usize {
-        return false;
-    }
-    if cycle_in_range(r.cl, r.wl) {
-        if r.cl != 0 {
-            return false;
-        }
-        if ADDRESS_MOST < u.address {
-            return false;
-        }
-        return u.count <= 256;
-    }
-    false
+    1 <= size
+        && size <= ADDRESSES
+        && data.len() == 4 * size as usize
+        && cycle_in_range(r.cl, r.wl)
+        && r.cl == 0
+        && u.address <= ADDRESS_MOST
+        && u.count <= 256
 }
 
 // The writes of an UNPACK code with CL 0, which has no payload, in a memory of `size` quadwords, on any input at all.
@@ -231,20 +198,14 @@ pub fn write_without_payload(
     r: Registers,
     row: [u32; 4],
     data: &mut [u32],
-) -> Rows
-    ensures { left result «data».new ≡ unfed_of size f u r row «data».old }
+) -> Option<[u32; 4]>
+    ensures { left row result «data».new ≡ unfed_of size f u r row «data».old }
 {
     if unfed_acceptable(size, u, r, data) {
         let s = acting_registers(f, u, r);
         write_unfed(size, u, s, row, data);
-        Rows {
-            accepted: true,
-            row,
-        }
+        Some(row)
     } else {
-        Rows {
-            accepted: false,
-            row,
-        }
+        None
     }
 }

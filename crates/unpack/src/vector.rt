@@ -1,10 +1,10 @@
 // A vector's four fields from the payload words that hold it.
-ghost use Rattle.std.specs.Prelude.{◌≡◌, [], ◌∷◌, ◌^◌, ◌≤◌, ◌<◌, get_or};
+ghost use Rattle.std.specs.Prelude.{◌≡◌, ◌^◌, ◌≤◌, ◌<◌};
 ghost use Rattle.unpack_rules.specs.Payload.{value};
 ghost use Rattle.unpack_rules.specs.Vector.{extended, element, vector_at};
 ghost use Rattle.unpack_rules.specs.Inner.{ElementFits, VectorFits};
 
-use unpack_rules::{Format, element_bits, elements_of, five_fields, is_five};
+use unpack_rules::{Format, five_fields};
 
 // An element of a width as 32 bits.
 pub(crate) fn extend(x: u32, width: u32, usn: bool) -> u32
@@ -22,57 +22,44 @@ pub(crate) fn extend(x: u32, width: u32, usn: bool) -> u32
     }
 }
 
-// One of four words.
-fn word_of(a: u32, b: u32, c: u32, d: u32, j: u32) -> u32
-    requires { j < 4 }
-    ensures { result ≡ get_or (a ∷ b ∷ c ∷ d ∷ []) j 0 }
-{
-    match j {
-        0 => a,
-        1 => b,
-        2 => c,
-        _ => d,
-    }
-}
-
 // The element that starts at a bit of four words; it lies in one of them.
-fn element_at(a: u32, b: u32, c: u32, d: u32, width: u32, at: u32) -> u32
+fn element_at(words: [u32; 4], width: u32, at: u32) -> u32
     requires { ElementFits width at }
-    ensures { (result ≡ element width (value (a ∷ b ∷ c ∷ d ∷ [])) at 0) × (result < 2 ^ width) }
+    ensures { (result ≡ element width (value words) at 0) × (result < 2 ^ width) }
 {
-    let word = word_of(a, b, c, d, at / 32);
-    ((word as u64 >> (at % 32)) % (1u64 << width)) as u32
+    let word = words[at as usize / 32];
+    ((u64::from(word) >> (at % 32)) % (1u64 << width)) as u32
 }
 
-fn extended_at(a: u32, b: u32, c: u32, d: u32, width: u32, usn: bool, at: u32) -> u32
+fn extended_at(words: [u32; 4], width: u32, usn: bool, at: u32) -> u32
     requires { ElementFits width at }
-    ensures { result ≡ extended width usn (element width (value (a ∷ b ∷ c ∷ d ∷ [])) at 0) }
+    ensures { result ≡ extended width usn (element width (value words) at 0) }
 {
-    extend(element_at(a, b, c, d, width, at), width, usn)
+    extend(element_at(words, width, at), width, usn)
 }
 
 // The four data fields of the vector that starts at a bit of four words.
-pub(crate) fn vector(f: Format, usn: bool, a: u32, b: u32, c: u32, d: u32, at: u32) -> [u32; 4]
+pub(crate) fn vector(f: Format, usn: bool, words: [u32; 4], at: u32) -> [u32; 4]
     requires { VectorFits f at }
-    ensures { result ≡ vector_at f usn (value (a ∷ b ∷ c ∷ d ∷ [])) at }
+    ensures { result ≡ vector_at f usn (value words) at }
 {
-    let width = element_bits(f);
-    if is_five(f) {
-        return five_fields(element_at(a, b, c, d, width, at));
+    let width = f.element_bits();
+    if f.is_five() {
+        return five_fields(element_at(words, width, at));
     }
-    let n = elements_of(f);
-    let x = extended_at(a, b, c, d, width, usn, at);
+    let n = f.elements();
+    let x = extended_at(words, width, usn, at);
     if n == 1 {
         return [x, x, x, x];
     }
-    let y = extended_at(a, b, c, d, width, usn, at + width);
+    let y = extended_at(words, width, usn, at + width);
     if n == 2 {
         return [x, y, x, y];
     }
-    let z = extended_at(a, b, c, d, width, usn, at + 2 * width);
+    let z = extended_at(words, width, usn, at + 2 * width);
     if n == 3 {
         return [x, y, z, 0];
     }
-    let w = extended_at(a, b, c, d, width, usn, at + 3 * width);
+    let w = extended_at(words, width, usn, at + 3 * width);
     [x, y, z, w]
 }

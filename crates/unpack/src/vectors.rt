@@ -11,15 +11,15 @@ ghost use Rattle.unpack_rules.specs.Inner.{Width, MemoryFits};
 ghost use Rattle.unpack.specs.Short.{stores_from};
 ghost use Rattle.unpack.specs.Vectors.{Scalar, vector_bytes, vector_in, vector_from, quad_of, vector_of, fields_after, WritesFit, ReadsFit, VectorsFit};
 
-use super::copy::{next_in_cycle, stride, word_inside};
+use super::copy::{next_in_cycle, next_vector, stride, word_inside};
 use super::cycle::writes_done;
 use super::payload::{payload_words, whole_vectors};
 use super::step::acting_registers;
 use super::vector::extend;
-use super::write::{place, store_quadword, store_words};
+use super::write::{Writes, store_quadword};
 use unpack_rules::{
-    Format, Registers, Unpacking, element_bits, elements_of, field, five_fields, is_five,
-    next_rows, place_in_cycle, smaller, unfold_mask, vector_bits, vectors_before, wrapped,
+    Format, Registers, Unpacking, field, five_fields, next_rows, place_in_cycle, unfold_mask,
+    vectors_before, wrapped,
 };
 
 // The element at a byte.
@@ -27,7 +27,7 @@ fn element_inside(main: &[u8], at: usize, width: u32) -> u32
     requires { Width width × (at + 4 ≤ length main.now) }
     ensures { (result ≡ word_at main.now at % 2 ^ width) × (result < 2 ^ width) }
 {
-    (word_inside(main, at) as u64 % (1u64 << width)) as u32
+    (u64::from(word_inside(main, at)) % (1u64 << width)) as u32
 }
 
 fn extended_inside(main: &[u8], at: usize, width: u32, usn: bool) -> u32
@@ -51,7 +51,7 @@ fn store_scalar(
     ensures { «data».new ≡ store_quadword «data».old quad (vector_in f usn main.now at) }
 {
     let x = extended_inside(main, at, width, usn);
-    store_words(data, quad, x, x, x, x);
+    store_quadword(data, quad, [x, x, x, x]);
 }
 
 // The vector at a byte, of n elements of a width, stored at a quadword as it is.
@@ -68,7 +68,7 @@ fn store_vector(
     requires { (at + vector_bytes f + 4 ≤ length main.now) × (4 * quad + 4 ≤ length «data».old) × (width ≡ element_bits f) × (n ≡ elements f) }
     ensures { «data».new ≡ store_quadword «data».old quad (vector_in f usn main.now at) }
 {
-    if is_five(f) {
+    if f.is_five() {
         let fields = five_fields(element_inside(main, at, width));
         store_quadword(data, quad, fields);
         return;
@@ -76,30 +76,30 @@ fn store_vector(
     let size = (width / 8) as usize;
     let x = extended_inside(main, at, width, usn);
     if n == 1 {
-        store_words(data, quad, x, x, x, x);
+        store_quadword(data, quad, [x, x, x, x]);
         return;
     }
     let y = extended_inside(main, at + size, width, usn);
     if n == 2 {
-        store_words(data, quad, x, y, x, y);
+        store_quadword(data, quad, [x, y, x, y]);
         return;
     }
     let z = extended_inside(main, at + 2 * size, width, usn);
     if n == 3 {
-        store_words(data, quad, x, y, z, 0);
+        store_quadword(data, quad, [x, y, z, 0]);
         return;
     }
     let w = extended_inside(main, at + 3 * size, width, usn);
-    store_words(data, quad, x, y, z, w);
+    store_quadword(data, quad, [x, y, z, w]);
 }
 
 fn vector_bytes(f: Format) -> usize
     ensures { result ≡ vector_bytes f }
 {
-    (vector_bits(f) / 8) as usize
+    (f.vector_bits() / 8) as usize
 }
 
-// n vectors of one element from a byte on, stored one after another from a quadword on.
+// n vectors of one element from a byte on, stored one after another from a quadword on. Beside `store_vectors`, so that the loop holds no test of the elements.
 fn store_scalars(
     f: Format,
     width: u32,
@@ -116,11 +116,9 @@ fn store_scalars(
 {
     let bytes = (width / 8) as usize;
     let mut at = a;
-    let mut j: usize = 0;
-    while j < n {
+    for j in 0..n {
         store_scalar(f, width, usn, main, at, data, to + j);
         at += bytes;
-        j += 1;
     }
 }
 
@@ -154,10 +152,7 @@ fn store_scalars_by(
 fn is_scalar(f: Format) -> bool
     ensures { result ≡ true → Scalar f }
 {
-    if is_five(f) {
-        return false;
-    }
-    elements_of(f) == 1
+    matches!(f, Format::S32 | Format::S16 | Format::S8)
 }
 
 // n vectors from a byte on, stored one after another from a quadword on.
@@ -167,7 +162,7 @@ fn store_run(f: Format, usn: bool, main: &[u8], a: usize, n: usize, data: &mut [
         ≡ stores_from (λ (i : ℕ). to + i) (vector_from f usn main.now a 0) n 0 «data».old }
 {
     if is_scalar(f) {
-        store_scalars_by(f, element_bits(f), usn, main, a, n, data, to);
+        store_scalars_by(f, f.element_bits(), usn, main, a, n, data, to);
         return;
     }
     store_vectors(f, usn, main, a, n, data, to);
@@ -180,40 +175,29 @@ fn store_vectors(f: Format, usn: bool, main: &[u8], a: usize, n: usize, data: &m
         ≡ stores_from (λ (i : ℕ). to + i) (vector_from f usn main.now a 0) n 0 «data».old }
 {
     let bytes = vector_bytes(f);
-    let width = element_bits(f);
-    let elements = elements_of(f);
+    let width = f.element_bits();
+    let elements = f.elements();
     let mut at = a;
-    let mut j: usize = 0;
-    while j < n {
+    for j in 0..n {
         store_vector(f, elements, width, usn, main, at, data, to + j);
         at += bytes;
-        j += 1;
     }
 }
 
 // Vector after vector, up to the wrap and on from it.
-fn store_runs(
-    size: u32,
-    address: u32,
-    first: u32,
-    last: u32,
-    f: Format,
-    usn: bool,
-    main: &[u8],
-    a: usize,
-    data: &mut [u32],
-)
-    requires { MemoryFits size «data».old × (address ≤ address_most) × (last ≤ 256) × (first ≤ last)
-        × (a + vector_bytes f * (last - first) + 4 ≤ length main.now) }
+fn store_runs(w: Writes, f: Format, usn: bool, main: &[u8], a: usize, data: &mut [u32])
+    requires { MemoryFits w.size «data».old × (w.address ≤ address_most) × (w.last ≤ 256) × (w.first ≤ w.last)
+        × (a + vector_bytes f * (w.last - w.first) + 4 ≤ length main.now) }
     ensures { «data».new
-        ≡ stores_from (λ (i : ℕ). (address + i) % size) (vector_from f usn main.now a first) (last - first) first «data».old }
+        ≡ stores_from (λ (i : ℕ). (w.address + i) % w.size) (vector_from f usn main.now a w.first) (w.last - w.first) w.first «data».old }
 {
     let bytes = vector_bytes(f);
-    let mut i = first;
+    let mut i = w.first;
     let mut at = a;
-    while i < last {
-        let quad = wrapped(size, address + i);
-        let run = smaller(last - i, size - quad);
+    // no `for`: it goes on by a run's length
+    while i < w.last {
+        let quad = wrapped(w.size, w.address + i);
+        let run = (w.last - i).min(w.size - quad);
         store_run(f, usn, main, at, run as usize, data, quad as usize);
         at += bytes * run as usize;
         i += run;
@@ -228,43 +212,22 @@ fn quad_of(xs: &[u32], quad: usize) -> [u32; 4]
     [xs[at], xs[at + 1], xs[at + 2], xs[at + 3]]
 }
 
-// Which vector a write at a place of its cycle has, from that of the write before it: a fill has the same.
-fn next_index(cl: u32, cycle: u32, index: usize) -> usize
-    requires { index ≤ 256 }
-    ensures { (cycle < cl → result ≡ index + 1) × (cl ≤ cycle → result ≡ index) }
-{
-    if cycle < cl { index + 1 } else { index }
-}
-
 // Write after write of vectors read, as they are, their places advanced.
-fn store_apart(
-    size: u32,
-    address: u32,
-    r: Registers,
-    first: u32,
-    last: u32,
-    xs: &[u32],
-    data: &mut [u32],
-)
-    requires { WritesFit size address r.cl r.wl first last «data».old × (1024 ≤ length xs.now) }
-    ensures { «data».new
-        ≡ stores_from (position_of size address r.cl r.wl) (vector_of xs.now r.cl r.wl first) (last - first) first
+fn store_apart(w: Writes, xs: &[u32], data: &mut [u32])
+    requires { let r = w.registers in WritesFit w.size w.address r.cl r.wl w.first w.last «data».old × (1024 ≤ length xs.now) }
+    ensures { let r = w.registers in «data».new
+        ≡ stores_from (position_of w.size w.address r.cl r.wl) (vector_of xs.now r.cl r.wl w.first) (w.last - w.first) w.first
         «data».old }
 {
-    let mut quad = place(size, address, r.cl, r.wl, first);
-    let mut cycle = place_in_cycle(r.wl, first);
-    let mut index: usize = 0;
-    let mut i = first;
-    while i < last {
-        let words = quad_of(xs, index);
-        store_quadword(data, quad as usize, words);
-        let next = wrapped(size, quad + stride(r.cl, r.wl, cycle));
-        quad = next;
-        let turn = next_in_cycle(r.wl, cycle);
-        cycle = turn;
-        let from = next_index(r.cl, turn, index);
-        index = from;
-        i += 1;
+    let r = w.registers;
+    let mut quad = w.place(w.first);
+    let mut cycle = place_in_cycle(r.wl, w.first);
+    let mut index = 0;
+    for _i in w.first..w.last {
+        store_quadword(data, quad as usize, quad_of(xs, index));
+        quad = wrapped(w.size, quad + stride(r.cl, r.wl, cycle));
+        cycle = next_in_cycle(r.wl, cycle);
+        index = next_vector::<1>(r.cl, cycle, index);
     }
 }
 
@@ -272,12 +235,7 @@ fn store_apart(
 fn mode_in(cl: u32, wl: u32, mode: u32, cycle: u32) -> u32
     ensures { result ≡ if (filling cl wl && leb cl cycle) 0 mode }
 {
-    if cl < wl {
-        if cl <= cycle {
-            return 0;
-        }
-    }
-    mode
+    if cl < wl && cl <= cycle { 0 } else { mode }
 }
 
 fn next_fields(
@@ -318,42 +276,28 @@ fn write_fields(
 }
 
 // Write after write of vectors read, with the mask's codes and MODE, their places advanced.
-fn write_apart(
-    size: u32,
-    address: u32,
-    r: Registers,
-    first: u32,
-    last: u32,
-    xs: &[u32],
-    row: [u32; 4],
-    data: &mut [u32],
-) -> [u32; 4]
-    requires { WritesFit size address r.cl r.wl first last «data».old × (1024 ≤ length xs.now) }
-    ensures { written result «data».new
-        ≡ writes_from size address r (λ (v : ℕ). quad_of xs.now (v - vectors_before r.cl r.wl first)) (last - first) first
+fn write_apart(w: Writes, xs: &[u32], row: [u32; 4], data: &mut [u32]) -> [u32; 4]
+    requires { let r = w.registers in WritesFit w.size w.address r.cl r.wl w.first w.last «data».old × (1024 ≤ length xs.now) }
+    ensures { let r = w.registers in written result «data».new
+        ≡ writes_from w.size w.address r (λ (v : ℕ). quad_of xs.now (v - vectors_before r.cl r.wl w.first)) (w.last - w.first) w.first
         (written row «data».old) }
 {
+    let r = w.registers;
     let codes = unfold_mask(r.mask);
     let col = r.col;
     let mut rows = row;
-    let mut quad = place(size, address, r.cl, r.wl, first);
-    let mut cycle = place_in_cycle(r.wl, first);
-    let mut index: usize = 0;
-    let mut i = first;
-    while i < last {
+    let mut quad = w.place(w.first);
+    let mut cycle = place_in_cycle(r.wl, w.first);
+    let mut index = 0;
+    for _i in w.first..w.last {
         let fields = quad_of(xs, index);
-        let c = smaller(cycle, 3) as usize;
-        let chosen = codes[c];
+        let c = cycle.min(3) as usize;
         let mode = mode_in(r.cl, r.wl, r.mode, cycle);
-        let after = write_fields(data, quad as usize, fields, rows, col[c], chosen, mode);
+        let after = write_fields(data, quad as usize, fields, rows, col[c], codes[c], mode);
         rows = after;
-        let next = wrapped(size, quad + stride(r.cl, r.wl, cycle));
-        quad = next;
-        let turn = next_in_cycle(r.wl, cycle);
-        cycle = turn;
-        let from = next_index(r.cl, turn, index);
-        index = from;
-        i += 1;
+        quad = wrapped(w.size, quad + stride(r.cl, r.wl, cycle));
+        cycle = next_in_cycle(r.wl, cycle);
+        index = next_vector::<1>(r.cl, cycle, index);
     }
     rows
 }
@@ -362,19 +306,12 @@ fn write_apart(
 fn is_bare(r: Registers) -> bool
     ensures { result ≡ (eqb r.mode 0 && eqb r.mask 0) }
 {
-    if r.mode != 0 {
-        return false;
-    }
-    r.mask == 0
+    r.mode == 0 && r.mask == 0
 }
 
 // The writes from number `first` to below `last`, whose n vectors are read before them.
 fn write_read(
-    size: u32,
-    address: u32,
-    r: Registers,
-    first: u32,
-    last: u32,
+    w: Writes,
     n: u32,
     f: Format,
     usn: bool,
@@ -383,27 +320,23 @@ fn write_read(
     row: [u32; 4],
     data: &mut [u32],
 ) -> [u32; 4]
-    requires { WritesFit size address r.cl r.wl first last «data».old × ReadsFit f r.cl r.wl first last n a main.now }
-    ensures { written result «data».new
-        ≡ writes_from size address r (vector_from f usn main.now a (vectors_before r.cl r.wl first)) (last - first) first
+    requires { let r = w.registers in WritesFit w.size w.address r.cl r.wl w.first w.last «data».old × ReadsFit f r.cl r.wl w.first w.last n a main.now }
+    ensures { let r = w.registers in written result «data».new
+        ≡ writes_from w.size w.address r (vector_from f usn main.now a (vectors_before r.cl r.wl w.first)) (w.last - w.first) w.first
         (written row «data».old) }
 {
     let mut xs = [0u32; 1024];
     store_run(f, usn, main, a, n as usize, &mut xs, 0);
-    if is_bare(r) {
-        store_apart(size, address, r, first, last, &xs, data);
+    if is_bare(w.registers) {
+        store_apart(w, &xs, data);
         return row;
     }
-    write_apart(size, address, r, first, last, &xs, row, data)
+    write_apart(w, &xs, row, data)
 }
 
 // The writes from number `first` to below `last`, whose n vectors lie in main memory from byte a on.
 fn write_all(
-    size: u32,
-    address: u32,
-    r: Registers,
-    first: u32,
-    last: u32,
+    w: Writes,
     n: u32,
     f: Format,
     usn: bool,
@@ -412,18 +345,17 @@ fn write_all(
     row: [u32; 4],
     data: &mut [u32],
 ) -> [u32; 4]
-    requires { WritesFit size address r.cl r.wl first last «data».old × ReadsFit f r.cl r.wl first last n a main.now }
-    ensures { written result «data».new
-        ≡ writes_from size address r (vector_from f usn main.now a (vectors_before r.cl r.wl first)) (last - first) first
+    requires { let r = w.registers in WritesFit w.size w.address r.cl r.wl w.first w.last «data».old × ReadsFit f r.cl r.wl w.first w.last n a main.now }
+    ensures { let r = w.registers in written result «data».new
+        ≡ writes_from w.size w.address r (vector_from f usn main.now a (vectors_before r.cl r.wl w.first)) (w.last - w.first) w.first
         (written row «data».old) }
 {
-    if r.cl == r.wl {
-        if is_bare(r) {
-            store_runs(size, address, first, last, f, usn, main, a, data);
-            return row;
-        }
+    let r = w.registers;
+    if r.cl == r.wl && is_bare(r) {
+        store_runs(w, f, usn, main, a, data);
+        return row;
     }
-    write_read(size, address, r, first, last, n, f, usn, main, a, row, data)
+    write_read(w, n, f, usn, main, a, row, data)
 }
 
 // The next n payload words, with the first of which a vector begins.
@@ -446,21 +378,12 @@ pub(crate) fn take_vectors(
     let k = payload_words(f, vectors) - u.due;
     let from = whole_vectors(f, vectors, k);
     let to = whole_vectors(f, vectors, k + n);
-    let first = writes_done(r.cl, r.wl, from, u.count);
-    let last = writes_done(r.cl, r.wl, to, u.count);
-    let s = acting_registers(f, u, r);
-    write_all(
+    let writes = Writes {
         size,
-        u.address,
-        s,
-        first,
-        last,
-        to - from,
-        f,
-        u.usn,
-        main,
-        a,
-        row,
-        data,
-    )
+        address: u.address,
+        registers: acting_registers(f, u, r),
+        first: writes_done(r.cl, r.wl, from, u.count),
+        last: writes_done(r.cl, r.wl, to, u.count),
+    };
+    write_all(writes, to - from, f, u.usn, main, a, row, data)
 }

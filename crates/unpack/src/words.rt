@@ -7,34 +7,23 @@ ghost use Rattle.unpack_rules.specs.Inner.{MemoryFits};
 ghost use Rattle.unpack_rules.specs.Step.{holds};
 ghost use Rattle.unpack_rules.specs.Whole.{words_from, taken_by, words_left, words_acceptable, take_words_of};
 
-use super::MAIN_MOST;
 use super::payload::{payload_words, whole_vectors};
 use super::short::{goes_short, has_vectors, skip, take_all};
 use super::step::{acceptable_input, write_completed};
 use super::vectors::take_vectors;
-use fields::word_at;
-use unpack_rules::{Format, Registers, Unpacking, WordsTaken, elements_of, vectors_before};
-
-fn one_less(due: u32) -> u32
-    ensures { result ≡ due - 1 }
-{
-    if due == 0 { 0 } else { due - 1 }
-}
+use fields::{MAIN_MOST, word_at};
+use unpack_rules::{Format, Registers, Unpacking, WordsTaken, vectors_before};
 
 // An UNPACK that waits on, with one payload word more held.
 pub fn held(u: Unpacking, word: u32) -> Unpacking
     ensures { result ≡ holds u word }
 {
     Unpacking {
-        address: u.address,
-        count: u.count,
-        due: one_less(u.due),
-        usn: u.usn,
-        masked: u.masked,
-        interrupt: u.interrupt,
+        due: u.due.saturating_sub(1),
         first: u.second,
         second: u.third,
         third: word,
+        ..u
     }
 }
 
@@ -51,7 +40,7 @@ fn take_each(
     data: &mut [u32],
 ) -> WordsTaken
     requires { CycleFits r.cl r.wl × UnpackingFits f r.cl r.wl u × MemoryFits size «data».old × (a ≤ 1048576) × (n < u.due) }
-    ensures { words_left result «data».new
+    ensures { words_left u row (Some result) «data».new
         ≡ taken_by size f u r (words_from main.now a n) (written row «data».old) }
 {
     let vectors = vectors_before(r.cl, r.wl, u.count);
@@ -59,8 +48,7 @@ fn take_each(
     let mut from = whole_vectors(f, vectors, taken);
     let mut rows = row;
     let mut rest = u;
-    let mut k: u32 = 0;
-    while k < n {
+    for k in 0..n {
         let word = word_at(main, a + 4 * k);
         let to = whole_vectors(f, vectors, taken + k + 1);
         if from != to {
@@ -69,20 +57,15 @@ fn take_each(
         }
         rest = held(rest, word);
         from = to;
-        k += 1;
     }
-    WordsTaken {
-        accepted: true,
-        row: rows,
-        rest,
-    }
+    WordsTaken { row: rows, rest }
 }
 
 // The words up to one with which a vector begins, after k words: as many words as a vector has elements hold whole vectors.
 fn words_before(f: Format, k: u32) -> u32
     ensures { ((k + result) % elements f ≡ 0) × (result < 4) }
 {
-    let n = elements_of(f);
+    let n = f.elements();
     let over = k % n;
     if over == 0 { 0 } else { n - over }
 }
@@ -100,15 +83,11 @@ fn take_few(
     data: &mut [u32],
 ) -> WordsTaken
     requires { CycleFits r.cl r.wl × UnpackingFits f r.cl r.wl u × MemoryFits size «data».old × (a ≤ 1048576) × (n < u.due) }
-    ensures { words_left result «data».new
+    ensures { words_left u row (Some result) «data».new
         ≡ taken_by size f u r (words_from main.now a n) (written row «data».old) }
 {
     if n == 0 {
-        return WordsTaken {
-            accepted: true,
-            row,
-            rest: u,
-        };
+        return WordsTaken { row, rest: u };
     }
     take_each(size, f, u, r, main, a, n, row, data)
 }
@@ -126,20 +105,16 @@ fn take_most(
     data: &mut [u32],
 ) -> WordsTaken
     requires { CycleFits r.cl r.wl × UnpackingFits f r.cl r.wl u × MemoryFits size «data».old × (a ≤ 1048576) × (n < u.due) }
-    ensures { words_left result «data».new
+    ensures { words_left u row (Some result) «data».new
         ≡ taken_by size f u r (words_from main.now a n) (written row «data».old) }
 {
     let vectors = vectors_before(r.cl, r.wl, u.count);
     let lead = words_before(f, payload_words(f, vectors) - u.due);
     if has_vectors(main, a, lead, n + 1) {
-        let begun = take_few(size, f, u, r, main, a, lead, row, data);
-        let rest = begun.rest;
-        let rows = begun.row;
+        let WordsTaken { row, rest } = take_few(size, f, u, r, main, a, lead, row, data);
         let at = a as usize + 4 * lead as usize;
-        let next = take_vectors(size, f, rest, r, main, at, n - lead, rows, data);
         return WordsTaken {
-            accepted: true,
-            row: next,
+            row: take_vectors(size, f, rest, r, main, at, n - lead, row, data),
             rest: skip(rest, n - lead, main, a as usize + 4 * n as usize),
         };
     }
@@ -157,28 +132,21 @@ pub fn take_words(
     n: u32,
     row: [u32; 4],
     data: &mut [u32],
-) -> WordsTaken
-    ensures { words_left result «data».new ≡ take_words_of size f u r main.now a n row «data».old }
+) -> Option<WordsTaken>
+    ensures { words_left u row result «data».new ≡ take_words_of size f u r main.now a n row «data».old }
 {
     if words_acceptable(size, f, u, r, a, n, data) {
         if goes_short(f, u, r) {
             let rest = take_all(size, u, r, main, a, n, data);
-            return WordsTaken {
-                accepted: true,
-                row,
-                rest,
-            };
+            return Some(WordsTaken { row, rest });
         }
-        take_most(size, f, u, r, main, a, n, row, data)
+        Some(take_most(size, f, u, r, main, a, n, row, data))
     } else {
-        WordsTaken {
-            accepted: false,
-            row,
-            rest: u,
-        }
+        None
     }
 }
 
+#[tactic(auto, unfolding(unpack_rules::specs::Whole::words_acceptable))]
 fn words_acceptable(
     size: u32,
     f: Format,
@@ -190,11 +158,5 @@ fn words_acceptable(
 ) -> bool
     ensures { result ≡ words_acceptable size f u r a n «data».now }
 {
-    if MAIN_MOST < a {
-        return false;
-    }
-    if u.due <= n {
-        return false;
-    }
-    acceptable_input(size, f, u, r, data)
+    a as usize <= MAIN_MOST && n < u.due && acceptable_input(size, f, u, r, data)
 }

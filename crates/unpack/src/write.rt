@@ -8,9 +8,42 @@ ghost use Rattle.unpack_rules.specs.Whole.{store_quadword};
 ghost use Rattle.unpack_rules.specs.Range.{CycleFits};
 ghost use Rattle.unpack_rules.specs.Inner.{MemoryFits};
 
-use unpack_rules::{
-    Registers, cycles_before, field, is_plain, mode_at, next_rows, place_in_cycle, wrapped,
-};
+use unpack_rules::{Registers, cycles_before, field, is_plain, next_rows, place_in_cycle, wrapped};
+
+// The writes of an UNPACK from number `first` to below `last`, to a memory of `size` quadwords.
+#[derive(Clone, Copy)]
+pub(crate) struct Writes {
+    pub(crate) size: u32,
+    pub(crate) address: u32,
+    pub(crate) registers: Registers,
+    pub(crate) first: u32,
+    pub(crate) last: u32,
+}
+
+impl Writes {
+    // The quadword that write i goes to, where none fills.
+    fn position(self, i: u32) -> u32
+        requires { let r = self.registers in CycleFits r.cl r.wl × (filling r.cl r.wl ≡ false) × (0 < self.size)
+            × (self.address ≤ address_most) × (i ≤ 255) }
+        ensures { result ≡ position_of self.size self.address self.registers.cl self.registers.wl i }
+    {
+        let r = self.registers;
+        let start = cycles_before(r.wl, i) * r.cl;
+        wrapped(self.size, self.address + start + place_in_cycle(r.wl, i))
+    }
+
+    // The quadword that write i goes to.
+    pub(crate) fn place(self, i: u32) -> u32
+        requires { let r = self.registers in CycleFits r.cl r.wl × (0 < self.size) × (self.address ≤ address_most) × (i ≤ 255) }
+        ensures { result ≡ position_of self.size self.address self.registers.cl self.registers.wl i }
+    {
+        if self.registers.cl < self.registers.wl {
+            wrapped(self.size, self.address + i)
+        } else {
+            self.position(i)
+        }
+    }
+}
 
 fn put_field(data: &mut [u32], at: usize, code: u32, mode: u32, x: u32, row: u32, col: u32)
     requires { at < length «data».old }
@@ -40,24 +73,18 @@ fn put_fields(
 }
 
 // Four words stored at a quadword.
-pub(crate) fn store_words(data: &mut [u32], quad: usize, x: u32, y: u32, z: u32, w: u32)
-    requires { 4 * quad + 4 ≤ length «data».old }
-    ensures { «data».new ≡ store_quadword «data».old quad (x ∷ y ∷ z ∷ w ∷ []) }
-{
-    let at = 4 * quad;
-    data[at] = x;
-    data[at + 1] = y;
-    data[at + 2] = z;
-    data[at + 3] = w;
-}
-
 pub(crate) fn store_quadword(data: &mut [u32], quad: usize, words: [u32; 4])
     requires { 4 * quad + 4 ≤ length «data».old }
     ensures { «data».new ≡ store_quadword «data».old quad words }
 {
-    store_words(data, quad, words[0], words[1], words[2], words[3]);
+    let at = 4 * quad;
+    data[at] = words[0];
+    data[at + 1] = words[1];
+    data[at + 2] = words[2];
+    data[at + 3] = words[3];
 }
 
+// A quadword by itself. Beside `write_fields` of vectors, which tests nothing: with it single words of V4-5 took 8% longer.
 fn write_quadword(
     data: &mut [u32],
     quad: usize,
@@ -78,31 +105,9 @@ fn write_quadword(
     next_rows(codes, mode, fields, row)
 }
 
-// The quadword that a write goes to, where none fills.
-fn position(size: u32, address: u32, cl: u32, wl: u32, i: u32) -> u32
-    requires { CycleFits cl wl × (filling cl wl ≡ false) × (0 < size) × (address ≤ address_most) × (i ≤ 255) }
-    ensures { result ≡ position_of size address cl wl i }
-{
-    let start = cycles_before(wl, i) * cl;
-    wrapped(size, address + start + place_in_cycle(wl, i))
-}
-
-// The quadword that write i goes to.
-pub(crate) fn place(size: u32, address: u32, cl: u32, wl: u32, i: u32) -> u32
-    requires { CycleFits cl wl × (0 < size) × (address ≤ address_most) × (i ≤ 255) }
-    ensures { result ≡ position_of size address cl wl i }
-{
-    if cl < wl {
-        return wrapped(size, address + i);
-    }
-    position(size, address, cl, wl, i)
-}
-
 // Write i of an UNPACK, with the mask's codes and COL of its row.
 pub(crate) fn write_at(
-    size: u32,
-    address: u32,
-    r: Registers,
+    w: Writes,
     i: u32,
     fields: [u32; 4],
     codes: [u32; 4],
@@ -110,43 +115,23 @@ pub(crate) fn write_at(
     row: [u32; 4],
     data: &mut [u32],
 ) -> [u32; 4]
-    requires { CycleFits r.cl r.wl × MemoryFits size «data».old × (address ≤ address_most) × (i ≤ 255)
+    requires { let r = w.registers in CycleFits r.cl r.wl × MemoryFits w.size «data».old × (w.address ≤ address_most) × (i ≤ 255)
         × (codes ≡ code_row r.mask (row_of_cycle r.wl i)) × (col ≡ get_or r.col (row_of_cycle r.wl i) 0) }
     ensures { written result «data».new
-        ≡ write_vector size address (registers_at r i) i fields (written row «data».old) }
+        ≡ write_vector w.size w.address (registers_at w.registers i) i fields (written row «data».old) }
 {
-    let quad = place(size, address, r.cl, r.wl, i);
-    write_quadword(data, quad as usize, fields, row, col, codes, mode_at(r, i))
-}
-
-// The fill of a quadword without a vector before it, which leaves ROW.
-fn fill_quadword(data: &mut [u32], quad: usize, row: [u32; 4], col: u32, codes: [u32; 4])
-    requires { 4 * quad + 4 ≤ length «data».old }
-    ensures { «data».new ≡ written_at «data».old quad (0 ∷ 0 ∷ 0 ∷ 0 ∷ []) row col codes 0 }
-{
-    let at = 4 * quad;
-    put_field(data, at, codes[0], 0, 0, row[0], col);
-    put_field(data, at + 1, codes[1], 0, 0, row[1], col);
-    put_field(data, at + 2, codes[2], 0, 0, row[2], col);
-    put_field(data, at + 3, codes[3], 0, 0, row[3], col);
+    let quad = w.place(i);
+    let mode = w.registers.mode_at(i);
+    write_quadword(data, quad as usize, fields, row, col, codes, mode)
 }
 
 // Write i of an UNPACK with CL 0, with the mask's codes and COL of its row.
-pub(crate) fn fill_at(
-    size: u32,
-    address: u32,
-    r: Registers,
-    i: u32,
-    codes: [u32; 4],
-    col: u32,
-    row: [u32; 4],
-    data: &mut [u32],
-)
-    requires { CycleFits r.cl r.wl × (r.cl ≡ 0) × MemoryFits size «data».old × (address ≤ address_most) × (i ≤ 255)
+pub(crate) fn fill_at(w: Writes, i: u32, codes: [u32; 4], col: u32, row: [u32; 4], data: &mut [u32])
+    requires { let r = w.registers in CycleFits r.cl r.wl × (r.cl ≡ 0) × MemoryFits w.size «data».old × (w.address ≤ address_most) × (i ≤ 255)
         × (codes ≡ code_row r.mask (row_of_cycle r.wl i)) × (col ≡ get_or r.col (row_of_cycle r.wl i) 0) }
     ensures { written row «data».new
-        ≡ write_vector size address (registers_at r i) i (0 ∷ 0 ∷ 0 ∷ 0 ∷ []) (written row «data».old) }
+        ≡ write_vector w.size w.address (registers_at w.registers i) i (0 ∷ 0 ∷ 0 ∷ 0 ∷ []) (written row «data».old) }
 {
-    let quad = wrapped(size, address + i);
-    fill_quadword(data, quad as usize, row, col, codes);
+    let quad = wrapped(w.size, w.address + i);
+    put_fields(data, quad as usize, [0; 4], row, col, codes, 0);
 }

@@ -1,6 +1,7 @@
 -- The step from what its parts give, and its tests as facts.
-use Rattle.std.proofs.Common.{◌≡◌, ℕ, suc, ◌+◌, ◌-◌, ◌*◌, ◌%◌, ◌<◌, ◌≤◌, Bool, true, false, not, eqb, leb, List, [], length, sym, refl, ◌∙◌, le_refl, zero-mul, add-one, arith, eqb-true, le-leb, leb-false, leb-true}
+use Rattle.std.proofs.Common.{◌≡◌, ℕ, suc, ◌+◌, ◌-◌, ◌*◌, ◌%◌, ◌<◌, ◌≤◌, Bool, true, false, not, eqb, leb, List, [], length, Option, Some, None, ap, sym, refl, ◌∙◌, le_refl, zero-mul, add-one, arith, eqb-true, le-leb, leb-false, leb-true}
 use borrow.Author.Tests.{eqb-false, not-true}
+use Rattle.std.proofs.lemmas.Bool.{false≢true}
 use Rattle.fields.specs.Fields.{if}
 use Rattle.fields.proofs.ChoiceLaws.{and_left, and_right, if_ind_by}
 use Rattle.unpack_rules.specs.declared.Format.{Format}
@@ -11,7 +12,7 @@ use Rattle.unpack_rules.specs.Position.{addresses, address_most, vectors_before,
 use Rattle.unpack_rules.specs.Write.{Written, written, writes_from}
 use Rattle.unpack_rules.specs.Range.{cycle_refused, cycle_in_range, payload_for, unpacking_in_range, CycleFits, UnpackingFits}
 use Rattle.unpack_rules.specs.Inner.{MemoryFits, WordFits, VectorIn, WriteIn, CompletedFits, completed_writes, UnfedFits}
-use Rattle.unpack_rules.specs.Step.{count_of, unpacking_of, taken_words, acting, held_vector, done_after, word_of, unpack_word, acceptable, Left, take_of, unfed_writes, unfed_acceptable, unfed_of}
+use Rattle.unpack_rules.specs.Step.{count_of, unpacking_of, taken_words, acting, held_vector, done_after, word_of, unpack_word, acceptable, Left, left, left_of, take_of, unfed_writes, unfed_acceptable, unfed_of}
 use Rattle.unpack_rules.proofs.PayloadLaws.{whole_most, vector_in_lem, payload_most, payload_some}
 use Rattle.unpack_rules.proofs.CycleLaws.{vectors_few, vectors_zero, vectors_some, done_few, done_exactly}
 use Rattle.unpack_rules.proofs.WriteLaws.{writes_none}
@@ -246,6 +247,11 @@ pub taken_as : (size : ℕ) (f : Format) (u : Unpacking) (r : Registers) (word :
     → ◌≡◌ {A = Left} (record { accepted = true; row = rs; mem = m }) (take_of size f u r word row mem)
 unfolding take_of if
 taken_as size f u r word row mem h e = rw (h, ← e)
+
+-- a call that accepts returns the new ROW
+pub left_some : (row : List ℕ) (o : Option (List ℕ)) {m : List ℕ} {w : Written} → left row o m ≡ left_of w → (o ≡ Some w.row) × (m ≡ w.mem)
+left_some row None e = let f = ap (λ (l : Left). l.accepted) e in absurd (false≢true f)
+left_some row (Some s) e = (ap (λ (l : Left). Some l.row) e, ap (λ (l : Left). l.mem) e)
 
 -- an UNPACK code whose whole payload is due is in range
 pub begun_fits : (f : Format) (cl wl a num : ℕ) (usn masked i : Bool) → 1 ≤ cl → 1 ≤ wl → UnpackingFits f cl wl (unpacking_of f cl wl a num usn masked i)

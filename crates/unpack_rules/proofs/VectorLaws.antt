@@ -89,9 +89,6 @@ module _ (f : Format) (usn : Bool) (p at : ℕ) where
 
 -- ---- what the code computes
 
-pub fourth : (a b c d j : ℕ) → j < 4 → (j ≡ 0 → ⊥) → (j ≡ 1 → ⊥) → (j ≡ 2 → ⊥) → d ≡ get_or (a ∷ b ∷ c ∷ d ∷ []) j 0
-fourth a b c d j h n0 n1 n2 = let e : j ≡ 3 = omega arith in rw e
-
 -- a power of two that 64 bits hold
 pub shifted : {w : ℕ} → Width w → 1 * 2 ^ w % 2 ^ 64 ≡ 2 ^ w
 shifted eight = refl
@@ -105,6 +102,10 @@ width_power whole = (omega arith, omega arith)
 
 pub four_words_lem : {a b c d : ℕ} → a < 2 ^ 32 → b < 2 ^ 32 → c < 2 ^ 32 → d < 2 ^ 32 → Words (a ∷ b ∷ c ∷ d ∷ [])
 four_words_lem ha hb hc hd = more ha (more hb (more hc (more hd none)))
+
+pub words_lem : (ws : List ℕ) → ((j : ℕ) → get_or ws j 0 < 2 ^ 32) → Words ws
+words_lem [] h = none
+words_lem (w ∷ ws) h = more (h 0) (words_lem ws (λ j. h (suc j)))
 
 module _ {ws : List ℕ} (r : Words ws) (w at : ℕ) (e : ElementFits w at) {word : ℕ} (q : word ≡ get_or ws (at / 32) 0) where
   pub element_code : (word / 2 ^ (at % 32) % (1 * 2 ^ w % 2 ^ 64) ≡ element w (value ws) at 0) × (word / 2 ^ (at % 32) % (1 * 2 ^ w % 2 ^ 64) < 2 ^ w)

@@ -1,5 +1,6 @@
 -- Payload words of main memory taken one after another: one more of them.
-use Rattle.std.proofs.Common.{◌≡◌, ℕ, suc, ◌+◌, ◌-◌, ◌*◌, ◌<◌, ◌≤◌, true, ltb, leb, List, sym, refl, arith, ltb-true, leb-true}
+use Rattle.std.proofs.Common.{◌≡◌, ℕ, suc, ◌+◌, ◌-◌, ◌*◌, ◌<◌, ◌≤◌, true, ltb, leb, List, Option, Some, None, ap, sym, refl, arith, ltb-true, leb-true}
+use Rattle.std.proofs.lemmas.Bool.{false≢true}
 use Rattle.fields.proofs.ChoiceLaws.{and_left, and_right}
 use Rattle.fields.specs.Memory.{word_at}
 use Rattle.unpack_rules.specs.declared.Format.{Format}
@@ -9,7 +10,8 @@ use Rattle.unpack_rules.specs.Payload.{whole_vectors}
 use Rattle.unpack_rules.specs.Write.{Written}
 use Rattle.unpack_rules.specs.Range.{UnpackingFits}
 use Rattle.unpack_rules.specs.Step.{taken_words, holds, unpack_word, acceptable}
-use Rattle.unpack_rules.specs.Whole.{take_words, held_after, words_from, taken_by, words_acceptable}
+use Rattle.unpack_rules.specs.declared.WordsTaken.{WordsTaken}
+use Rattle.unpack_rules.specs.Whole.{take_words, held_after, words_from, WordsLeft, words_left, taken_by, words_acceptable}
 
 -- a payload word before the last leaves it in range
 pub unpacking_on : {f : Format} {cl wl : ℕ} {u : Unpacking} (word : ℕ) → UnpackingFits f cl wl u → 1 < u.due → UnpackingFits f cl wl (holds u word)
@@ -63,3 +65,11 @@ module _ (size : ℕ) (f : Format) (r : Registers) (main : List ℕ) where
       → record { accepted = true; row = w.row; mem = w.mem; rest = u } ≡ taken_by size f u r (words_from main a n) w
   unfolding taken_by words_from take_words held_after
   words_zero u a w e = rw e
+
+-- a call that accepts returns the new ROW and the UNPACK that waits on
+pub words_some : (size : ℕ) (f : Format) (r : Registers) (u : Unpacking) (ws : List ℕ) (w : Written) (row : List ℕ) (o : Option WordsTaken) {m : List ℕ}
+    → words_left u row o m ≡ taken_by size f u r ws w
+    → (o ≡ Some (record { row = (take_words size f u r ws w).row; rest = held_after u ws })) × (m ≡ (take_words size f u r ws w).mem)
+unfolding taken_by
+words_some size f r u ws w row None e = let f = ap (λ (l : WordsLeft). l.accepted) e in absurd (false≢true f)
+words_some size f r u ws w row (Some s) e = (ap (λ (l : WordsLeft). Some (record { row = l.row; rest = l.rest })) e, ap (λ (l : WordsLeft). l.mem) e)

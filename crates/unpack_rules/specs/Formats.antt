@@ -1,10 +1,8 @@
 -- The formats and their numbers, by one table: document 01's "CMD bits 0-1 vl, bits 2-3 vn".
-use Rattle.std.specs.Prelude.{ℕ, List, [], ◌∷◌, ◌==◌}
+use Rattle.std.specs.Prelude.{ℕ, List, [], ◌∷◌, ◌==◌, None, Option, Some}
 use Rattle.fields.specs.Fields.{if}
 use Rattle.unpack_rules.specs.declared.Format.{Format}
 use Rattle.unpack_rules.specs.declared.Format.TheVariants.{S32, S16, S8, V2x32, V2x16, V2x8, V3x32, V3x16, V3x8, V4x32, V4x16, V4x8, V4x5}
-use Rattle.unpack_rules.specs.declared.NamedFormat.{NamedFormat}
-use Rattle.unpack_rules.specs.declared.NamedFormat.TheVariants.{Named, Missing}
 
 -- bits 0-3 of CMD
 abbrev pub format_number : Format → ℕ
@@ -27,10 +25,10 @@ abbrev pub formats : List Format
 formats = S32 ∷ S16 ∷ S8 ∷ V2x32 ∷ V2x16 ∷ V2x8 ∷ V3x32 ∷ V3x16 ∷ V3x8 ∷ V4x32 ∷ V4x16 ∷ V4x8 ∷ V4x5 ∷ []
 
 -- the one of some formats that has a number
-unfoldable pub named_in : List Format → ℕ → NamedFormat
-named_in [] n = Missing
-named_in (f ∷ fs) n = if (n == format_number f) (Named f) (named_in fs n)
+unfoldable pub named_in : List Format → ℕ → Option Format
+named_in [] n = None
+named_in (f ∷ fs) n = if (n == format_number f) (Some f) (named_in fs n)
 
 -- the format that has a number; none has those of "vl 3 with vn below 3"
-abbrev pub format_named : ℕ → NamedFormat
+abbrev pub format_named : ℕ → Option Format
 format_named n = named_in formats n

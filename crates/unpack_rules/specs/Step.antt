@@ -1,10 +1,9 @@
 -- One payload word of an UNPACK.
-use Rattle.std.specs.Prelude.{ℕ, ◌+◌, ◌-◌, ◌*◌, ◌%◌, Bool, true, false, ◌&&◌, List, [], ◌∷◌, length, ◌==◌, nat_le}
+use Rattle.std.specs.Prelude.{ℕ, ◌+◌, ◌-◌, ◌*◌, ◌%◌, Bool, true, false, ◌&&◌, List, [], ◌∷◌, length, ◌==◌, nat_le, Option, Some, None}
 use Rattle.fields.specs.Fields.{if}
 use Rattle.unpack_rules.specs.declared.Format.{Format}
 use Rattle.unpack_rules.specs.declared.Unpacking.{Unpacking}
 use Rattle.unpack_rules.specs.declared.Registers.{Registers}
-use Rattle.unpack_rules.specs.declared.Rows.{Rows}
 use Rattle.unpack_rules.specs.Payload.{is_five, vector_bits, value, whole_vectors}
 use Rattle.unpack_rules.specs.Vector.{vector_at}
 use Rattle.unpack_rules.specs.Position.{addresses, address_most, vectors_before, writes_done}
@@ -91,8 +90,10 @@ pub record Left : Type 0 where
   pub row : List ℕ
   pub mem : List ℕ
 
-abbrev pub left : Rows → List ℕ → Left
-left r mem = record { accepted = r.accepted; row = r.row; mem = mem }
+-- by ROW before the call, the new ROW that it returns where it accepts, and the memory after it
+abbrev pub left : List ℕ → Option (List ℕ) → List ℕ → Left
+left row None mem = record { accepted = false; row = row; mem = mem }
+left row (Some new) mem = record { accepted = true; row = new; mem = mem }
 
 -- The public step tests its own input: a memory of 4 x size words, size 1 to 1,024, and an UNPACK and CL, WL in range; else nothing changes.
 unfoldable pub acceptable : ℕ → Format → Unpacking → Registers → List ℕ → Bool

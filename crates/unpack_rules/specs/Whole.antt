@@ -1,5 +1,5 @@
 -- A payload as a whole: what its words make of ROW and memory, read off all of them at once, and the steps that take them one by one.
-use Rattle.std.specs.Prelude.{ℕ, zero, suc, ◌+◌, ◌*◌, ◌%◌, Bool, true, false, ◌&&◌, List, [], ◌∷◌, length, nat_le, nat_lt, slice_index, slice_set}
+use Rattle.std.specs.Prelude.{ℕ, zero, suc, ◌+◌, ◌*◌, ◌%◌, Bool, true, false, ◌&&◌, List, [], ◌∷◌, length, nat_le, nat_lt, Option, Some, None, slice_index, slice_set}
 use Rattle.fields.specs.Fields.{if}
 use Rattle.fields.specs.Memory.{word_at}
 use Rattle.unpack_rules.specs.declared.Format.{Format}
@@ -44,8 +44,10 @@ pub record WordsLeft : Type 0 where
   pub mem : List ℕ
   pub rest : Unpacking
 
-abbrev pub words_left : WordsTaken → List ℕ → WordsLeft
-words_left s mem = record { accepted = s.accepted; row = s.row; mem = mem; rest = s.rest }
+-- by the UNPACK and ROW before the call, what it returns where it accepts, and the memory after it
+abbrev pub words_left : Unpacking → List ℕ → Option WordsTaken → List ℕ → WordsLeft
+words_left u row None mem = record { accepted = false; row = row; mem = mem; rest = u }
+words_left u row (Some s) mem = record { accepted = true; row = s.row; mem = mem; rest = s.rest }
 
 -- the steps of the words
 unfoldable pub taken_by : ℕ → Format → Unpacking → Registers → List ℕ → Written → WordsLeft

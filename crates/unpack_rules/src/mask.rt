@@ -41,6 +41,5 @@ pub fn mask_of(masked: bool, mask: u32) -> u32
 pub fn row_of_cycle(wl: u32, i: u32) -> u32
     ensures { result ≡ row_of_cycle wl i }
 {
-    let k = place_in_cycle(wl, i);
-    if k < 3 { k } else { 3 }
+    place_in_cycle(wl, i).min(3)
 }

@@ -10,14 +10,9 @@ pub fn cycle_refused(cl: u32, wl: u32) -> bool
 }
 
 // Whether CL and WL are such that an UNPACK is accepted.
+#[tactic(auto, unfolding(crate::specs::Range::cycle_in_range))]
 pub fn cycle_in_range(cl: u32, wl: u32) -> bool
     ensures { result ≡ cycle_in_range cl wl }
 {
-    if cycle_refused(cl, wl) {
-        return false;
-    }
-    if 255 < cl {
-        return false;
-    }
-    wl <= 255
+    !cycle_refused(cl, wl) && cl <= 255 && wl <= 255
 }

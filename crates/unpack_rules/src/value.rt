@@ -7,10 +7,11 @@ ghost use Rattle.unpack_rules.specs.Inner.{plain};
 use super::Registers;
 use super::cycle::is_fill;
 
+#[tactic(auto, unfolding(crate::specs::Write::added))]
 fn add(x: u32, y: u32) -> u32
     ensures { result ≡ added x y }
 {
-    std::num::wrapping_add_u32(x, y)
+    x.wrapping_add(y)
 }
 
 // Without a branch, so that the four fields of a write are computed side by side.
@@ -53,27 +54,22 @@ pub fn next_rows(codes: [u32; 4], mode: u32, fields: [u32; 4], row: [u32; 4]) ->
 }
 
 // Whether a write stores its data as it is and leaves ROW.
+#[tactic(auto, unfolding(crate::specs::Inner::plain))]
 pub fn is_plain(codes: [u32; 4], mode: u32) -> bool
     ensures { result ≡ plain codes mode }
 {
-    if mode != 0 {
-        return false;
-    }
-    if codes[0] != 0 {
-        return false;
-    }
-    if codes[1] != 0 {
-        return false;
-    }
-    if codes[2] != 0 {
-        return false;
-    }
-    codes[3] == 0
+    mode == 0 && codes[0] == 0 && codes[1] == 0 && codes[2] == 0 && codes[3] == 0
 }
 
-// MODE of write i: a fill is without.
-pub fn mode_at(r: Registers, i: u32) -> u32
-    ensures { result ≡ (registers_at r i).mode }
-{
-    if is_fill(r.cl, r.wl, i) { 0 } else { r.mode }
+impl Registers {
+    // MODE of write i: a fill is without.
+    pub fn mode_at(self, i: u32) -> u32
+        ensures { result ≡ (registers_at self i).mode }
+    {
+        if is_fill(self.cl, self.wl, i) {
+            0
+        } else {
+            self.mode
+        }
+    }
 }

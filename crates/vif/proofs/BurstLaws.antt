@@ -13,7 +13,7 @@ use Rattle.fields.specs.Memory.{word_at, long_at, quadword_at}
 use Rattle.fields.proofs.ChoiceLaws.{if_ind}
 use Rattle.gif.specs.declared.GifPath.TheVariants.{Two}
 use Rattle.gif.specs.declared.Path.{Path}
-use Rattle.gif.specs.declared.GifAnswer.TheVariants.{Taken}
+use Rattle.gif.specs.GifAnswer.{Taken}
 use Rattle.gif.specs.declared.QuadwordsResult.{QuadwordsResult}
 use Rattle.gif.specs.Step.{gif_step}
 use Rattle.gif.specs.Feed.{Fed as GifFed, fed_by, feed_of as gifFeedOf}

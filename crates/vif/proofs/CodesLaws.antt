@@ -1,4 +1,6 @@
 -- Codes and their payload taken at once, none of them with its interrupt bit: what a word leads to, and words after words.
+use Rattle.std.specs.Prelude.{Option, Some as Given, Result, Ok, Err, IsSome}
+use Rattle.std.specs.Result.{is_err}
 use mathlib.Core.Path.{◌≡◌, refl, sym, ap, ◌∙◌}
 use mathlib.Core.Bool.{Bool, true, false, not}
 use mathlib.Core.List.{List}
@@ -23,22 +25,22 @@ use Rattle.memories.specs.Lengths.{Lent, lent}
 use Rattle.unpack_rules.specs.declared.Format.{Format}
 use Rattle.unpack_rules.specs.declared.Unpacking.{Unpacking}
 use Rattle.unpack_rules.specs.declared.Registers.{Registers}
-use Rattle.unpack_rules.specs.declared.Rows.{Rows}
 use Rattle.unpack_rules.specs.declared.WordsTaken.{WordsTaken}
 use Rattle.unpack_rules.specs.Write.{Written, written}
-use Rattle.unpack_rules.specs.Step.{Left as UnpackLeft, left as unpackLeft, holds, unpack_word, acceptable, take_of as unpackTakeOf}
-use Rattle.unpack_rules.specs.Whole.{take_words, held_after, words_from, WordsLeft, words_left, taken_by, words_acceptable, take_words_of}
-use Rattle.unpack_rules.proofs.StepLaws.{acceptable_fits, fits_cycle, fits_unpacking}
+use Rattle.unpack_rules.specs.Step.{left as unpackLeft, holds, unpack_word, acceptable, take_of as unpackTakeOf}
+use Rattle.unpack_rules.specs.Whole.{take_words, held_after, words_from, words_left, words_acceptable, take_words_of}
+use Rattle.unpack_rules.proofs.StepLaws.{acceptable_fits, fits_cycle, fits_unpacking, left_some}
 use Rattle.unpack_rules.proofs.LengthLaws.{word_length}
-use Rattle.unpack_rules.proofs.WordsLaws.{unpacking_on}
+use Rattle.unpack_rules.proofs.WordsLaws.{unpacking_on, words_some}
 use Rattle.vif_codes.specs.declared.Code.{Code}
 use Rattle.vif_codes.specs.declared.Code.TheVariants.{Nop, Stcycl, Offset, Base, Itop, Stmod, Mskpath3, Mark, Flushe, Flush, Flusha, Mscal, Mscalf, Mscnt, Stmask, Strow, Stcol, Mpg, Direct, Directhl, Unpack}
 use Rattle.vif_codes.specs.declared.CodeResult.{CodeResult}
-use Rattle.vif_codes.specs.declared.Decoded.{Decoded}
-use Rattle.vif_codes.specs.declared.Decoded.TheVariants.{Known, Unknown}
+use Rattle.vif_codes.specs.Decoded.{Decoded, Known, Unknown}
 use Rattle.vif_codes.specs.declared.Incoming.{Incoming}
-use Rattle.vif_codes.specs.declared.VifAnswer.{VifAnswer}
-use Rattle.vif_codes.specs.declared.VifAnswer.TheVariants.{Word, Quadword, Refused}
+use Rattle.fields.specs.declared.refusals.Refusal.{Refusal}
+use Rattle.vif_codes.specs.declared.Taken.{Taken}
+use Rattle.vif_codes.specs.declared.Taken.TheVariants.{Word as TakenWord, Quadword as TakenQuadword}
+use Rattle.vif_codes.specs.VifAnswer.{VifAnswer, Word, Quadword, Refused, vif_answer}
 use Rattle.vif_codes.specs.declared.Waiting.{Waiting}
 use Rattle.vif_codes.specs.declared.Waiting.TheVariants.{Nothing, MaskDue, RowDue, ColDue, MpgDue, DirectDue, DirecthlDue, UnpackDue}
 use Rattle.vif_codes.specs.declared.Vif.{Vif}
@@ -52,7 +54,7 @@ use Rattle.vif_codes.specs.Counting.{nop_in}
 use Rattle.vif_codes.proofs.CodeLaws.{listed_both}
 use Rattle.vif_codes.proofs.RangeLaws.{row_due, col_due, mpg_due, unpack_some}
 use Rattle.vif.specs.declared.WordsResult.{WordsResult}
-use Rattle.vif.specs.Step.{Left, leaves, code_step, mpg_refused, mpg_step, unpack_step, vif_step}
+use Rattle.vif.specs.Step.{Left, leaves, words_taken, code_step, mpg_refused, mpg_step, unpack_step, vif_step}
 use Rattle.vif.specs.Feeds.{Fed, fed, a_word}
 use Rattle.vif.specs.Inner.{UnpackReady, MpgReady, FedReady, Leads, fed_in, Going, Takes, words_with, Some, Ahead, WaitingFits, stored_words, StoreFits, taken_with}
 use Rattle.vif.proofs.ReadyLaws.{memory_accepted}
@@ -119,7 +121,7 @@ quiet_code which (Stcycl cl wl) v used mem log = taken_quietly
 quiet_code which (Offset x) v used mem log = taken_quietly
 quiet_code which (Base x) v used mem log = taken_quietly
 quiet_code which (Itop x) v used mem log = taken_quietly
-quiet_code which (Stmod m) v used mem log = if_ind (λ (r : CodeResult). Quiet r.answer) (eqb m 3) refused_quietly taken_quietly
+quiet_code which (Stmod m) v used mem log = if_ind (λ (r : CodeResult). Quiet (vif_answer r.answer)) (eqb m 3) refused_quietly taken_quietly
 quiet_code which (Mskpath3 b) v used mem log = taken_quietly
 quiet_code which (Mark x) v used mem log = taken_quietly
 quiet_code which Flushe v used mem log = taken_quietly
@@ -142,17 +144,31 @@ quiet_decoded : (which : VifUnit) (d : Decoded) (v : Vif) (used : ℕ) (mem log 
 quiet_decoded which (Known c) v used mem log = quiet_code which c v used mem log
 quiet_decoded which (Unknown n) v used mem log = refused_quietly
 
-quiet_word : {b : VifAnswer} {i : Bool} → Quiet b → b ≡ Word i → i ≡ false
-quiet_word {i = false} q e = refl
-quiet_word {i = true} taken_quietly e = absurd (let y : ◌≡◌ {A = ℕ} 0 1 = cc in omega arith)
-quiet_word {i = true} refused_quietly e = absurd (let y : ◌≡◌ {A = ℕ} 0 1 = cc in omega arith)
+-- what the program answers then
+quiet_ok : (b : Result Taken Refusal) → Quiet (vif_answer b) → is_err b ≡ false → vif_answer b ≡ Word false
+quiet_ok (Ok (TakenWord false)) q e = refl
+quiet_ok (Ok (TakenWord true)) q e = absurd (no_interrupt q refl)
+  where
+    no_interrupt : {b : VifAnswer} → Quiet b → b ≡ Word true → ⊥
+    no_interrupt taken_quietly y = cc
+    no_interrupt refused_quietly y = cc
+quiet_ok (Ok (TakenQuadword i c)) q e = absurd (no_quadword q refl)
+  where
+    no_quadword : {b : VifAnswer} → Quiet b → b ≡ Quadword i c → ⊥
+    no_quadword taken_quietly y = cc
+    no_quadword refused_quietly y = cc
+quiet_ok (Err x) q e = absurd cc
+
+untaken_err : (b : Result Taken Refusal) → is_err b ≡ true → words_taken (vif_answer b) ≡ 0
+untaken_err (Ok x) e = absurd cc
+untaken_err (Err x) e = refl
 
 -- what the program made of a code's word is the unit's step
 module _ (which : VifUnit) (main : List ℕ) (a : ℕ) (v : Vif) (p : Path) (used : ℕ) (mem code log : List ℕ) (h : v.waiting ≡ Nothing) (l : word_at main a < 2147483648)
-    {word : ℕ} (e : word ≡ word_at main a) {r : CodeResult} {mem' log' : List ℕ}
+    {word : ℕ} (e : word ≡ word_at main a) (r : CodeResult) {mem' log' : List ℕ}
     (q : result_with r mem' log' ≡ decoded_step which (decode_of which word) v (interrupt_of word) used mem log) where
   abbrev made : Left
-  made = leaves r.answer r.unit p r.used (lent mem' code log')
+  made = leaves (vif_answer r.answer) r.unit p r.used (lent mem' code log')
 
   made_is : made ≡ vif_step which v p (incoming_at main a) used (lent mem code log)
   unfolding vif_step code_step
@@ -160,7 +176,7 @@ module _ (which : VifUnit) (main : List ℕ) (a : ℕ) (v : Vif) (p : Path) (use
       by_waiting which h v p (incoming_at main a) used (lent mem code log)
       (rw (incoming_word main a, ← e) (ap (λ (x : Executed). leaves x.answer x.unit p x.used (lent x.mem code x.log)) q))
 
-  made_quiet : Quiet r.answer
+  made_quiet : Quiet (vif_answer r.answer)
   made_quiet =
       rw (ap (λ (x : Executed). x.answer) q, unmarked word (omega arith)) (quiet_decoded which (decode_of which word) v used mem log)
 
@@ -168,23 +184,17 @@ module _ (which : VifUnit) (main : List ℕ) (a : ℕ) (v : Vif) (p : Path) (use
   unfolding bits
   no_nop z = rw (h, incoming_word main a) (ne_eqb (word_at main a / 16777216 % 128) 0 (λ y. z (omega arith)))
 
-  pub code_leads : (word_at main a / 16777216 ≡ 0 → ⊥) → {i : Bool} → r.answer ≡ Word i
+  pub code_leads : (word_at main a / 16777216 ≡ 0 → ⊥) → is_err r.answer ≡ false
       → Leads which main a 1 (words_alone 1) (fed v p used (lent mem code log)) (fed r.unit p r.used (lent mem' code log'))
-  code_leads z {i} w =
-      let f : r.answer ≡ Word false = w ∙ ap Word (quiet_word made_quiet w) in
+  code_leads z w =
+      let f = quiet_ok r.answer made_quiet w in
       word_leads (sym made_is ∙ ap (λ (b : VifAnswer). leaves b r.unit p r.used (lent mem' code log')) f) (no_nop z)
 
-  pub code_refused_lem : FedReady which (fed v p used (lent mem code log)) → {n : ℕ} → r.answer ≡ Refused n → (mem' ≡ mem) × (log' ≡ log)
-  code_refused_lem g w =
-      let u = untaken which (fed v p used (lent mem code log)) g (incoming_at main a) made_is (rw w) in
+  -- one that is refused left the memories as they were
+  pub code_left : FedReady which (fed v p used (lent mem code log)) → is_err r.answer ≡ true → (mem' ≡ mem) × (log' ≡ log)
+  code_left g w =
+      let u = untaken which (fed v p used (lent mem code log)) g (incoming_at main a) made_is (untaken_err r.answer w) in
       (ap (λ (m : Lent). m.mem) u, ap (λ (m : Lent). m.log) u)
-
-  pub code_quadword : {i c : Bool} → r.answer ≡ Quadword i c → ⊥
-  code_quadword w = go made_quiet w
-    where
-      go : {b : VifAnswer} {i c : Bool} → Quiet b → b ≡ Quadword i c → ⊥
-      go taken_quietly y = let z : ◌≡◌ {A = ℕ} 0 1 = cc in omega arith
-      go refused_quietly y = let z : ◌≡◌ {A = ℕ} 0 1 = cc in omega arith
 
 -- ---- STMASK, STROW and STCOL
 
@@ -257,13 +267,52 @@ module _ (size : ℕ) (v : Vif) (f : Format) (u : Unpacking) (word : ℕ) (row m
       rw (← z, e, not_last u.due u.interrupt h, waits_still u.due (UnpackDue f (holds u word)) h)
 
 -- n words of main memory, not the last
-module _ (which : VifUnit) (size : ℕ) (z : size ≡ quadwords which) (v : Vif) (f : Format) (main : List ℕ) (p : Path) (used : ℕ) (code log : List ℕ) where
+module _ (size : ℕ) (v : Vif) (f : Format) (main : List ℕ) where
   abbrev words_written : Unpacking → List ℕ → List ℕ → ℕ → ℕ → Written
   words_written u row mem a n = take_words size f u (write_registers v) (words_from main a n) (written row mem)
 
+  abbrev words_result : Unpacking → List ℕ → List ℕ → ℕ → ℕ → WordsTaken
+  words_result u row mem a n = record { row = (words_written u row mem a n).row; rest = held_after u (words_from main a n) }
+
+  -- they leave it ready
+  words_ready : (n a : ℕ) (u : Unpacking) (row mem : List ℕ) → UnpackReady size v f u mem → n < u.due
+      → UnpackReady size v f (held_after u (words_from main a n)) (words_written u row mem a n).mem
+  unfolding words_from take_words held_after
+  words_ready zero a u row mem g h = g
+  words_ready (suc n) a u row mem g h =
+      let x = word_at main a in
+      let o = unpack_word size f u (write_registers v) x (written row mem) in
+      words_ready n (a + 4) (holds u x) o.row o.mem (unpack_ready size v f u x row mem g (omega arith) o.mem (word_length size f u (write_registers v) x (written row mem))) (omega arith)
+
+  -- what a call of take_words leaves
+  module _ {n a : ℕ} {u : Unpacking} {mem : List ℕ} {r : Registers} (s : Option WordsTaken) (m : List ℕ) (g : UnpackReady size v f u mem) (h : n < u.due) (l : a ≤ 1048576)
+      (er : r ≡ write_registers v) (es : words_left u v.row s m ≡ take_words_of size f u r main a n v.row mem) where
+    pub words_given : (s ≡ Given (words_result u v.row mem a n)) × (m ≡ (words_written u v.row mem a n).mem)
+    unfolding take_words_of words_acceptable if
+    words_given =
+        words_some size f (write_registers v) u (words_from main a n) (written v.row mem) v.row s
+        (rw (er, le-leb a 1048576 l, lt-ltb n u.due h, g.accepted) at es)
+
+    pub words_accepted : IsSome s
+    words_accepted = rw words_given.0
+
+    -- and a call of take_word after it
+    module _ {t : WordsTaken} (word : ℕ) (et : s ≡ Given t) (o : Option (List ℕ)) (m' : List ℕ)
+        (eo : unpackLeft t.row o m' ≡ unpackTakeOf size f t.rest r word t.row m) where
+      word_given : (o ≡ Given (unpack_word size f t.rest (write_registers v) word (written t.row m)).row) × (m' ≡ (unpack_word size f t.rest (write_registers v) word (written t.row m)).mem)
+      unfolding unpackTakeOf if
+      word_given =
+          let e : t ≡ words_result u v.row mem a n = cc (words_given.0) in
+          let ready : UnpackReady size v f t.rest m = rw (e, words_given.1) (words_ready n a u v.row mem g h) in
+          left_some t.row o (rw (er, ready.accepted) at eo)
+
+      pub word_accepted : IsSome o
+      word_accepted = rw word_given.0
+
+module _ (which : VifUnit) (size : ℕ) (z : size ≡ quadwords which) (v : Vif) (f : Format) (main : List ℕ) (p : Path) (used : ℕ) (code log : List ℕ) where
   words_lead : (n a : ℕ) (u : Unpacking) (row mem : List ℕ) → UnpackReady size v f u mem → n < u.due
       → Leads which main a n (words_alone n) (fed (unpacking v f row u) p used (lent mem code log))
-      (fed (unpacking v f (words_written u row mem a n).row (held_after u (words_from main a n))) p used (lent (words_written u row mem a n).mem code log))
+      (fed (unpacking v f (words_written size v f main u row mem a n).row (held_after u (words_from main a n))) p used (lent (words_written size v f main u row mem a n).mem code log))
   unfolding words_from take_words held_after
   words_lead zero a u row mem g h = leads_none
   words_lead (suc n) a u row mem g h =
@@ -275,32 +324,6 @@ module _ (which : VifUnit) (size : ℕ) (z : size ≡ quadwords which) (v : Vif)
       (rw one_quiet at (leads_one (sym (unpack_step_lem size v f u x row mem g d which z p used code log (incoming_at main a) (incoming_word main a))) refl (λ q. omega arith) refl))
       (words_lead n (a + 4) (holds u x) o.row o.mem (unpack_ready size v f u x row mem g d o.mem (word_length size f u (write_registers v) x (written row mem))) (omega arith)))
 
-  -- what a call of take_words leaves
-  words_given : {n a : ℕ} {u : Unpacking} {mem m : List ℕ} {r : Registers} {s : WordsTaken} → UnpackReady size v f u mem → n < u.due → a ≤ 1048576
-      → r ≡ write_registers v → words_left s m ≡ take_words_of size f u r main a n v.row mem
-      → words_left s m ≡ taken_by size f u (write_registers v) (words_from main a n) (written v.row mem)
-  unfolding take_words_of words_acceptable if
-  words_given {n} {a} {u} g h l er es = rw (er, le-leb a 1048576 l, lt-ltb n u.due h, g.accepted) at es
-
-  pub unpack_leads : {n a : ℕ} {u : Unpacking} {mem m : List ℕ} {r : Registers} {s : WordsTaken} → v.waiting ≡ UnpackDue f u → UnpackReady size v f u mem → n < u.due
-      → a ≤ 1048576 → r ≡ write_registers v → words_left s m ≡ take_words_of size f u r main a n v.row mem
-      → Leads which main a n (words_alone n) (fed v p used (lent mem code log)) (fed (unpacking v f s.row s.rest) p used (lent m code log))
-  unfolding taken_by
-  unpack_leads {n} {a} {u} {mem} q g h l er es =
-      let e = words_given g h l er es in
-      rw (ap (λ (o : WordsLeft). o.row) e, ap (λ (o : WordsLeft). o.mem) e, ap (λ (o : WordsLeft). o.rest) e)
-      (rw (← ap (λ (w : Waiting). fed (with_waiting v w) p used (lent mem code log)) q) at (words_lead n a u v.row mem g h))
-
-  -- the words before the last leave it ready
-  words_ready : (n a : ℕ) (u : Unpacking) (row mem : List ℕ) → UnpackReady size v f u mem → n < u.due
-      → UnpackReady size v f (held_after u (words_from main a n)) (words_written u row mem a n).mem
-  unfolding words_from take_words held_after
-  words_ready zero a u row mem g h = g
-  words_ready (suc n) a u row mem g h =
-      let x = word_at main a in
-      let o = unpack_word size f u (write_registers v) x (written row mem) in
-      words_ready n (a + 4) (holds u x) o.row o.mem (unpack_ready size v f u x row mem g (omega arith) o.mem (word_length size f u (write_registers v) x (written row mem))) (omega arith)
-
   -- the last word
   unpack_last : (u : Unpacking) (word : ℕ) (row mem : List ℕ) → u.due ≡ 1 → u.interrupt ≡ false → (next : Incoming) → word_in next ≡ word
       → vif_step which (unpacking v f row u) p next used (lent mem code log)
@@ -310,25 +333,31 @@ module _ (which : VifUnit) (size : ℕ) (z : size ≡ quadwords which) (v : Vif)
   unpack_last u word row mem d i next e =
       rw (← z, e, ends_quiet u.due u.interrupt i, ends_nothing u.due (UnpackDue f (holds u word)) d)
 
-  pub unpack_all : (n : ℕ) {a word : ℕ} {u : Unpacking} {mem m m' : List ℕ} {r : Registers} {s : WordsTaken} {t : Rows} → v.waiting ≡ UnpackDue f u
-      → UnpackReady size v f u mem → u.interrupt ≡ false → n + 1 ≡ u.due → a ≤ 1048576 → r ≡ write_registers v
-      → words_left s m ≡ take_words_of size f u r main a n v.row mem → word ≡ word_at main (a + 4 * n)
-      → unpackLeft t m' ≡ unpackTakeOf size f s.rest r word s.row m
-      → Leads which main a u.due (words_alone u.due) (fed v p used (lent mem code log)) (fed (with_waiting (with_row v t.row) Nothing) p used (lent m' code log))
-  unfolding taken_by unpackTakeOf if
-  unpack_all n {a} {word} {u} {mem} {m} {m'} {r} {s} {t} q g i d l er es ew et =
-      let h : n < u.due = omega arith in
-      let e = words_given g h l er es in
-      let held = ap (λ (o : WordsLeft). o.rest) e in
-      let left = held_on main n a u (omega arith) in
-      let ld = left.0 in
-      let ready : UnpackReady size v f s.rest m = rw (held, ap (λ (o : WordsLeft). o.mem) e) (words_ready n a u v.row mem g h) in
-      let one : s.rest.due ≡ 1 = rw held (omega arith) in
-      let quiet : s.rest.interrupt ≡ false = rw held (left.1 ∙ i) in
-      let wrote = rw (er, ready.accepted) at et in
-      rw (← d, ap (λ (o : UnpackLeft). o.row) wrote, ap (λ (o : UnpackLeft). o.mem) wrote)
-      (leads_then (unpack_leads {s = s} q g h l er es)
-      (word_leads (unpack_last s.rest word s.row m one quiet (incoming_at main (a + 4 * n)) (incoming_word main (a + 4 * n) ∙ sym ew)) refl))
+  module _ {n a : ℕ} {u : Unpacking} {mem : List ℕ} {r : Registers} (s : Option WordsTaken) (m : List ℕ) (g : UnpackReady size v f u mem) (h : n < u.due) (l : a ≤ 1048576)
+      (er : r ≡ write_registers v) (es : words_left u v.row s m ≡ take_words_of size f u r main a n v.row mem) (q : v.waiting ≡ UnpackDue f u) {t : WordsTaken}
+      (et : s ≡ Given t) where
+    pub unpack_leads : Leads which main a n (words_alone n) (fed v p used (lent mem code log)) (fed (unpacking v f t.row t.rest) p used (lent m code log))
+    unpack_leads =
+        let w = words_given size v f main s m g h l er es in
+        let e : t ≡ words_result size v f main u v.row mem a n = cc (w.0) in
+        rw (e, w.1)
+        (rw (← ap (λ (w : Waiting). fed (with_waiting v w) p used (lent mem code log)) q) at (words_lead n a u v.row mem g h))
+
+    pub unpack_all : (i : u.interrupt ≡ false) → n + 1 ≡ u.due → {word : ℕ} → word ≡ word_at main (a + 4 * n) → (o : Option (List ℕ)) {m' : List ℕ}
+        → unpackLeft t.row o m' ≡ unpackTakeOf size f t.rest r word t.row m → {row : List ℕ} → o ≡ Given row
+        → Leads which main a u.due (words_alone u.due) (fed v p used (lent mem code log)) (fed (with_waiting (with_row v row) Nothing) p used (lent m' code log))
+    unpack_all i d {word} ew o {m'} eo {row} en =
+        let w = words_given size v f main s m g h l er es in
+        let e : t ≡ words_result size v f main u v.row mem a n = cc (w.0) in
+        let held = held_on main n a u (omega arith) in
+        let ld = held.0 in
+        let one : t.rest.due ≡ 1 = rw e (omega arith) in
+        let quiet : t.rest.interrupt ≡ false = rw e (held.1 ∙ i) in
+        let x = word_given size v f main s m g h l er es word et o m' eo in
+        let f : row ≡ (unpack_word size f t.rest (write_registers v) word (written t.row m)).row = cc (x.0) in
+        rw (← d, f, x.1)
+        (leads_then unpack_leads
+        (word_leads (unpack_last t.rest word t.row m one quiet (incoming_at main (a + 4 * n)) (incoming_word main (a + 4 * n) ∙ sym ew)) refl))
 
 -- ---- MPG
 
@@ -448,12 +477,6 @@ codes_taken {which} {main} {limit} {a} {count} {k} {n} {nops} {used} {s} {t} {m}
     })
 
 -- ---- by the case of what waits
-
-pub fits_by : {w k : Waiting} → w ≡ k → WaitingFits w → WaitingFits k
-fits_by q h = rw (← q) h
-
-pub ahead_by : (main : List ℕ) (a r : ℕ) {w k : Waiting} → w ≡ k → Ahead k main a r → Ahead w main a r
-ahead_by main a r q h = rw q h
 
 pub ahead_is : (main : List ℕ) (a r : ℕ) {w k : Waiting} → w ≡ k → Ahead w main a r → Ahead k main a r
 ahead_is main a r q h = rw (← q) h

@@ -1,4 +1,9 @@
 -- Words given one after another: one turn, and what the tests say.
+use Rattle.std.specs.Prelude.{Result, Ok, Err}
+use Rattle.std.specs.Result.{is_ok}
+use Rattle.fields.specs.declared.refusals.Refusal.{Refusal}
+use Rattle.fields.specs.Refusals.{refusal_in}
+use Rattle.fields.proofs.RefusalLaws.{refusal_not_none}
 use mathlib.Core.Path.{◌≡◌, refl, sym, ap, ◌∙◌}
 use mathlib.Core.Bool.{Bool, true, false}
 use mathlib.Core.List.{List}
@@ -23,8 +28,7 @@ use Rattle.memories.proofs.LengthLaws.{lengths_fit}
 use Rattle.vif_codes.specs.declared.Incoming.{Incoming}
 use Rattle.vif_codes.specs.declared.Waiting.{Waiting}
 use Rattle.vif_codes.specs.declared.Vif.{Vif}
-use Rattle.vif_codes.specs.declared.VifAnswer.{VifAnswer}
-use Rattle.vif_codes.specs.declared.VifAnswer.TheVariants.{Word, Quadword, Refused}
+use Rattle.vif_codes.specs.VifAnswer.{VifAnswer, Word, Quadword, Refused}
 use Rattle.vif_codes.specs.Range.{unit_in_range}
 use Rattle.vif_codes.specs.Words.{incoming_at, word_in}
 use Rattle.vif_codes.specs.Counting.{nop_in, counts_in}
@@ -296,6 +300,11 @@ words_few main a count h = inside_most main a (4 * count) (and_left _ _ h)
 pub words_lie : (main : List ℕ) (a count : ℕ) → words_inside main a count ≡ true → a + 4 * count ≤ length main
 unfolding words_inside inside
 words_lie main a count h = leb-true (a + 4 * count) (length main) (and_right (leb (length main) 1048576) _ (and_left _ _ h))
+
+-- the lengths' test, and its number
+pub lengths_ok : (r : Result (Unit {0}) Refusal) {n : ℕ} → refusal_in r ≡ n → eqb n 0 ≡ is_ok r
+lengths_ok (Ok x) e = rw (← e)
+lengths_ok (Err x) e = rw (← e) (refusal_not_none x)
 
 pub takes_ready : (which : VifUnit) (x : Fed) → takes_steps which x ≡ true → FedReady which x
 unfolding takes_steps

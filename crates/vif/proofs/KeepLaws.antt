@@ -12,8 +12,7 @@ use Rattle.fields.specs.Refusals.{direct_unaligned, mpg_unaligned}
 use Rattle.fields.proofs.ChoiceLaws.{if_ind, or_left, or_right}
 use Rattle.gif.specs.declared.GifPath.TheVariants.{Two}
 use Rattle.gif.specs.declared.Path.{Path}
-use Rattle.gif.specs.declared.GifAnswer.{GifAnswer}
-use Rattle.gif.specs.declared.GifAnswer.TheVariants.{Taken, Refused as GifRefused}
+use Rattle.gif.specs.GifAnswer.{GifAnswer, Taken, Refused as GifRefused}
 use Rattle.gif.specs.Log.{log_most, entry_size, log_refused}
 use Rattle.gif.specs.Step.{Left as GifLeft}
 use Rattle.gif.proofs.LogLaws.{logged_length}
@@ -25,7 +24,7 @@ use Rattle.unpack_rules.specs.Write.{written}
 use Rattle.unpack_rules.proofs.LengthLaws.{word_length}
 use Rattle.vif_codes.specs.declared.Incoming.{Incoming}
 use Rattle.vif_codes.specs.declared.Incoming.TheVariants.{Word0, Word1, Word2, Word3}
-use Rattle.vif_codes.specs.declared.VifAnswer.TheVariants.{Word, Quadword, Refused}
+use Rattle.vif_codes.specs.VifAnswer.{Word, Quadword, Refused}
 use Rattle.vif_codes.specs.declared.Waiting.{Waiting}
 use Rattle.vif_codes.specs.declared.Waiting.TheVariants.{Nothing, MaskDue, RowDue, ColDue, MpgDue, DirectDue, DirecthlDue, UnpackDue}
 use Rattle.vif_codes.specs.declared.Vif.{Vif}

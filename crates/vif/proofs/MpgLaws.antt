@@ -6,16 +6,19 @@ use Prim.Native.Nat.{ℕ, zero, suc, ◌+◌, ◌*◌, ◌-◌, ◌/◌, ◌%◌
 use native.Mathlib.Nat.{mod-lt, mod-add-mod, mod-eq_of_lt}
 use native.Mathlib.Omega.{arith}
 use borrow.Author.Tests.{le-leb, lt-ltb}
+use Rattle.std.proofs.Common.{take, drop, append_assoc, drop-drop, drop-cons, length-drop, w32}
+use Rattle.std.proofs.lemmas.List.{length-take-le}
+use Rattle.std.specs.Int.{to_le_bytes}
+use borrow.Rule.Slice.PartMut.{put_mid}
 use lib.ListN.{set, get_or, length}
-use lib.Seq.{sets, get_or-set_other}
+use lib.Seq.{sets, sets-eq, get_or-set_other}
 use lib.Dec.{leb, ltb}
 use Rattle.fields.specs.Fields.{quadword}
 use Rattle.fields.specs.Memory.{word_at}
 use Rattle.fields.proofs.ChoiceLaws.{if_ind}
 use Rattle.gif.specs.declared.GifPath.TheVariants.{Two}
 use Rattle.gif.specs.declared.Path.{Path}
-use Rattle.gif.specs.declared.GifAnswer.{GifAnswer}
-use Rattle.gif.specs.declared.GifAnswer.TheVariants.{Taken, Refused as GifRefused}
+use Rattle.gif.specs.GifAnswer.{GifAnswer, Taken, Refused as GifRefused}
 use Rattle.gif.specs.Step.{Left as GifLeft, gif_step}
 use Rattle.memories.specs.declared.VifUnit.{VifUnit}
 use Rattle.memories.specs.Units.{instructions}
@@ -30,15 +33,38 @@ use Rattle.vif_codes.specs.Words.{word_in}
 use Rattle.vif.specs.Inner.{stored_words, copy_bytes}
 use Rattle.vif.specs.Step.{Left, after_gif, give_quadword, direct_step, mpg_refused, mpg_step, unpack_step, code_step, step_by, vif_step}
 
--- a word is four stores
-pub four_stores : (code : List ℕ) (at word : ℕ)
-    → set (set (set (set code at (word % 256)) (at + 1) (word / 256 % 256)) (at + 2) (word / 65536 % 256)) (at + 3) (word / 16777216)
-    ≡ sets code at (bytes_of word)
-four_stores code at word =
-    let a : at + 1 ≡ suc at = omega arith in
-    let b : at + 2 ≡ suc (suc at) = omega arith in
-    let c : at + 3 ≡ suc (suc (suc at)) = omega arith in
-    rw (a, b, c)
+-- ---- parts of code memory
+
+-- what is stored as a part is stored one after another
+part_stored : (code vs : List ℕ) (at k : ℕ) {ys : List ℕ} → at + k ≤ length code → k ≡ length vs → ys ≡ vs → put_mid at k code ys ≡ sets code at vs
+part_stored code vs at k h q r =
+    rw (r, q, drop-drop (length vs) at code)
+    (sym (sets-eq vs code at (omega arith) ∙ rw (append_assoc (take at code) vs)))
+
+-- a word's bytes
+word_digits : (word : ℕ) → word < 2 ^ 32 → to_le_bytes w32 word ≡ bytes_of word
+word_digits word h = let e : word / 16777216 % 256 ≡ word / 16777216 = mod-eq_of_lt (omega arith) in rw e
+
+pub word_stored : (code : List ℕ) (at k word : ℕ) {ys : List ℕ} → word < 2 ^ 32 → at + k ≤ length code → k ≡ 4 → ys ≡ to_le_bytes w32 word
+    → put_mid at k code ys ≡ sets code at (bytes_of word)
+word_stored code at k word b h q e = part_stored code (bytes_of word) at k h q (e ∙ word_digits word b)
+
+copied_sets : (main : List ℕ) (n a to : ℕ) (code : List ℕ) → a + n ≤ length main → copy_bytes main n a to code ≡ sets code to (take n (drop a main))
+unfolding copy_bytes
+copied_sets main zero a to code h = refl
+copied_sets main (suc n) a to code h =
+    let l : a < length main = omega arith in
+    let e : a + 1 ≡ suc a = omega arith in
+    let f : to + 1 ≡ suc to = omega arith in
+    rw (drop-cons main a 0, e, f) (copied_sets main n (suc a) (suc to) (set code to (get_or main a 0)) (omega arith))
+
+-- so are bytes of main memory
+pub part_copied : (main : List ℕ) (n a to j k : ℕ) (code : List ℕ) {ys : List ℕ} → a + n ≤ length main → to + n ≤ length code → j ≡ n → k ≡ n
+    → ys ≡ take j (drop a main) → put_mid to k code ys ≡ copy_bytes main n a to code
+part_copied main n a to j k code h l p q e =
+    let m : n ≤ length (drop a main) = simp length-drop (omega arith) in
+    let d : length (take n (drop a main)) ≡ n = length-take-le n (drop a main) m in
+    part_stored code (take n (drop a main)) to k (omega arith) (q ∙ sym d) (rw (← p) e) ∙ sym (copied_sets main n a to code h)
 
 -- a word's place lies inside, once over the memory's size
 pub place_inside : (size a k : ℕ) → 1 ≤ size → word_place size a k + 4 ≤ 8 * size
@@ -46,27 +72,6 @@ unfolding word_place
 place_inside size a k h = let m = mod-lt (a + k / 2) h in omega arith
 
 -- ---- words one after another
-
-module _ (main : List ℕ) where
-  pub copied_more : (n j a to : ℕ) (code : List ℕ) {x : ℕ} → j < n → x ≡ get_or main (a + j) 0
-      → copy_bytes main (n - (j + 1)) (a + (j + 1)) (to + (j + 1)) (set code (to + j) x) ≡ copy_bytes main (n - j) (a + j) (to + j) code
-  unfolding copy_bytes
-  copied_more n j a to code h e =
-      let k : n - j ≡ suc (n - (j + 1)) = omega arith in
-      let b : a + (j + 1) ≡ a + j + 1 = omega arith in
-      let t : to + (j + 1) ≡ to + j + 1 = omega arith in
-      rw (k, b, t, e)
-
-  pub copied_none : (n j a to : ℕ) (code : List ℕ) → n ≤ j → copy_bytes main (n - j) a to code ≡ code
-  unfolding copy_bytes
-  copied_none n j a to code h = let k : n - j ≡ 0 = omega arith in rw k
-
-  pub copied_first : (n a to : ℕ) (code : List ℕ) → copy_bytes main (n - 0) (a + 0) (to + 0) code ≡ copy_bytes main n a to code
-  copied_first n a to code =
-      let k : n - 0 ≡ n = omega arith in
-      let b : a + 0 ≡ a = omega arith in
-      let t : to + 0 ≡ to = omega arith in
-      rw (k, b, t)
 
 -- a word's place is a multiple of four
 pub place_word : (size a k : ℕ) → word_place size a k % 4 ≡ 0

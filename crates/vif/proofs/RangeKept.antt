@@ -9,8 +9,7 @@ use Rattle.fields.specs.Fields.{quadword}
 use Rattle.fields.proofs.ChoiceLaws.{and_left, and_right, if_ind, if_ind_by}
 use Rattle.gif.specs.declared.GifPath.TheVariants.{Two}
 use Rattle.gif.specs.declared.Path.{Path}
-use Rattle.gif.specs.declared.GifAnswer.{GifAnswer}
-use Rattle.gif.specs.declared.GifAnswer.TheVariants.{Taken, Refused as GifRefused}
+use Rattle.gif.specs.GifAnswer.{GifAnswer, Taken, Refused as GifRefused}
 use Rattle.gif.specs.Range.{path_in_range}
 use Rattle.gif.specs.Step.{Left as GifLeft, gif_step}
 use Rattle.gif.proofs.RangeLaws.{log_fits}

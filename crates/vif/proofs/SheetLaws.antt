@@ -1,4 +1,5 @@
 -- What the records of a test sheet do to the unit, over their sizes.
+use Rattle.std.specs.Prelude.{None}
 use mathlib.Core.Path.{◌≡◌, refl, sym, ap, ◌∙◌}
 use mathlib.Core.Logic.{inl}
 use mathlib.Core.Bool.{Bool, true, false}
@@ -15,7 +16,6 @@ use Rattle.fields.specs.Fields.{if, bits, quadword}
 use Rattle.fields.proofs.ChoiceLaws.{and_later}
 use Rattle.gif.specs.declared.GifPath.TheVariants.{Two}
 use Rattle.gif.specs.declared.Path.{Path}
-use Rattle.gif.specs.declared.Place.TheVariants.{Idle}
 use Rattle.gif.specs.Log.{entry_size, start_entry, entries_by, logged, lacks_room}
 use Rattle.gif.specs.Tag.{path_of, tag_q}
 use Rattle.gif.specs.Step.{gif_step}
@@ -38,11 +38,10 @@ use Rattle.unpack_rules.proofs.VectorLaws.{Words}
 use Rattle.unpack_rules.proofs.WholeLaws.{v4_payload}
 use Rattle.vif_codes.specs.declared.Code.TheVariants.{Nop, Stcycl, Stmod, Mscal, Mpg, Direct, Unpack}
 use Rattle.vif_codes.specs.declared.UnpackCode.{UnpackCode}
-use Rattle.vif_codes.specs.declared.Decoded.TheVariants.{Known}
+use Rattle.vif_codes.specs.Decoded.{Known}
 use Rattle.vif_codes.specs.declared.Incoming.{Incoming}
 use Rattle.vif_codes.specs.declared.Incoming.TheVariants.{Word0}
-use Rattle.vif_codes.specs.declared.VifAnswer.{VifAnswer}
-use Rattle.vif_codes.specs.declared.VifAnswer.TheVariants.{Word, Quadword}
+use Rattle.vif_codes.specs.VifAnswer.{VifAnswer, Word, Quadword}
 use Rattle.vif_codes.specs.declared.Waiting.{Waiting}
 use Rattle.vif_codes.specs.declared.Waiting.TheVariants.{Nothing, MpgDue, DirectDue}
 use Rattle.vif_codes.specs.declared.Vif.{Vif}
@@ -428,7 +427,7 @@ module _ (which : VifUnit) (v : Vif) (mem code : List ℕ) where
   direct_feeds : (n : ℕ) → 0 < n → n < 32768 → (q used : ℕ) (log : List ℕ) {ns : List Incoming} {xs : List ℕ} → QuadwordsIn ns xs
       → entry_size * (used + length xs) ≤ length log
       → Feeds which a_quadword (fed (with_waiting v (direct_waits (length xs))) (path_of q (sheet_place n (length xs))) used (lent mem code log)) ns
-      (fed (with_waiting v Nothing) (path_of q Idle) (used + length xs) (lent mem code (logged log used (entries_by Two (address_datas xs)))))
+      (fed (with_waiting v Nothing) (path_of q None) (used + length xs) (lent mem code (logged log used (entries_by Two (address_datas xs)))))
   unfolding logged
   direct_feeds n some few q used log no_quadword h = rw add-zero none
   direct_feeds n some few q used log (one_quadword_lem {a} {b} {c} {d} {x} {ns} {xs} e r) h =
@@ -448,9 +447,9 @@ feeds_direct which x v p used m n ns h few w =
 -- a GIF tag and n A+D quadwords after them write n log entries, and path 2 is idle again
 pub feeds_entries : (which : VifUnit) (v : Vif) (q used : ℕ) (m : Lent) (n : ℕ) (quads : List ℕ) (ms : List Incoming) → v.waiting ≡ Nothing → length quads ≡ n → 1 ≤ n
     → n ≤ 255 → entry_size * (used + n) ≤ length m.log → QuadwordsIn ms (sheet_tag n ∷ quads)
-    → Feeds which a_quadword (fed (with_waiting v (direct_waits (suc n))) (path_of q Idle) used m) ms
-    (fed v (path_of tag_q Idle) (used + n) (lent m.mem m.code (logged m.log used (entries_by Two (address_datas quads)))))
+    → Feeds which a_quadword (fed (with_waiting v (direct_waits (suc n))) (path_of q None) used m) ms
+    (fed v (path_of tag_q None) (used + n) (lent m.mem m.code (logged m.log used (entries_by Two (address_datas quads)))))
 feeds_entries which v q used m n quads ms h e some few room (one_quadword_lem {a} {b} {c} {d} t r) =
-    more {z = fed v (path_of tag_q Idle) (used + n) (lent m.mem m.code (logged m.log used (entries_by Two (address_datas quads))))} false
+    more {z = fed v (path_of tag_q None) (used + n) (lent m.mem m.code (logged m.log used (entries_by Two (address_datas quads))))} false
     (direct_quadword which v m.mem m.code false n _ _ used used a b c d _ m.log _ t (sheet_tag_lem Two n some (omega arith) q used m.log (omega arith)))
     (feeds_as (rw e at (direct_feeds which v m.mem m.code n some (omega arith) tag_q used m.log r (rw e room))) (rw (idle_same v h)))

@@ -28,9 +28,9 @@ use Rattle.unpack_rules.proofs.VectorLaws.{Words, none as no_word, more as word_
 use Rattle.unpack_rules.proofs.WholeLaws.{payload_theorem, payload_due, take_join, unfed_theorem}
 use Rattle.vif_codes.specs.declared.Code.TheVariants.{Unpack}
 use Rattle.vif_codes.specs.declared.UnpackCode.{UnpackCode}
-use Rattle.vif_codes.specs.declared.Decoded.TheVariants.{Known}
+use Rattle.vif_codes.specs.Decoded.{Known}
 use Rattle.vif_codes.specs.declared.Incoming.{Incoming}
-use Rattle.vif_codes.specs.declared.VifAnswer.TheVariants.{Word}
+use Rattle.vif_codes.specs.VifAnswer.{Word}
 use Rattle.vif_codes.specs.declared.Waiting.{Waiting}
 use Rattle.vif_codes.specs.declared.Waiting.TheVariants.{Nothing, UnpackDue}
 use Rattle.vif_codes.specs.declared.Vif.{Vif}

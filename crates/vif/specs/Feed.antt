@@ -8,8 +8,7 @@ use Rattle.gif.specs.Range.{path_in_range}
 use Rattle.memories.specs.declared.VifUnit.{VifUnit}
 use Rattle.memories.specs.Lengths.{Lent, lengths_refusal}
 use Rattle.vif_codes.specs.declared.Incoming.{Incoming}
-use Rattle.vif_codes.specs.declared.VifAnswer.{VifAnswer}
-use Rattle.vif_codes.specs.declared.VifAnswer.TheVariants.{Word, Quadword, Refused}
+use Rattle.vif_codes.specs.VifAnswer.{VifAnswer, Word, Quadword, Refused}
 use Rattle.vif_codes.specs.Range.{unit_in_range}
 use Rattle.vif_codes.specs.Words.{incoming_at}
 use Rattle.vif_codes.specs.Counting.{counts_in}

@@ -12,8 +12,7 @@ use Rattle.unpack_rules.specs.Write.{Written, written}
 use Rattle.unpack_rules.specs.Whole.{unpacked_by}
 use Rattle.vif_codes.specs.declared.Incoming.{Incoming}
 use Rattle.vif_codes.specs.declared.Incoming.TheVariants.{Word0}
-use Rattle.vif_codes.specs.declared.VifAnswer.{VifAnswer}
-use Rattle.vif_codes.specs.declared.VifAnswer.TheVariants.{Word, Quadword}
+use Rattle.vif_codes.specs.VifAnswer.{VifAnswer, Word, Quadword}
 use Rattle.vif_codes.specs.declared.UnpackCode.{UnpackCode}
 use Rattle.vif_codes.specs.declared.Waiting.{Waiting}
 use Rattle.vif_codes.specs.declared.Waiting.TheVariants.{Nothing, UnpackDue}

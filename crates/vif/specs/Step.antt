@@ -1,11 +1,11 @@
 -- One word taken by a VIF unit, or one quadword inside DIRECT: a step of document 01.
-use Rattle.std.specs.Prelude.{ℕ, ◌+◌, ◌*◌, ◌-◌, ◌^◌, Bool, not, ◌&&◌, eqb}
+use Rattle.std.specs.Prelude.{ℕ, ◌+◌, ◌*◌, ◌-◌, ◌^◌, Bool, not, ◌&&◌, eqb, Result}
 use Rattle.fields.specs.Fields.{if, quadword}
+use Rattle.fields.specs.declared.refusals.Refusal.{Refusal}
 use Rattle.fields.specs.Refusals.{out_of_range, direct_unaligned, mpg_unaligned}
 use Rattle.gif.specs.declared.GifPath.TheVariants.{Two}
 use Rattle.gif.specs.declared.Path.{Path}
-use Rattle.gif.specs.declared.GifAnswer.{GifAnswer}
-use Rattle.gif.specs.declared.GifAnswer.TheVariants.{Taken, Refused as GifRefused}
+use Rattle.gif.specs.GifAnswer.{GifAnswer, Taken, Refused as GifRefused}
 use Rattle.gif.specs.Range.{path_in_range}
 use Rattle.gif.specs.Step.{Left as GifLeft, gif_step}
 use Rattle.memories.specs.declared.VifUnit.{VifUnit}
@@ -16,8 +16,8 @@ use Rattle.unpack_rules.specs.declared.Unpacking.{Unpacking}
 use Rattle.unpack_rules.specs.Write.{Written}
 use Rattle.vif_codes.specs.declared.Incoming.{Incoming}
 use Rattle.vif_codes.specs.declared.Incoming.TheVariants.{Word0, Word1, Word2, Word3}
-use Rattle.vif_codes.specs.declared.VifAnswer.{VifAnswer}
-use Rattle.vif_codes.specs.declared.VifAnswer.TheVariants.{Word, Quadword, Refused}
+use Rattle.vif_codes.specs.VifAnswer.{VifAnswer, Word, Quadword, Refused, vif_answer}
+use Rattle.vif_codes.specs.declared.Taken.{Taken as TakenT}
 use Rattle.vif_codes.specs.declared.Waiting.{Waiting}
 use Rattle.vif_codes.specs.declared.Waiting.TheVariants.{Nothing, MaskDue, RowDue, ColDue, MpgDue, DirectDue, DirecthlDue, UnpackDue}
 use Rattle.vif_codes.specs.declared.Vif.{Vif}
@@ -45,9 +45,9 @@ pub record Left : Type 0 where
   pub memories : Lent
 
 abbrev pub left : VifResult → Lent → Left
-left r m = record { answer = r.answer; number = number_of r.answer; unit = r.unit; path2 = r.path2; used = r.used; memories = m }
+left r m = record { answer = vif_answer r.answer; number = number_of (vif_answer r.answer); unit = r.unit; path2 = r.path2; used = r.used; memories = m }
 
-abbrev pub answers : VifAnswer → Vif → Path → ℕ → VifResult
+abbrev pub answers : Result TakenT Refusal → Vif → Path → ℕ → VifResult
 answers a v p used = record { answer = a; unit = v; path2 = p; used = used }
 
 abbrev pub leaves : VifAnswer → Vif → Path → ℕ → Lent → Left

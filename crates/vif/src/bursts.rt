@@ -9,49 +9,17 @@ ghost use Rattle.vif_codes.specs.Range.{unit_in_range};
 ghost use Rattle.vif.specs.Inner.{Quadwords, Going, Bursts, taken_with};
 
 use super::WordsResult;
-use super::step::{direct_rest, directhl_rest};
-use fields::{UnitCounts, plus_units, quadwords_alone};
-use gif::{GifPath, Path, QuadwordsResult};
+use fields::{plus_units, quadwords_alone};
+use gif::{GifPath, QuadwordsResult};
 use memories::VifUnit;
-use vif_codes::{Vif, Waiting, with_waiting};
-
-pub(crate) fn taken(
-    unit: Vif,
-    path2: Path,
-    used: u64,
-    words: u32,
-    counts: UnitCounts,
-    interrupt: bool,
-) -> WordsResult
-    ensures { result ≡ taken_with unit path2 used words counts interrupt }
-{
-    WordsResult {
-        unit,
-        path2,
-        used,
-        words,
-        counts,
-        interrupt,
-    }
-}
-
-fn fewer(due: u32, words: u32) -> u32
-    requires { (1 ≤ due) × (1 ≤ words) }
-    ensures { (result < due) × (result < words) }
-{
-    if due < words { due - 1 } else { words - 1 }
-}
+use vif_codes::Waiting;
 
 // How many units of payload are taken at once, where so many are due and so many words and steps are left.
 fn at_once(due: u32, words: u32, steps: u64) -> u32
     requires { (1 ≤ due) × (1 ≤ words) × (1 ≤ steps) }
     ensures { (result < due) × (result < words) × (result < steps) }
 {
-    let n = fewer(due, words);
-    if (n as u64) < steps {
-        return n;
-    }
-    (steps - 1) as u32
+    (due.min(words) as u64).min(steps) as u32 - 1
 }
 
 fn quadwords_at_once(due: u32, a: u32, words: u32, steps: u64) -> u32
@@ -78,10 +46,9 @@ fn quadwords(
     ensures { Quadwords main.now (a + 4 * s.words) due (count - s.words) (limit - s.counts.steps)
         s.path2 s.used log.old result log.new }
 {
-    let path2 = s.path2;
     let at = a + 4 * s.words;
     let n = quadwords_at_once(due, at, count - s.words, limit - s.counts.steps);
-    gif::take_quadwords(GifPath::Two, path2, main, at, n, log, s.used)
+    gif::take_quadwords(GifPath::Two, s.path2, main, at, n, log, s.used)
 }
 
 // The result of s with quadwords after it; `rest` is what waits then.
@@ -90,10 +57,14 @@ fn with_quadwords(s: WordsResult, r: QuadwordsResult, rest: Waiting) -> WordsRes
     ensures { result
         ≡ taken_with (with_waiting s.unit rest) r.path r.used (s.words + 4 * r.taken) (plus_units s.counts (quadwords_alone r.taken r.packets)) s.interrupt }
 {
-    let unit = with_waiting(s.unit, rest);
-    let words = s.words + 4 * r.taken;
-    let counts = plus_units(s.counts, quadwords_alone(r.taken as u64, r.packets));
-    taken(unit, r.path, r.used, words, counts, s.interrupt)
+    WordsResult {
+        unit: s.unit.with_waiting(rest),
+        path2: r.path,
+        used: r.used,
+        words: s.words + 4 * r.taken,
+        counts: plus_units(s.counts, quadwords_alone(r.taken as u64, r.packets)),
+        ..s
+    }
 }
 
 // Quadwords of a DIRECT that waits; at least one word and one step are left after them.
@@ -110,22 +81,23 @@ pub(crate) fn burst(
     ensures { (mem code : List ℕ)
         → Bursts which main.now limit a count s (lent mem code log.old) result (lent mem code log.new) }
 {
-    let unit = s.unit;
-    let waiting = unit.waiting;
-    match waiting {
-        Waiting::Nothing => s,
-        Waiting::MaskDue(_) => s,
-        Waiting::RowDue { .. } => s,
-        Waiting::ColDue { .. } => s,
-        Waiting::MpgDue { .. } => s,
+    match s.unit.waiting {
         Waiting::DirectDue { due, interrupt } => {
             let r = quadwords(s, due, main, a, count, limit, log);
-            with_quadwords(s, r, direct_rest(due, r.taken, interrupt))
+            let rest = Waiting::DirectDue {
+                due: due - r.taken,
+                interrupt,
+            };
+            with_quadwords(s, r, rest)
         }
         Waiting::DirecthlDue { due, interrupt } => {
             let r = quadwords(s, due, main, a, count, limit, log);
-            with_quadwords(s, r, directhl_rest(due, r.taken, interrupt))
+            let rest = Waiting::DirecthlDue {
+                due: due - r.taken,
+                interrupt,
+            };
+            with_quadwords(s, r, rest)
         }
-        Waiting::UnpackDue(_, _) => s,
+        _ => s,
     }
 }

@@ -13,23 +13,13 @@ ghost use Rattle.vif.specs.Feeds.{Fed, fed};
 ghost use Rattle.vif.specs.Inner.{UnpackReady, MpgReady, FedReady, fed_in, Leads, Going, words_with, Some, Ahead, WaitingFits, PayloadReady, Takes, taken_with};
 
 use super::WordsResult;
-use super::bursts::taken;
 use super::execute::take_code;
 use super::mpg::{mpg_refused, store_words};
 use super::payload::{col_word, row_word};
 use fields::{UnitCounts, plus_units, word_at};
 use memories::VifUnit;
 use unpack_rules::{Format, Unpacking};
-use vif_codes::{
-    Vif, VifAnswer, Waiting, incoming_at, mask_word, with_row, with_waiting, write_registers,
-};
-
-// The smaller of two numbers.
-fn smaller(a: u32, b: u64) -> u32
-    ensures { (result ≤ a) × (result ≤ b) }
-{
-    if b < a as u64 { b as u32 } else { a }
-}
+use vif_codes::{Vif, Waiting, incoming_at, mask_word};
 
 // The NOPs without their interrupt bit at the front of n words.
 fn nops_ahead(main: &[u8], a: u32, n: u32) -> u32
@@ -37,15 +27,12 @@ fn nops_ahead(main: &[u8], a: u32, n: u32) -> u32
     ensures { (result ≤ n) × (result ≡ 0 → 1 ≤ n → word_at main.now a / 16777216 ≡ 0 → ⊥)
         × ((which : VifUnitT) (x : Fed) → x.unit.waiting ≡ Nothing → Leads which main.now a result (words_with result result) x x) }
 {
-    let mut k: u32 = 0;
-    while k < n {
-        let word = word_at(main, a + 4 * k);
-        if word / 0x0100_0000 != 0 {
+    for k in 0..n {
+        if word_at(main, a + 4 * k) / 0x0100_0000 != 0 {
             return k;
         }
-        k += 1;
     }
-    k
+    n
 }
 
 // How many of n words are taken as payload: never the last one of a code with its interrupt bit.
@@ -54,12 +41,12 @@ fn payload_ahead(due: u32, interrupt: bool, n: u32) -> u32
     ensures { (result ≤ n) × Some due interrupt result }
 {
     if n < due {
-        return n;
+        n
+    } else if interrupt {
+        due - 1
+    } else {
+        due
     }
-    if interrupt {
-        return due - 1;
-    }
-    due
 }
 
 // One word, unless what it would end has its interrupt bit.
@@ -82,9 +69,10 @@ fn mpg_ahead(count: u32, due: u32, interrupt: bool, main: &[u8], a: u32, n: u32)
     ensures { (result ≤ n) × ((result ≡ 0 → ⊥) → Some due interrupt result × (mpg_refused count due (incoming_at main.now a) ≡ false)) }
 {
     if mpg_refused(count, due, incoming_at(main, a)) {
-        return 0;
+        0
+    } else {
+        payload_ahead(due, interrupt, n)
     }
-    payload_ahead(due, interrupt, n)
 }
 
 // How many of the next n words are taken at once, by what waits.
@@ -95,23 +83,16 @@ fn words_ahead(waiting: Waiting, main: &[u8], a: u32, n: u32) -> u32
     match waiting {
         Waiting::Nothing => code_ahead(main, a),
         Waiting::MaskDue(i) => one_unless(i),
-        Waiting::RowDue {
-            due: _,
-            interrupt: i,
-        } => one_unless(i),
-        Waiting::ColDue {
-            due: _,
-            interrupt: i,
-        } => one_unless(i),
+        Waiting::RowDue { interrupt: i, .. } => one_unless(i),
+        Waiting::ColDue { interrupt: i, .. } => one_unless(i),
         Waiting::MpgDue {
-            address: _,
             count,
             due,
             interrupt: i,
+            ..
         } => mpg_ahead(count, due, i, main, a, n),
-        Waiting::DirectDue { .. } => 0,
-        Waiting::DirecthlDue { .. } => 0,
         Waiting::UnpackDue(_, u) => payload_ahead(u.due, u.interrupt, n),
+        _ => 0,
     }
 }
 
@@ -132,12 +113,10 @@ fn unpack_words(
         (fed result p used (lent «data».new code log)) }
 {
     let size = memories::quadwords(which);
-    let registers = write_registers(unit);
-    let row = unit.row;
-    let r = unpack::take_words(size, f, u, registers, main, a, n, row, data);
-    let rows = r.row;
-    let rest = r.rest;
-    with_waiting(with_row(unit, rows), Waiting::UnpackDue(f, rest))
+    let registers = unit.write_registers();
+    let r = unpack::take_words(size, f, u, registers, main, a, n, unit.row, data).unwrap();
+    unit.with_row(r.row)
+        .with_waiting(Waiting::UnpackDue(f, r.rest))
 }
 
 // All payload words of UNPACK that are due.
@@ -156,16 +135,12 @@ fn unpack_rest(
         (fed result p used (lent «data».new code log)) }
 {
     let size = memories::quadwords(which);
-    let registers = write_registers(unit);
-    let row = unit.row;
+    let registers = unit.write_registers();
     let n = u.due - 1;
-    let r = unpack::take_words(size, f, u, registers, main, a, n, row, data);
-    let rows = r.row;
-    let rest = r.rest;
+    let r = unpack::take_words(size, f, u, registers, main, a, n, unit.row, data).unwrap();
     let word = word_at(main, a + 4 * n);
-    let last = unpack::take_word(size, f, rest, registers, word, rows, data);
-    let ended = last.row;
-    with_waiting(with_row(unit, ended), Waiting::Nothing)
+    let row = unpack::take_word(size, f, r.rest, registers, word, r.row, data).unwrap();
+    unit.with_row(row).with_waiting(Waiting::Nothing)
 }
 
 // n payload words of UNPACK.
@@ -185,9 +160,10 @@ fn unpack_payload(
         (fed result p used (lent «data».new code log)) }
 {
     if n < u.due {
-        return unpack_words(which, unit, f, u, main, a, n, data);
+        unpack_words(which, unit, f, u, main, a, n, data)
+    } else {
+        unpack_rest(which, unit, f, u, main, a, data)
     }
-    unpack_rest(which, unit, f, u, main, a, data)
 }
 
 // What waits of an MPG after n words.
@@ -196,14 +172,15 @@ fn mpg_left(address: u32, count: u32, due: u32, interrupt: bool, n: u32) -> Wait
     ensures { (n < due → result ≡ MpgDue address count (due - n) interrupt) × (n ≡ due → result ≡ Nothing) }
 {
     if n < due {
-        return Waiting::MpgDue {
+        Waiting::MpgDue {
             address,
             count,
             due: due - n,
             interrupt,
-        };
+        }
+    } else {
+        Waiting::Nothing
     }
-    Waiting::Nothing
 }
 
 // n payload words of MPG. Path 2 and the other memories are any.
@@ -228,7 +205,7 @@ fn mpg_words(
     let size = memories::instructions(which);
     let first = count + count - due;
     store_words(size, address, first, main, a, n, code);
-    with_waiting(unit, mpg_left(address, count, due, interrupt, n))
+    unit.with_waiting(mpg_left(address, count, due, interrupt, n))
 }
 
 // The result of s with words after it, and the NOPs among them.
@@ -243,23 +220,12 @@ fn with_codes(s: WordsResult, unit: Vif, used: u64, words: u32, nops: u32) -> Wo
         words: words as u64,
         nops: nops as u64,
     };
-    let counts = plus_units(s.counts, more);
-    taken(unit, s.path2, used, s.words + words, counts, s.interrupt)
-}
-
-// Whether nothing waits.
-fn is_idle(waiting: Waiting) -> bool
-    ensures { (result ≡ true → waiting ≡ Nothing) × (result ≡ false → waiting ≡ Nothing → ⊥) }
-{
-    match waiting {
-        Waiting::Nothing => true,
-        Waiting::MaskDue(_) => false,
-        Waiting::RowDue { .. } => false,
-        Waiting::ColDue { .. } => false,
-        Waiting::MpgDue { .. } => false,
-        Waiting::DirectDue { .. } => false,
-        Waiting::DirecthlDue { .. } => false,
-        Waiting::UnpackDue(_, _) => false,
+    WordsResult {
+        unit,
+        used,
+        words: s.words + words,
+        counts: plus_units(s.counts, more),
+        ..s
     }
 }
 
@@ -278,9 +244,7 @@ fn payload_words(
         → Leads which main.now a n (words_alone n) (fed unit p used (lent «data».old code.old log))
         (fed result p used (lent «data».new code.new log)) }
 {
-    let waiting = unit.waiting;
-    match waiting {
-        Waiting::Nothing => unit,
+    match unit.waiting {
         Waiting::MaskDue(_) => mask_word(unit, word_at(main, a)),
         Waiting::RowDue { due, interrupt } => row_word(unit, due, interrupt, word_at(main, a)),
         Waiting::ColDue { due, interrupt } => col_word(unit, due, interrupt, word_at(main, a)),
@@ -290,9 +254,8 @@ fn payload_words(
             due,
             interrupt: i,
         } => mpg_words(which, unit, address, count, due, i, main, a, n, code),
-        Waiting::DirectDue { .. } => unit,
-        Waiting::DirecthlDue { .. } => unit,
         Waiting::UnpackDue(f, u) => unpack_payload(which, unit, f, u, main, a, n, data),
+        _ => unit,
     }
 }
 
@@ -312,20 +275,20 @@ pub(crate) fn take_codes(
     ensures { Takes which main.now limit a count s (lent «data».old code.old log.old)
         result (lent «data».new code.new log.new) }
 {
-    let n = smaller(count - s.words, limit - s.counts.steps);
+    let n = ((count - s.words) as u64).min(limit - s.counts.steps) as u32;
     let from = a + 4 * s.words;
     let mut unit = s.unit;
     let mut used = s.used;
     let mut k: u32 = 0;
     let mut nops: u32 = 0;
+    // No `for`: k goes on by as many words as are taken at once.
     while k < n {
         let at = from + 4 * k;
-        let waiting = unit.waiting;
-        let m = words_ahead(waiting, main, at, n - k);
+        let m = words_ahead(unit.waiting, main, at, n - k);
         if m == 0 {
             return with_codes(s, unit, used, k, nops);
         }
-        if is_idle(waiting) {
+        if let Waiting::Nothing = unit.waiting {
             let j = nops_ahead(main, at, n - k);
             if j != 0 {
                 k += j;
@@ -333,18 +296,13 @@ pub(crate) fn take_codes(
                 continue;
             }
             let r = take_code(which, word_at(main, at), unit, data, log, used);
-            let answer = r.answer;
-            let after = r.unit;
-            match answer {
-                VifAnswer::Word(_) => {
-                    unit = after;
-                    used = r.used;
-                    k += 1;
-                    continue;
-                }
-                VifAnswer::Quadword { .. } => return with_codes(s, unit, used, k, nops),
-                VifAnswer::Refused(_) => return with_codes(s, unit, used, k, nops),
+            if r.answer.is_err() {
+                return with_codes(s, unit, used, k, nops);
             }
+            unit = r.unit;
+            used = r.used;
+            k += 1;
+            continue;
         }
         unit = payload_words(which, unit, main, at, m, data, code);
         k += m;

@@ -7,9 +7,9 @@ ghost use Rattle.vif.specs.Inner.{GifReady};
 
 use super::VifResult;
 use super::payload::answered;
-use fields::refusals;
-use gif::{GifAnswer, GifPath, Path};
-use vif_codes::{Incoming, Vif, VifAnswer, Waiting, completed, or_nothing, with_waiting};
+use fields::Refusal;
+use gif::{GifPath, Path};
+use vif_codes::{Incoming, Taken, Vif, Waiting, completed, or_nothing};
 
 fn joined(low: u32, high: u32) -> u64
     ensures { result ≡ low + high * 2 ^ 32 }
@@ -34,19 +34,17 @@ fn give(
         ≡ give_quadword (quadword low high) unit path2 due interrupt rest used (lent mem code log.old) }
 {
     let r = gif::take_quadword(GifPath::Two, path2, low, high, log, used);
-    let answer = r.answer;
-    let path = r.path;
-    match answer {
-        GifAnswer::Taken(closed) => answered(
-            VifAnswer::Quadword {
+    match r.answer {
+        Ok(closed) => answered(
+            Ok(Taken::Quadword {
                 interrupt: completed(due, interrupt),
                 closed,
-            },
-            with_waiting(unit, or_nothing(due, rest)),
-            path,
+            }),
+            unit.with_waiting(or_nothing(due, rest)),
+            r.path,
             r.used,
         ),
-        GifAnswer::Refused(n) => answered(VifAnswer::Refused(n), unit, path2, used),
+        Err(e) => answered(Err(e), unit, path2, used),
     }
 }
 
@@ -77,23 +75,6 @@ pub(crate) fn direct(
             log,
             used,
         ),
-        Incoming::Word1(_) => answered(
-            VifAnswer::Refused(refusals::DIRECT_UNALIGNED),
-            unit,
-            path2,
-            used,
-        ),
-        Incoming::Word2(_) => answered(
-            VifAnswer::Refused(refusals::DIRECT_UNALIGNED),
-            unit,
-            path2,
-            used,
-        ),
-        Incoming::Word3(_) => answered(
-            VifAnswer::Refused(refusals::DIRECT_UNALIGNED),
-            unit,
-            path2,
-            used,
-        ),
+        _ => answered(Err(Refusal::DirectUnaligned), unit, path2, used),
     }
 }

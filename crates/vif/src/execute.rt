@@ -10,9 +10,8 @@ ghost use Rattle.vif.specs.Inner.{CodeReady};
 use memories::VifUnit;
 use unpack_rules::{Format, Unpacking};
 use vif_codes::{
-    Code, CodeResult, Decoded, UnpackCode, Vif, VifAnswer, Waiting, answered, begin_mpg,
-    begun_unpack, decode, done, set_mode, start_program, unpack_refusal, waits, with_base,
-    with_cycle, with_itops, with_mark, with_mskpath3, with_offset, with_row, write_registers,
+    Code, CodeResult, UnpackCode, Vif, Waiting, answered, begin_mpg, begun_unpack, decode, done,
+    set_mode, start_program, test_unpack, waits,
 };
 
 // An UNPACK with CL 0, which has no payload: its writes. The log is any.
@@ -29,12 +28,10 @@ fn unfed_unpack(
     ensures { (log : List ℕ) → result_with result «data».new log
         ≡ unfed_step (unfed_written which f u unit «data».old) unit interrupt used log }
 {
-    let registers = write_registers(unit);
-    let row = unit.row;
+    let registers = unit.write_registers();
     let size = memories::quadwords(which);
-    let r = unpack::write_without_payload(size, f, u, registers, row, data);
-    let rows = r.row;
-    done(with_row(unit, rows), interrupt, used)
+    let row = unpack::write_without_payload(size, f, u, registers, unit.row, data).unwrap();
+    done(unit.with_row(row), interrupt, used)
 }
 
 // UNPACK's own step. The log is any.
@@ -51,9 +48,8 @@ fn begin_unpack(
     ensures { (log : List ℕ) → result_with result «data».new log
         ≡ begin_unpack which f u unit interrupt used «data».old log }
 {
-    let refusal = unpack_refusal(which, u, unit);
-    if refusal != 0 {
-        return answered(VifAnswer::Refused(refusal), unit, used);
+    if let Err(e) = test_unpack(which, u, unit) {
+        return answered(Err(e), unit, used);
     }
     let begun = begun_unpack(f, u, unit, interrupt);
     if unit.cl == 0 {
@@ -78,13 +74,13 @@ fn execute(
 {
     match code {
         Code::Nop => done(unit, interrupt, used),
-        Code::Stcycl { cl, wl } => done(with_cycle(unit, cl, wl), interrupt, used),
-        Code::Offset(x) => done(with_offset(unit, x, unit.base), interrupt, used),
-        Code::Base(x) => done(with_base(unit, x), interrupt, used),
-        Code::Itop(x) => done(with_itops(unit, x), interrupt, used),
+        Code::Stcycl { cl, wl } => done(unit.with_cycle(cl, wl), interrupt, used),
+        Code::Offset(x) => done(unit.with_offset(x, unit.base), interrupt, used),
+        Code::Base(x) => done(unit.with_base(x), interrupt, used),
+        Code::Itop(x) => done(unit.with_itops(x), interrupt, used),
         Code::Stmod(m) => set_mode(m, unit, interrupt, used),
-        Code::Mskpath3(b) => done(with_mskpath3(unit, b), interrupt, used),
-        Code::Mark(x) => done(with_mark(unit, x), interrupt, used),
+        Code::Mskpath3(b) => done(unit.with_mskpath3(b), interrupt, used),
+        Code::Mark(x) => done(unit.with_mark(x), interrupt, used),
         Code::Flushe => done(unit, interrupt, used),
         Code::Flush => done(unit, interrupt, used),
         Code::Flusha => done(unit, interrupt, used),
@@ -115,15 +111,7 @@ pub(crate) fn take_code(
         ≡ decoded_step which (decode_of which word) unit (interrupt_of word) used «data».old log.old }
 {
     match decode(which, word) {
-        Decoded::Known(code) => execute(
-            which,
-            code,
-            unit,
-            word / 0x8000_0000 == 1,
-            data,
-            log,
-            used,
-        ),
-        Decoded::Unknown(n) => answered(VifAnswer::Refused(n), unit, used),
+        Ok(code) => execute(which, code, unit, word / 0x8000_0000 == 1, data, log, used),
+        Err(e) => answered(Err(e), unit, used),
     }
 }

@@ -7,19 +7,26 @@ ghost use Rattle.vif.specs.Feed.{fed_on_by, feeds_of, words_inside, takes_steps,
 ghost use Rattle.vif.specs.Inner.{StepReady, FedReady, fed_in, Gives, taken_with};
 
 use super::WordsResult;
-use super::bursts::{burst, taken};
+use super::bursts::burst;
 use super::codes::take_codes;
 use super::step::{in_range, step};
 use fields::{UnitCounts, lies_inside, no_units, plus_units};
 use gif::Path;
-use memories::{VifUnit, lengths_refusal};
-use vif_codes::{Vif, VifAnswer, counts_in, incoming_at};
+use memories::{VifUnit, test_lengths};
+use vif_codes::{Taken, Vif, counts_in, incoming_at};
 
 // Before the first word.
 fn nothing_taken(unit: Vif, path2: Path, used: u64) -> WordsResult
     ensures { result ≡ taken_with unit path2 used 0 no_units false }
 {
-    taken(unit, path2, used, 0, no_units(), false)
+    WordsResult {
+        unit,
+        path2,
+        used,
+        words: 0,
+        counts: no_units(),
+        interrupt: false,
+    }
 }
 
 // What steps count for with one more, which counts for `more`.
@@ -47,21 +54,23 @@ fn give_word(
     ensures { Gives which main.now a s (lent «data».old code.old log.old)
         result (lent «data».new code.new log.new) }
 {
-    let unit = s.unit;
-    let waiting = unit.waiting;
-    let path2 = s.path2;
     let next = incoming_at(main, a + 4 * s.words);
-    let r = step(which, unit, path2, next, data, code, log, s.used);
-    let answer = r.answer;
-    let after = r.unit;
-    let path = r.path2;
-    let counts = one_more(s.counts, counts_in(waiting, next, answer));
-    match answer {
-        VifAnswer::Word(i) => taken(after, path, r.used, s.words + 1, counts, i),
-        VifAnswer::Quadword { interrupt: i, .. } => {
-            taken(after, path, r.used, s.words + 4, counts, i)
-        }
-        VifAnswer::Refused(_) => s,
+    let r = step(which, s.unit, s.path2, next, data, code, log, s.used);
+    let counts = one_more(s.counts, counts_in(s.unit.waiting, next, r.answer));
+    let Ok(taken) = r.answer else {
+        return s;
+    };
+    let (words, interrupt) = match taken {
+        Taken::Word { interrupt } => (1, interrupt),
+        Taken::Quadword { interrupt, .. } => (4, interrupt),
+    };
+    WordsResult {
+        unit: r.unit,
+        path2: r.path2,
+        used: r.used,
+        words: s.words + words,
+        counts,
+        interrupt,
     }
 }
 
@@ -86,10 +95,7 @@ fn give_words(
 {
     let mut s = nothing_taken(unit, path2, used);
     loop {
-        if s.counts.steps >= limit {
-            return s;
-        }
-        if s.words >= count {
+        if s.counts.steps >= limit || s.words >= count {
             return s;
         }
         let start = s.counts.steps;
@@ -100,10 +106,7 @@ fn give_words(
         s = burst(which, s, main, a, count, limit, log);
         let before = s.counts.steps;
         s = give_word(which, s, main, a, data, code, log);
-        if s.interrupt {
-            return s;
-        }
-        if s.counts.steps == before {
+        if s.interrupt || s.counts.steps == before {
             return s;
         }
     }
@@ -113,13 +116,7 @@ fn give_words(
 fn words_inside(main: &[u8], a: u32, count: u32) -> bool
     ensures { result ≡ words_inside main.now a count }
 {
-    if lies_inside(main, a, 4 * count as usize) {
-        if a % 4 != 0 {
-            return false;
-        }
-        return (a / 4 + count) % 4 == 0;
-    }
-    false
+    lies_inside(main, a, 4 * count as usize) && a % 4 == 0 && (a / 4 + count) % 4 == 0
 }
 
 fn takes_steps(
@@ -134,10 +131,7 @@ fn takes_steps(
     ensures { result
         ≡ takes_steps which (fed unit path2 used (lent «data».now code.now log.now)) }
 {
-    if lengths_refusal(which, data, code, log, used) != 0 {
-        return false;
-    }
-    in_range(which, unit, path2)
+    test_lengths(which, data, code, log, used).is_ok() && in_range(which, unit, path2)
 }
 
 // At most `limit` steps with `count` words of main memory from address `a` on, on any input at all.
@@ -158,13 +152,11 @@ pub fn take_words(
         ≡ feed_of which main.now limit a count
         (fed unit path2 used (lent «data».old code.old log.old)) }
 {
-    if words_inside(main, a, count) {
-        if takes_steps(which, unit, path2, data, code, log, used) {
-            return give_words(
-                which, unit, path2, main, a, count, limit, data, code, log, used,
-            );
-        }
-        return nothing_taken(unit, path2, used);
+    if words_inside(main, a, count) && takes_steps(which, unit, path2, data, code, log, used) {
+        give_words(
+            which, unit, path2, main, a, count, limit, data, code, log, used,
+        )
+    } else {
+        nothing_taken(unit, path2, used)
     }
-    nothing_taken(unit, path2, used)
 }

@@ -15,7 +15,7 @@ pub use step::take;
 
 #[derive(Clone, Copy)]
 pub struct VifResult {
-    pub answer: vif_codes::VifAnswer,
+    pub answer: Result<vif_codes::Taken, fields::Refusal>,
     pub unit: vif_codes::Vif,
     pub path2: gif::Path,
     pub used: u64,

@@ -1,14 +1,19 @@
 // Payload words of STROW and STCOL, and the result of a step.
-ghost use Rattle.std.specs.Prelude.{◌≡◌, ◌<◌, ◌≤◌, set};
-ghost use Rattle.vif_codes.specs.Setters.{with_row, with_col};
+ghost use Rattle.std.specs.Prelude.{◌≡◌, ◌-◌, ◌≤◌, set};
 ghost use Rattle.vif_codes.specs.Payload.{row_word, col_word};
 ghost use Rattle.vif.specs.Step.{answers};
 
 use super::VifResult;
+use fields::Refusal;
 use gif::Path;
-use vif_codes::{Vif, VifAnswer, Waiting, or_nothing, with_waiting};
+use vif_codes::{Taken, Vif, Waiting, or_nothing};
 
-pub(crate) fn answered(answer: VifAnswer, unit: Vif, path2: Path, used: u64) -> VifResult
+pub(crate) fn answered(
+    answer: Result<Taken, Refusal>,
+    unit: Vif,
+    path2: Path,
+    used: u64,
+) -> VifResult
     ensures { result ≡ answers answer unit path2 used }
 {
     VifResult {
@@ -19,24 +24,24 @@ pub(crate) fn answered(answer: VifAnswer, unit: Vif, path2: Path, used: u64) -> 
     }
 }
 
-fn with_row_at(v: Vif, j: usize, x: u32) -> Vif
-    requires { j < 4 }
-    ensures { result ≡ with_row v (set v.row j x) }
+// A word taken, and whether that completed an interrupt.
+pub(crate) fn word_taken(unit: Vif, interrupt: bool, path2: Path, used: u64) -> VifResult
+    ensures { result ≡ answers (Ok (Taken.Word interrupt)) unit path2 used }
 {
-    let mut n = v;
-    n.row[j] = x;
-    n
+    answered(Ok(Taken::Word { interrupt }), unit, path2, used)
 }
 
-fn with_col_at(v: Vif, j: usize, x: u32) -> Vif
-    requires { j < 4 }
-    ensures { result ≡ with_col v (set v.col j x) }
+// ROW or COL with the next word of its payload.
+fn stored(words: [u32; 4], due: u32, word: u32) -> [u32; 4]
+    requires { (1 ≤ due) × (due ≤ 4) }
+    ensures { result ≡ set words (4 - due) word }
 {
-    let mut n = v;
-    n.col[j] = x;
-    n
+    let mut stored = words;
+    stored[(4 - due) as usize] = word;
+    stored
 }
 
+// ROW and COL are two registers of the unit, so each has a function; `stored` is what they share.
 pub(crate) fn row_word(unit: Vif, due: u32, interrupt: bool, word: u32) -> Vif
     requires { (1 ≤ due) × (due ≤ 4) }
     ensures { result ≡ row_word unit due interrupt word }
@@ -45,10 +50,11 @@ pub(crate) fn row_word(unit: Vif, due: u32, interrupt: bool, word: u32) -> Vif
         due: due - 1,
         interrupt,
     };
-    with_waiting(
-        with_row_at(unit, (4 - due) as usize, word),
-        or_nothing(due, rest),
-    )
+    Vif {
+        row: stored(unit.row, due, word),
+        waiting: or_nothing(due, rest),
+        ..unit
+    }
 }
 
 pub(crate) fn col_word(unit: Vif, due: u32, interrupt: bool, word: u32) -> Vif
@@ -59,8 +65,9 @@ pub(crate) fn col_word(unit: Vif, due: u32, interrupt: bool, word: u32) -> Vif
         due: due - 1,
         interrupt,
     };
-    with_waiting(
-        with_col_at(unit, (4 - due) as usize, word),
-        or_nothing(due, rest),
-    )
+    Vif {
+        col: stored(unit.col, due, word),
+        waiting: or_nothing(due, rest),
+        ..unit
+    }
 }

@@ -20,9 +20,8 @@ use Rattle.vif_codes.specs.declared.Code.{Code}
 use Rattle.vif_codes.specs.declared.Code.TheVariants.{Nop, Stcycl, Offset, Base, Itop, Stmod, Mskpath3, Mark, Flushe, Flush, Flusha, Mscal, Mscalf, Mscnt, Stmask, Strow, Stcol, Mpg, Direct, Directhl, Unpack}
 use Rattle.vif_codes.specs.declared.UnpackCode.{UnpackCode}
 use Rattle.vif_codes.specs.declared.CodeResult.{CodeResult}
-use Rattle.vif_codes.specs.declared.Decoded.{Decoded}
-use Rattle.vif_codes.specs.declared.Decoded.TheVariants.{Known, Unknown}
-use Rattle.vif_codes.specs.declared.VifAnswer.TheVariants.{Word, Refused}
+use Rattle.vif_codes.specs.Decoded.{Decoded, Known, Unknown}
+use Rattle.vif_codes.specs.VifAnswer.{Word, Refused}
 use Rattle.vif_codes.specs.declared.Vif.{Vif}
 use Rattle.vif_codes.specs.Execute.{Executed, executed, result_with, start_program, set_mode, begin_mpg, begun_unpack, unpack_refusal, begin_unpack, execute_of, decoded_step}
 use Rattle.vif_codes.specs.Payload.{write_registers}

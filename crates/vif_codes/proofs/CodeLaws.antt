@@ -1,4 +1,5 @@
 -- Codes and what they do, from what the parts give.
+use Rattle.std.specs.Prelude.{Option, Some, Ok, IsSome}
 use mathlib.Core.Path.{◌≡◌, refl, ap, ◌∙◌}
 use mathlib.Core.Bool.{Bool, true, false}
 use mathlib.Core.List.{List}
@@ -16,30 +17,20 @@ use Rattle.memories.specs.Units.{quadwords}
 use Rattle.unpack_rules.specs.declared.Format.{Format}
 use Rattle.unpack_rules.specs.declared.Unpacking.{Unpacking}
 use Rattle.unpack_rules.specs.declared.Registers.{Registers}
-use Rattle.unpack_rules.specs.declared.Rows.{Rows}
 use Rattle.unpack_rules.specs.Position.{addresses}
 use Rattle.unpack_rules.specs.Range.{cycle_refused}
-use Rattle.unpack_rules.specs.Step.{Left as UnpackLeft, left as unpackLeft, unpacking_of, unfed_acceptable, unfed_of}
-use Rattle.vif_codes.specs.declared.Code.{Code}
+use Rattle.unpack_rules.specs.Step.{left as unpackLeft, unpacking_of, unfed_acceptable, unfed_of}
+use Rattle.unpack_rules.proofs.StepLaws.{left_some}
 use Rattle.vif_codes.specs.declared.UnpackCode.{UnpackCode}
 use Rattle.vif_codes.specs.declared.CodeResult.{CodeResult}
-use Rattle.vif_codes.specs.declared.Decoded.{Decoded}
-use Rattle.vif_codes.specs.declared.VifAnswer.TheVariants.{Word, Refused}
+use Rattle.vif_codes.specs.declared.Taken.TheVariants.{Word as TakenWord}
+use Rattle.vif_codes.specs.VifAnswer.{Word, Refused}
 use Rattle.vif_codes.specs.declared.Waiting.TheVariants.{UnpackDue}
 use Rattle.vif_codes.specs.declared.Vif.{Vif}
 use Rattle.vif_codes.specs.Setters.{with_row}
 use Rattle.vif_codes.specs.Codes.{missing_code, code_listed}
 use Rattle.vif_codes.specs.Payload.{write_registers}
-use Rattle.vif_codes.specs.Execute.{Executed, executed, code_result, result_with, started, start_program, waits_for, address_of, begun_unpack, tops_refused, unpack_refusal, unfed_written, unfed_step, begin_unpack, execute_of, decoded_step}
-
--- what holds at the code that an arm knows holds at the value itself
-pub by_code : (which : VifUnit) {c d : Code} → c ≡ d → (v : Vif) (i : Bool) (used : ℕ) (mem log : List ℕ) {e : Executed}
-    → e ≡ execute_of which d v i used mem log → e ≡ execute_of which c v i used mem log
-by_code which q v i used mem log h = rw q h
-
-pub by_decoded : (which : VifUnit) {c d : Decoded} → c ≡ d → (v : Vif) (i : Bool) (used : ℕ) (mem log : List ℕ) {e : Executed}
-    → e ≡ decoded_step which d v i used mem log → e ≡ decoded_step which c v i used mem log
-by_decoded which q v i used mem log h = rw q h
+use Rattle.vif_codes.specs.Execute.{Executed, executed, code_result, result_with, started, start_program, waits_for, address_of, begun_unpack, tops_refused, unpack_refusal, unfed_written, unfed_step, begin_unpack}
 
 -- ---- where the units differ
 
@@ -115,13 +106,19 @@ module _ (which : VifUnit) (f : Format) (u : UnpackCode) (v : Vif) (i : Bool) (m
     unfolding begin_unpack if
     unpack_begun z q = rw (c, ne_eqb v.cl 0 z, ← ew, q)
 
--- what UNPACK's writes without payload leave
-pub unfed_done : (which : VifUnit) (f : Format) (u : Unpacking) (v : Vif) (i : Bool) (used : ℕ) (mem log : List ℕ)
-    → unfed_acceptable (quadwords which) u (write_registers v) mem ≡ true
-    → {r : Registers} {s : Rows} {m : List ℕ} {v' : Vif} {o : CodeResult} → r ≡ write_registers v
-    → unpackLeft s m ≡ unfed_of (quadwords which) f u r v.row mem → v' ≡ with_row v s.row → o ≡ code_result (Word i) v' used
-    → result_with o m log ≡ unfed_step (unfed_written which f u v mem) v i used log
-unfolding unfed_of if
-unfed_done which f u v i used mem log h er es ev eo =
-    let e = rw (er, h) at es in
-    rw (eo, ev, ap (λ (o : UnpackLeft). o.row) e, ap (λ (o : UnpackLeft). o.mem) e)
+-- UNPACK's writes without payload
+module _ (which : VifUnit) (f : Format) (u : Unpacking) (v : Vif) (mem : List ℕ) (h : unfed_acceptable (quadwords which) u (write_registers v) mem ≡ true)
+    {r : Registers} (s : Option (List ℕ)) (m : List ℕ) (er : r ≡ write_registers v)
+    (es : unpackLeft v.row s m ≡ unfed_of (quadwords which) f u r v.row mem) where
+  unfed_given : (s ≡ Some (unfed_written which f u v mem).row) × (m ≡ (unfed_written which f u v mem).mem)
+  unfolding unfed_of if
+  unfed_given = left_some v.row s (rw (er, h) at es)
+
+  pub unfed_some : IsSome s
+  unfed_some = rw unfed_given.0
+
+  pub unfed_done : (i : Bool) (used : ℕ) (log : List ℕ) {row : List ℕ} {v' : Vif} {o : CodeResult} → s ≡ Some row → v' ≡ with_row v row
+      → o ≡ code_result (Ok (TakenWord i)) v' used → result_with o m log ≡ unfed_step (unfed_written which f u v mem) v i used log
+  unfed_done i used log {row} en ev eo =
+      let q : row ≡ (unfed_written which f u v mem).row = cc (unfed_given.0) in
+      rw (eo, ev, q, unfed_given.1)

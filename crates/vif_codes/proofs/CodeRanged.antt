@@ -1,4 +1,5 @@
 -- What a code holds is in its range, and the unit stays in range in the code's own step.
+use Rattle.std.specs.Prelude.{None, Option, Some}
 use mathlib.Core.Path.{◌≡◌, refl, ◌∙◌}
 use mathlib.Core.Bool.{Bool, true, false, not}
 use mathlib.Core.List.{List}
@@ -13,8 +14,6 @@ use Rattle.fields.proofs.ChoiceLaws.{if_ind, if_ind_by}
 use Rattle.memories.specs.declared.VifUnit.{VifUnit}
 use Rattle.memories.specs.declared.VifUnit.TheVariants.{Vif0, Vif1}
 use Rattle.unpack_rules.specs.declared.Format.{Format}
-use Rattle.unpack_rules.specs.declared.NamedFormat.{NamedFormat}
-use Rattle.unpack_rules.specs.declared.NamedFormat.TheVariants.{Named, Missing}
 use Rattle.unpack_rules.specs.Formats.{format_named}
 use Rattle.unpack_rules.specs.Position.{address_most}
 use Rattle.unpack_rules.specs.Range.{cycle_refused, cycle_in_range}
@@ -24,8 +23,7 @@ use Rattle.vif_codes.specs.declared.Code.{Code}
 use Rattle.vif_codes.specs.declared.Code.TheVariants.{Nop, Stcycl, Offset, Base, Itop, Stmod, Mskpath3, Mark, Flushe, Flush, Flusha, Mscal, Mscalf, Mscnt, Stmask, Strow, Stcol, Mpg, Direct, Directhl, Unpack}
 use Rattle.vif_codes.specs.declared.UnpackCode.{UnpackCode}
 use Rattle.vif_codes.specs.declared.CodeResult.{CodeResult}
-use Rattle.vif_codes.specs.declared.Decoded.{Decoded}
-use Rattle.vif_codes.specs.declared.Decoded.TheVariants.{Known, Unknown}
+use Rattle.vif_codes.specs.Decoded.{Decoded, Known, Unknown}
 use Rattle.vif_codes.specs.declared.Waiting.{Waiting}
 use Rattle.vif_codes.specs.declared.Waiting.TheVariants.{Nothing, MaskDue, RowDue, ColDue, MpgDue, DirectDue, DirecthlDue, UnpackDue}
 use Rattle.vif_codes.specs.declared.Vif.{Vif}
@@ -113,9 +111,9 @@ module _ (which : VifUnit) where
       tops_fit : (k : ℕ) → eqb cmd k ≡ true → missing_code k ≡ true → bits imm 0 9 ≤ tops_most which
       tops_fit k e m = listed_one (λ (u : VifUnit). bits imm 0 9 ≤ tops_most u) which cmd k l e m (ten 0 9 address_most (bits_below imm 0 9))
 
-  unpack_code_fits : (format : NamedFormat) (u : UnpackCode) → Fits (unpack_code format u)
-  unpack_code_fits (Named f) u = fine (Known (Unpack f u)) any
-  unpack_code_fits Missing u = fine (Unknown format_missing) any
+  unpack_code_fits : (format : Option Format) (u : UnpackCode) → Fits (unpack_code format u)
+  unpack_code_fits (Some f) u = fine (Known (Unpack f u)) any
+  unpack_code_fits None u = fine (Unknown format_missing) any
 
   decode_fits : (word : ℕ) → Fits (decode_of which word)
   unfolding decode_of code_of

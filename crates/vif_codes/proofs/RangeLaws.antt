@@ -17,9 +17,6 @@ use Rattle.vif_codes.specs.declared.Vif.{Vif}
 use Rattle.vif_codes.specs.Codes.{mpg_address_most, code_listed}
 use Rattle.vif_codes.specs.Range.{up_to, registers_in_range, direct_in_range, waiting_in_range, unit_in_range, tops_most, bit_in_range}
 
-pub by_waiting : (which : VifUnit) {w k : Waiting} → w ≡ k → (cl wl : ℕ) {b : Bool} → b ≡ waiting_in_range which k cl wl → b ≡ waiting_in_range which w cl wl
-by_waiting which q cl wl h = rw q h
-
 pub up_to_fits : (n x : ℕ) → up_to n x ≡ true → (1 ≤ x) × (x ≤ n)
 unfolding up_to
 up_to_fits n x h = (leb-true 1 x (and_left _ _ h), leb-true x n (and_right (leb 1 x) _ h))

@@ -1,17 +1,15 @@
 -- VIF codes: document 01's "Bits 0-15 IMM, 16-23 NUM, 24-30 CMD, 31 interrupt. Each word is decoded into one case of a closed list of codes, each case
 -- with its own numbers."
-use Rattle.std.specs.Prelude.{ℕ, Bool, true, not, ◌||◌, eqb, leb}
+use Rattle.unpack_rules.specs.declared.Format.{Format}
+use Rattle.std.specs.Prelude.{ℕ, Bool, true, not, ◌||◌, eqb, leb, None, Option, Some}
 use Rattle.fields.specs.Fields.{if, bits}
 use Rattle.fields.specs.Refusals.{cmd_unlisted, format_missing}
 use Rattle.memories.specs.declared.VifUnit.{VifUnit}
 use Rattle.memories.specs.declared.VifUnit.TheVariants.{Vif0, Vif1}
-use Rattle.unpack_rules.specs.declared.NamedFormat.{NamedFormat}
-use Rattle.unpack_rules.specs.declared.NamedFormat.TheVariants.{Named, Missing}
 use Rattle.unpack_rules.specs.Formats.{format_named}
 use Rattle.vif_codes.specs.declared.Code.TheVariants.{Nop, Stcycl, Offset, Base, Itop, Stmod, Mskpath3, Mark, Flushe, Flush, Flusha, Mscal, Mscalf, Mscnt, Stmask, Strow, Stcol, Mpg, Direct, Directhl, Unpack}
 use Rattle.vif_codes.specs.declared.UnpackCode.{UnpackCode}
-use Rattle.vif_codes.specs.declared.Decoded.{Decoded}
-use Rattle.vif_codes.specs.declared.Decoded.TheVariants.{Known, Unknown}
+use Rattle.vif_codes.specs.Decoded.{Decoded, Known, Unknown}
 
 abbrev pub imm_of : ℕ → ℕ
 imm_of word = bits word 0 15
@@ -62,9 +60,9 @@ plain_code cmd num imm =
     (Unknown cmd_unlisted))))))))))))))))))))
 
 -- "21 vl 3 with vn below 3"
-abbrev pub unpack_code : NamedFormat → UnpackCode → Decoded
-unpack_code (Named f) u = Known (Unpack f u)
-unpack_code Missing u = Unknown format_missing
+abbrev pub unpack_code : Option Format → UnpackCode → Decoded
+unpack_code (Some f) u = Known (Unpack f u)
+unpack_code None u = Unknown format_missing
 
 -- "bit 4 M; IMM bits 0-9 address A, bit 14 USN, bit 15 adds TOPS, as held at the code, to A"
 unfoldable pub unpack_numbers : ℕ → ℕ → ℕ → UnpackCode

@@ -1,7 +1,9 @@
 -- What a code does in its own step.
-use Rattle.std.specs.Prelude.{ℕ, ◌+◌, ◌%◌, Bool, false, not, List, [], ◌∷◌, eqb}
+use Rattle.std.specs.Prelude.{ℕ, ◌+◌, ◌%◌, Bool, false, not, List, [], ◌∷◌, eqb, Result, Ok, Err}
 use Rattle.fields.specs.Fields.{if}
-use Rattle.fields.specs.Refusals.{cycle_wrong, mode_wrong, tops_missing, log_full}
+use Rattle.fields.specs.declared.refusals.Refusal.{Refusal}
+use Rattle.fields.specs.declared.refusals.Refusal.TheVariants.{ModeWrong}
+use Rattle.fields.specs.Refusals.{cycle_wrong, tops_missing, log_full}
 use Rattle.gif.specs.Log.{start_entry, logged, lacks_room}
 use Rattle.memories.specs.declared.VifUnit.{VifUnit}
 use Rattle.memories.specs.declared.VifUnit.TheVariants.{Vif0, Vif1}
@@ -16,10 +18,10 @@ use Rattle.vif_codes.specs.declared.Code.{Code}
 use Rattle.vif_codes.specs.declared.Code.TheVariants.{Nop, Stcycl, Offset, Base, Itop, Stmod, Mskpath3, Mark, Flushe, Flush, Flusha, Mscal, Mscalf, Mscnt, Stmask, Strow, Stcol, Mpg, Direct, Directhl, Unpack}
 use Rattle.vif_codes.specs.declared.UnpackCode.{UnpackCode}
 use Rattle.vif_codes.specs.declared.CodeResult.{CodeResult}
-use Rattle.vif_codes.specs.declared.Decoded.{Decoded}
-use Rattle.vif_codes.specs.declared.Decoded.TheVariants.{Known, Unknown}
-use Rattle.vif_codes.specs.declared.VifAnswer.{VifAnswer}
-use Rattle.vif_codes.specs.declared.VifAnswer.TheVariants.{Word, Refused}
+use Rattle.vif_codes.specs.Decoded.{Decoded, Known, Unknown}
+use Rattle.vif_codes.specs.VifAnswer.{VifAnswer, Word, Refused, vif_answer}
+use Rattle.vif_codes.specs.declared.Taken.{Taken}
+use Rattle.vif_codes.specs.declared.Taken.TheVariants.{Word as TakenWord}
 use Rattle.vif_codes.specs.declared.Waiting.{Waiting}
 use Rattle.vif_codes.specs.declared.Waiting.TheVariants.{MaskDue, RowDue, ColDue, MpgDue, DirectDue, DirecthlDue, UnpackDue}
 use Rattle.vif_codes.specs.declared.Vif.{Vif}
@@ -37,12 +39,12 @@ pub record Executed : Type 0 where
 abbrev pub executed : VifAnswer → Vif → ℕ → List ℕ → List ℕ → Executed
 executed a v used mem log = record { answer = a; unit = v; used = used; mem = mem; log = log }
 
--- the same but for the memories
-abbrev pub code_result : VifAnswer → Vif → ℕ → CodeResult
+-- what its program leaves but for the memories, the answer as the program has it
+abbrev pub code_result : Result Taken Refusal → Vif → ℕ → CodeResult
 code_result a v used = record { answer = a; unit = v; used = used }
 
 abbrev pub result_with : CodeResult → List ℕ → List ℕ → Executed
-result_with r mem log = executed r.answer r.unit r.used mem log
+result_with r mem log = executed (vif_answer r.answer) r.unit r.used mem log
 
 -- "TOPS = BASE+OFST modulo 1,024 if DBF is now 1, else BASE"
 unfoldable pub next_tops : Bool → Vif → ℕ
@@ -63,11 +65,11 @@ start_program which r x v i used mem log =
 
 -- a code that waits for payload completes no interrupt in its own step
 abbrev pub waits_for : Vif → Waiting → ℕ → CodeResult
-waits_for v w used = code_result (Word false) (with_waiting v w) used
+waits_for v w used = code_result (Ok (TakenWord false)) (with_waiting v w) used
 
 -- "05 STMOD: bits 0-1"; "23 STMOD 3"
 unfoldable pub set_mode : ℕ → Vif → Bool → ℕ → CodeResult
-set_mode m v i used = if (eqb m 3) (code_result (Refused mode_wrong) v used) (code_result (Word i) (with_mode v m) used)
+set_mode m v i used = if (eqb m 3) (code_result (Err ModeWrong) v used) (code_result (Ok (TakenWord i)) (with_mode v m) used)
 
 -- "MPG: NUM instructions of two words (0 means 256)"
 unfoldable pub begin_mpg : ℕ → ℕ → Vif → Bool → ℕ → CodeResult

@@ -6,3 +6,5 @@ pub mod Payload
 pub mod Range
 pub mod Words
 pub mod Counting
+pub mod VifAnswer
+pub mod Decoded

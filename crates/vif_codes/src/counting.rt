@@ -1,10 +1,10 @@
 // What a step of the unit counts for.
 ghost use Rattle.std.specs.Prelude.{◌≡◌};
 ghost use Rattle.vif_codes.specs.Counting.{nop_in, counts_in};
+ghost use Rattle.vif_codes.specs.VifAnswer.{vif_answer};
 
-use super::words::word_in;
-use super::{Incoming, VifAnswer, Waiting};
-use fields::{UnitCounts, no_units, one_quadword, one_word};
+use super::{Incoming, Taken, Waiting};
+use fields::{Refusal, UnitCounts, no_units, one_quadword, one_word};
 
 // Whether a word is decoded as a NOP.
 fn nop_in(waiting: Waiting, word: u32) -> bool
@@ -12,23 +12,17 @@ fn nop_in(waiting: Waiting, word: u32) -> bool
 {
     match waiting {
         Waiting::Nothing => word / 0x0100_0000 % 128 == 0,
-        Waiting::MaskDue(_) => false,
-        Waiting::RowDue { .. } => false,
-        Waiting::ColDue { .. } => false,
-        Waiting::MpgDue { .. } => false,
-        Waiting::DirectDue { .. } => false,
-        Waiting::DirecthlDue { .. } => false,
-        Waiting::UnpackDue(_, _) => false,
+        _ => false,
     }
 }
 
 // By what waited before it, the next word and the answer.
-pub fn counts_in(waiting: Waiting, next: Incoming, answer: VifAnswer) -> UnitCounts
-    ensures { result ≡ counts_in waiting next answer }
+pub fn counts_in(waiting: Waiting, next: Incoming, answer: Result<Taken, Refusal>) -> UnitCounts
+    ensures { result ≡ counts_in waiting next (vif_answer answer) }
 {
     match answer {
-        VifAnswer::Word(_) => one_word(nop_in(waiting, word_in(next))),
-        VifAnswer::Quadword { closed, .. } => one_quadword(closed),
-        VifAnswer::Refused(_) => no_units(),
+        Ok(Taken::Word { .. }) => one_word(nop_in(waiting, next.word())),
+        Ok(Taken::Quadword { closed, .. }) => one_quadword(closed),
+        Err(_) => no_units(),
     }
 }

@@ -1,11 +1,12 @@
 // A word decoded into a code.
 ghost use Rattle.std.specs.Prelude.{◌≡◌};
-ghost use Rattle.vif_codes.specs.Codes.{direct_quadwords, plain_code, unpack_code, unpack_numbers, missing_code, code_listed, code_of, decode_of};
+ghost use Rattle.vif_codes.specs.Codes.{direct_quadwords, plain_code, unpack_numbers, missing_code, code_listed, code_of, decode_of};
+ghost use Rattle.vif_codes.specs.Decoded.{decoded};
 
-use super::{Code, Decoded, MPG_ADDRESSES, UnpackCode};
-use fields::refusals;
+use super::{Code, MPG_ADDRESSES, UnpackCode};
+use fields::Refusal;
 use memories::VifUnit;
-use unpack_rules::{ADDRESSES, NamedFormat};
+use unpack_rules::ADDRESSES;
 
 fn quadwords_of(imm: u32) -> u32
     ensures { result ≡ direct_quadwords imm }
@@ -13,46 +14,37 @@ fn quadwords_of(imm: u32) -> u32
     if imm == 0 { 65536 } else { imm }
 }
 
-fn plain_code(cmd: u32, num: u32, imm: u32) -> Decoded
-    ensures { result ≡ plain_code cmd num imm }
+fn plain_code(cmd: u32, num: u32, imm: u32) -> Result<Code, Refusal>
+    ensures { decoded result ≡ plain_code cmd num imm }
 {
     match cmd {
-        0x00 => Decoded::Known(Code::Nop),
-        0x01 => Decoded::Known(Code::Stcycl {
+        0x00 => Ok(Code::Nop),
+        0x01 => Ok(Code::Stcycl {
             cl: imm % 256,
             wl: imm / 256 % 256,
         }),
-        0x02 => Decoded::Known(Code::Offset(imm % ADDRESSES)),
-        0x03 => Decoded::Known(Code::Base(imm % ADDRESSES)),
-        0x04 => Decoded::Known(Code::Itop(imm % ADDRESSES)),
-        0x05 => Decoded::Known(Code::Stmod(imm % 4)),
-        0x06 => Decoded::Known(Code::Mskpath3(imm / 32768 % 2 == 1)),
-        0x07 => Decoded::Known(Code::Mark(imm)),
-        0x10 => Decoded::Known(Code::Flushe),
-        0x11 => Decoded::Known(Code::Flush),
-        0x13 => Decoded::Known(Code::Flusha),
-        0x14 => Decoded::Known(Code::Mscal(imm)),
-        0x15 => Decoded::Known(Code::Mscalf(imm)),
-        0x17 => Decoded::Known(Code::Mscnt),
-        0x20 => Decoded::Known(Code::Stmask),
-        0x30 => Decoded::Known(Code::Strow),
-        0x31 => Decoded::Known(Code::Stcol),
-        0x4a => Decoded::Known(Code::Mpg {
+        0x02 => Ok(Code::Offset(imm % ADDRESSES)),
+        0x03 => Ok(Code::Base(imm % ADDRESSES)),
+        0x04 => Ok(Code::Itop(imm % ADDRESSES)),
+        0x05 => Ok(Code::Stmod(imm % 4)),
+        0x06 => Ok(Code::Mskpath3(imm / 32768 % 2 == 1)),
+        0x07 => Ok(Code::Mark(imm)),
+        0x10 => Ok(Code::Flushe),
+        0x11 => Ok(Code::Flush),
+        0x13 => Ok(Code::Flusha),
+        0x14 => Ok(Code::Mscal(imm)),
+        0x15 => Ok(Code::Mscalf(imm)),
+        0x17 => Ok(Code::Mscnt),
+        0x20 => Ok(Code::Stmask),
+        0x30 => Ok(Code::Strow),
+        0x31 => Ok(Code::Stcol),
+        0x4a => Ok(Code::Mpg {
             address: imm % MPG_ADDRESSES,
             num,
         }),
-        0x50 => Decoded::Known(Code::Direct(quadwords_of(imm))),
-        0x51 => Decoded::Known(Code::Directhl(quadwords_of(imm))),
-        _ => Decoded::Unknown(refusals::CMD_UNLISTED),
-    }
-}
-
-fn unpack_code(format: NamedFormat, u: UnpackCode) -> Decoded
-    ensures { result ≡ unpack_code format u }
-{
-    match format {
-        NamedFormat::Named(f) => Decoded::Known(Code::Unpack(f, u)),
-        NamedFormat::Missing => Decoded::Unknown(refusals::FORMAT_MISSING),
+        0x50 => Ok(Code::Direct(quadwords_of(imm))),
+        0x51 => Ok(Code::Directhl(quadwords_of(imm))),
+        _ => Err(Refusal::CmdUnlisted),
     }
 }
 
@@ -69,20 +61,11 @@ fn unpack_numbers(cmd: u32, num: u32, imm: u32) -> UnpackCode
 }
 
 // The codes below 60h that VIF0 lacks.
+#[tactic(auto, unfolding(crate::specs::Codes::missing_code))]
 fn missing_code(cmd: u32) -> bool
     ensures { result ≡ missing_code cmd }
 {
-    match cmd {
-        0x02 => true,
-        0x03 => true,
-        0x06 => true,
-        0x11 => true,
-        0x13 => true,
-        0x15 => true,
-        0x50 => true,
-        0x51 => true,
-        _ => false,
-    }
+    matches!(cmd, 0x02 | 0x03 | 0x06 | 0x11 | 0x13 | 0x15 | 0x50 | 0x51)
 }
 
 // Whether a unit has a code below 60h.
@@ -95,24 +78,23 @@ pub(crate) fn code_listed(which: VifUnit, cmd: u32) -> bool
     }
 }
 
-fn code_of(which: VifUnit, cmd: u32, num: u32, imm: u32) -> Decoded
-    ensures { result ≡ code_of which cmd num imm }
+fn code_of(which: VifUnit, cmd: u32, num: u32, imm: u32) -> Result<Code, Refusal>
+    ensures { decoded result ≡ code_of which cmd num imm }
 {
     if 0x60 <= cmd {
-        return unpack_code(
-            unpack_rules::format_named(cmd % 16),
-            unpack_numbers(cmd, num, imm),
-        );
+        let f = unpack_rules::format_named(cmd % 16).ok_or(Refusal::FormatMissing)?;
+        return Ok(Code::Unpack(f, unpack_numbers(cmd, num, imm)));
     }
     if code_listed(which, cmd) {
-        return plain_code(cmd, num, imm);
+        plain_code(cmd, num, imm)
+    } else {
+        Err(Refusal::CmdUnlisted)
     }
-    Decoded::Unknown(refusals::CMD_UNLISTED)
 }
 
 // A word as a code of a unit, or the refusal of one that is not listed.
-pub fn decode(which: VifUnit, word: u32) -> Decoded
-    ensures { result ≡ decode_of which word }
+pub fn decode(which: VifUnit, word: u32) -> Result<Code, Refusal>
+    ensures { decoded result ≡ decode_of which word }
 {
     code_of(
         which,

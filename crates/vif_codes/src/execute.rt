@@ -1,17 +1,17 @@
 // What a code does in its own step, where it needs no data memory.
 ghost use Rattle.std.specs.Prelude.{◌≡◌, false, List, ℕ, ◌%◌};
+ghost use Rattle.fields.specs.Refusals.{refusal_in};
 ghost use Rattle.unpack_rules.specs.Position.{addresses};
 ghost use Rattle.vif_codes.specs.Setters.{with_waiting};
 ghost use Rattle.vif_codes.specs.Execute.{code_result, result_with, next_tops, started, start_program, set_mode, address_of, begin_mpg, begun_unpack, tops_refused, unpack_refusal};
 
-use super::registers::{with_mode, with_start, with_waiting};
-use super::{CodeResult, UnpackCode, Vif, VifAnswer, Waiting};
-use fields::refusals;
+use super::{CodeResult, Taken, UnpackCode, Vif, Waiting};
+use fields::Refusal;
 use memories::VifUnit;
 use unpack_rules::{ADDRESSES, Format, Unpacking};
 
 // What a code leaves.
-pub fn answered(answer: VifAnswer, unit: Vif, used: u64) -> CodeResult
+pub fn answered(answer: Result<Taken, Refusal>, unit: Vif, used: u64) -> CodeResult
     ensures { result ≡ code_result answer unit used }
 {
     CodeResult { answer, unit, used }
@@ -19,16 +19,16 @@ pub fn answered(answer: VifAnswer, unit: Vif, used: u64) -> CodeResult
 
 // A code without payload, taken.
 pub fn done(unit: Vif, interrupt: bool, used: u64) -> CodeResult
-    ensures { result ≡ code_result (VifAnswer.Word interrupt) unit used }
+    ensures { result ≡ code_result (Ok (Taken.Word interrupt)) unit used }
 {
-    answered(VifAnswer::Word(interrupt), unit, used)
+    answered(Ok(Taken::Word { interrupt }), unit, used)
 }
 
 // A code that waits for payload.
 pub fn waits(unit: Vif, waiting: Waiting, used: u64) -> CodeResult
-    ensures { result ≡ code_result (VifAnswer.Word false) (with_waiting unit waiting) used }
+    ensures { result ≡ code_result (Ok (Taken.Word false)) (with_waiting unit waiting) used }
 {
-    answered(VifAnswer::Word(false), with_waiting(unit, waiting), used)
+    done(unit.with_waiting(waiting), false, used)
 }
 
 fn next_tops(dbf: bool, unit: Vif) -> u32
@@ -46,11 +46,20 @@ fn start(which: VifUnit, unit: Vif) -> Vif
     ensures { result ≡ started which unit }
 {
     match which {
-        VifUnit::Vif0 => with_start(unit, unit.itops, unit.top, unit.dbf, unit.tops),
+        VifUnit::Vif0 => Vif {
+            itop: unit.itops,
+            ..unit
+        },
         VifUnit::Vif1 => {
             let dbf = !unit.dbf;
             let tops = next_tops(dbf, unit);
-            with_start(unit, unit.itops, unit.tops, dbf, tops)
+            Vif {
+                itop: unit.itops,
+                top: unit.tops,
+                dbf,
+                tops,
+                ..unit
+            }
         }
     }
 }
@@ -71,7 +80,7 @@ pub fn start_program(
     if gif::write_entry(log, used, gif::START_PATH, register, value as u64) {
         done(start(which, unit), interrupt, used + 1)
     } else {
-        answered(VifAnswer::Refused(refusals::LOG_FULL), unit, used)
+        answered(Err(Refusal::LogFull), unit, used)
     }
 }
 
@@ -80,9 +89,9 @@ pub fn set_mode(mode: u32, unit: Vif, interrupt: bool, used: u64) -> CodeResult
     ensures { result ≡ set_mode mode unit interrupt used }
 {
     if mode == 3 {
-        answered(VifAnswer::Refused(refusals::MODE_WRONG), unit, used)
+        answered(Err(Refusal::ModeWrong), unit, used)
     } else {
-        done(with_mode(unit, mode), interrupt, used)
+        done(unit.with_mode(mode), interrupt, used)
     }
 }
 
@@ -117,19 +126,17 @@ fn tops_refused(which: VifUnit, tops: bool) -> bool
     }
 }
 
-// The refusal of an UNPACK, 0 for none.
-pub fn unpack_refusal(which: VifUnit, u: UnpackCode, unit: Vif) -> u32
-    ensures { result ≡ unpack_refusal which u unit }
+// The refusal of an UNPACK.
+pub fn test_unpack(which: VifUnit, u: UnpackCode, unit: Vif) -> Result<(), Refusal>
+    ensures { refusal_in result ≡ unpack_refusal which u unit }
 {
-    let cycle = unpack_rules::cycle_refused(unit.cl, unit.wl);
-    let tops = tops_refused(which, u.tops);
-    if cycle {
-        return refusals::CYCLE_WRONG;
+    if unpack_rules::cycle_refused(unit.cl, unit.wl) {
+        return Err(Refusal::CycleWrong);
     }
-    if tops {
-        return refusals::TOPS_MISSING;
+    if tops_refused(which, u.tops) {
+        return Err(Refusal::TopsMissing);
     }
-    0
+    Ok(())
 }
 
 // MPG, all of whose payload is due.

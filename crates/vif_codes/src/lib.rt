@@ -13,15 +13,12 @@ mod words;
 pub use counting::counts_in;
 pub use decoding::decode;
 pub use execute::{
-    answered, begin_mpg, begun_unpack, done, set_mode, start_program, unpack_refusal, waits,
+    answered, begin_mpg, begun_unpack, done, set_mode, start_program, test_unpack, waits,
 };
+use fields::Refusal;
 pub use payload::{completed, mask_word, or_nothing};
 pub use range::unit_in_range;
-pub use registers::{
-    with_base, with_cycle, with_itops, with_mark, with_mskpath3, with_offset, with_row,
-    with_waiting, write_registers,
-};
-pub use words::{incoming_at, odd_word, word_in};
+pub use words::incoming_at;
 
 // MPG's addresses have eleven bits.
 pub(crate) const MPG_ADDRESSES: u32 = 2048;
@@ -64,13 +61,8 @@ pub enum Code {
     Unpack(unpack_rules::Format, UnpackCode),
 }
 
-#[derive(Clone, Copy)]
-pub enum Decoded {
-    Known(Code),
-    Unknown(u32),
-}
-
-// The code that waits for payload, with its numbers, what is still due (words; quadwords for DIRECT) and its interrupt bit.
+// The code that waits for payload, with its numbers, what is still due (words; quadwords for DIRECT) and its interrupt bit. MPG's numbers make no struct: the
+// definitions of a step and of the range name each by itself (`Range.waiting_in_range`, vif `Step.step_by`).
 #[derive(Clone, Copy)]
 pub enum Waiting {
     Nothing,
@@ -129,18 +121,17 @@ pub enum Incoming {
     Word3(u32),
 }
 
-// What was taken, and whether that completed a code with its interrupt bit, and a quadword closed a packet; or the refusal.
+// What was taken, and whether that completed a code with its interrupt bit, and a quadword closed a packet.
 #[derive(Clone, Copy)]
-pub enum VifAnswer {
-    Word(bool),
+pub enum Taken {
+    Word { interrupt: bool },
     Quadword { interrupt: bool, closed: bool },
-    Refused(u32),
 }
 
 // What a code's own step leaves, but for the log.
 #[derive(Clone, Copy)]
 pub struct CodeResult {
-    pub answer: VifAnswer,
+    pub answer: Result<Taken, Refusal>,
     pub unit: Vif,
     pub used: u64,
 }

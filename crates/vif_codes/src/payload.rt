@@ -2,14 +2,13 @@
 ghost use Rattle.std.specs.Prelude.{◌≡◌};
 ghost use Rattle.vif_codes.specs.Payload.{completes, or_nothing, mask_word};
 
-use super::registers::{with_mask, with_waiting};
 use super::{Vif, Waiting};
 
 // Whether the last unit of a payload completes an interrupt.
 pub fn completed(due: u32, interrupt: bool) -> bool
     ensures { result ≡ completes due interrupt }
 {
-    if due == 1 { interrupt } else { false }
+    due == 1 && interrupt
 }
 
 // What waits after a unit of a payload: nothing after the last.
@@ -23,5 +22,9 @@ pub fn or_nothing(due: u32, waiting: Waiting) -> Waiting
 pub fn mask_word(unit: Vif, word: u32) -> Vif
     ensures { result ≡ mask_word unit word }
 {
-    with_waiting(with_mask(unit, word), Waiting::Nothing)
+    Vif {
+        mask: word,
+        waiting: Waiting::Nothing,
+        ..unit
+    }
 }

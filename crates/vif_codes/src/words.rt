@@ -33,26 +33,23 @@ pub fn incoming_at(main: &[u8], a: u32) -> Incoming
     }
 }
 
-// The next word.
-pub fn word_in(next: Incoming) -> u32
-    ensures { result ≡ word_in next }
-{
-    match next {
-        Incoming::Word0(a, _, _, _) => a,
-        Incoming::Word1(a) => a,
-        Incoming::Word2(a) => a,
-        Incoming::Word3(a) => a,
+impl Incoming {
+    // The next word.
+    pub fn word(self) -> u32
+        ensures { result ≡ word_in self }
+    {
+        match self {
+            Incoming::Word0(a, ..) => a,
+            Incoming::Word1(a) => a,
+            Incoming::Word2(a) => a,
+            Incoming::Word3(a) => a,
+        }
     }
-}
 
-// Whether it is word 1 or 3 of its quadword.
-pub fn odd_word(next: Incoming) -> bool
-    ensures { result ≡ odd_word next }
-{
-    match next {
-        Incoming::Word0(_, _, _, _) => false,
-        Incoming::Word1(_) => true,
-        Incoming::Word2(_) => false,
-        Incoming::Word3(_) => true,
+    // Whether it is word 1 or 3 of its quadword.
+    pub fn is_odd(self) -> bool
+        ensures { result ≡ odd_word self }
+    {
+        matches!(self, Incoming::Word1(_) | Incoming::Word3(_))
     }
 }

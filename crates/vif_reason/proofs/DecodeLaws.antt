@@ -1,4 +1,5 @@
 -- What a decoded word says of the word.
+use Rattle.std.specs.Prelude.{None, Option, Some}
 use mathlib.Core.Path.{◌≡◌, refl}
 use mathlib.Core.Bool.{Bool, true, false}
 use Prim.Native.Nat.{ℕ, ◌+◌, ◌/◌, ◌%◌, ◌<◌, ◌≤◌}
@@ -11,14 +12,11 @@ use Rattle.fields.proofs.ChoiceLaws.{if_ind_by, and_false}
 use Rattle.fields.proofs.FieldLaws.{bits_below}
 use Rattle.memories.specs.declared.VifUnit.{VifUnit}
 use Rattle.unpack_rules.specs.declared.Format.{Format}
-use Rattle.unpack_rules.specs.declared.NamedFormat.{NamedFormat}
-use Rattle.unpack_rules.specs.declared.NamedFormat.TheVariants.{Named, Missing}
 use Rattle.unpack_rules.specs.Formats.{named_in, format_named}
 use Rattle.vif_codes.specs.declared.Code.{Code}
 use Rattle.vif_codes.specs.declared.Code.TheVariants.{Nop, Stcycl, Offset, Base, Itop, Stmod, Mskpath3, Mark, Flushe, Flush, Flusha, Mscal, Mscalf, Mscnt, Stmask, Strow, Stcol, Mpg, Direct, Directhl, Unpack}
 use Rattle.vif_codes.specs.declared.UnpackCode.{UnpackCode}
-use Rattle.vif_codes.specs.declared.Decoded.{Decoded}
-use Rattle.vif_codes.specs.declared.Decoded.TheVariants.{Known, Unknown}
+use Rattle.vif_codes.specs.Decoded.{Decoded, Known, Unknown}
 use Rattle.vif_codes.specs.Codes.{cmd_of, num_of, imm_of, code_listed, plain_code, unpack_code, unpack_numbers, code_of, decode_of}
 use Rattle.vif_reason.specs.Reason.{vl_of, vn_of}
 use Rattle.vif_reason.specs.Fault.{listed, listed_on, IsUnpack, StartsProgram, mscal, mscalf, mscnt}
@@ -143,7 +141,7 @@ module _ (which : VifUnit) (word : ℕ) where
 
 -- ---- the formats
 
-no_named : {f : Format} → Named f ≡ Missing → ⊥
+no_named : {f : Format} → Some f ≡ None → ⊥
 no_named e = let z : ◌≡◌ {A = ℕ} 0 1 = cc in omega arith
 
 -- "21 vl 3 with vn below 3"
@@ -182,42 +180,42 @@ leftover n l e0 e1 e2 e4 e5 e6 e8 e9 e10 e12 e13 e14 e15 = at_three (eqb n 3) re
     at_three true w = three n (eqb-true n 3 w)
     at_three false w = at_seven (eqb n 7) refl (above 6 n (above 5 n (above 4 n (above 3 n low w) e4) e5) e6)
 
-missing_format : (n : ℕ) → n < 16 → format_named n ≡ Missing → NoFormat n
+missing_format : (n : ℕ) → n < 16 → format_named n ≡ None → NoFormat n
 unfolding named_in
 missing_format n l =
-    if_ind_by (λ (f : NamedFormat). f ≡ Missing → NoFormat n) (eqb n 0) (λ e q. absurd (no_named q))
+    if_ind_by (λ (f : Option Format). f ≡ None → NoFormat n) (eqb n 0) (λ e q. absurd (no_named q))
     (λ e0.
-    if_ind_by (λ (f : NamedFormat). f ≡ Missing → NoFormat n) (eqb n 1) (λ e q. absurd (no_named q))
+    if_ind_by (λ (f : Option Format). f ≡ None → NoFormat n) (eqb n 1) (λ e q. absurd (no_named q))
     (λ e1.
-    if_ind_by (λ (f : NamedFormat). f ≡ Missing → NoFormat n) (eqb n 2) (λ e q. absurd (no_named q))
+    if_ind_by (λ (f : Option Format). f ≡ None → NoFormat n) (eqb n 2) (λ e q. absurd (no_named q))
     (λ e2.
-    if_ind_by (λ (f : NamedFormat). f ≡ Missing → NoFormat n) (eqb n 4) (λ e q. absurd (no_named q))
+    if_ind_by (λ (f : Option Format). f ≡ None → NoFormat n) (eqb n 4) (λ e q. absurd (no_named q))
     (λ e4.
-    if_ind_by (λ (f : NamedFormat). f ≡ Missing → NoFormat n) (eqb n 5) (λ e q. absurd (no_named q))
+    if_ind_by (λ (f : Option Format). f ≡ None → NoFormat n) (eqb n 5) (λ e q. absurd (no_named q))
     (λ e5.
-    if_ind_by (λ (f : NamedFormat). f ≡ Missing → NoFormat n) (eqb n 6) (λ e q. absurd (no_named q))
+    if_ind_by (λ (f : Option Format). f ≡ None → NoFormat n) (eqb n 6) (λ e q. absurd (no_named q))
     (λ e6.
-    if_ind_by (λ (f : NamedFormat). f ≡ Missing → NoFormat n) (eqb n 8) (λ e q. absurd (no_named q))
+    if_ind_by (λ (f : Option Format). f ≡ None → NoFormat n) (eqb n 8) (λ e q. absurd (no_named q))
     (λ e8.
-    if_ind_by (λ (f : NamedFormat). f ≡ Missing → NoFormat n) (eqb n 9) (λ e q. absurd (no_named q))
+    if_ind_by (λ (f : Option Format). f ≡ None → NoFormat n) (eqb n 9) (λ e q. absurd (no_named q))
     (λ e9.
-    if_ind_by (λ (f : NamedFormat). f ≡ Missing → NoFormat n) (eqb n 10) (λ e q. absurd (no_named q))
+    if_ind_by (λ (f : Option Format). f ≡ None → NoFormat n) (eqb n 10) (λ e q. absurd (no_named q))
     (λ e10.
-    if_ind_by (λ (f : NamedFormat). f ≡ Missing → NoFormat n) (eqb n 12) (λ e q. absurd (no_named q))
+    if_ind_by (λ (f : Option Format). f ≡ None → NoFormat n) (eqb n 12) (λ e q. absurd (no_named q))
     (λ e12.
-    if_ind_by (λ (f : NamedFormat). f ≡ Missing → NoFormat n) (eqb n 13) (λ e q. absurd (no_named q))
+    if_ind_by (λ (f : Option Format). f ≡ None → NoFormat n) (eqb n 13) (λ e q. absurd (no_named q))
     (λ e13.
-    if_ind_by (λ (f : NamedFormat). f ≡ Missing → NoFormat n) (eqb n 14) (λ e q. absurd (no_named q))
+    if_ind_by (λ (f : Option Format). f ≡ None → NoFormat n) (eqb n 14) (λ e q. absurd (no_named q))
     (λ e14.
-    if_ind_by (λ (f : NamedFormat). f ≡ Missing → NoFormat n) (eqb n 15) (λ e q. absurd (no_named q))
+    if_ind_by (λ (f : Option Format). f ≡ None → NoFormat n) (eqb n 15) (λ e q. absurd (no_named q))
     (λ e15.
     λ q. leftover n l e0 e1 e2 e4 e5 e6 e8 e9 e10 e12 e13 e14 e15)))))))))))))
 
 module _ (which : VifUnit) (word : ℕ) where
-  unpack_says : 0x60 ≤ cmd_of word → (f : NamedFormat) → format_named (bits (cmd_of word) 0 3) ≡ f → Says which word (unpack_code f (unpack_numbers (cmd_of word) (num_of word) (imm_of word)))
+  unpack_says : 0x60 ≤ cmd_of word → (f : Option Format) → format_named (bits (cmd_of word) 0 3) ≡ f → Says which word (unpack_code f (unpack_numbers (cmd_of word) (num_of word) (imm_of word)))
   unfolding unpack_numbers bits
-  unpack_says l (Named f) e = record { is_unpack = record { above = l }; bit15 = refl }
-  unpack_says l Missing e =
+  unpack_says l (Some f) e = record { is_unpack = record { above = l }; bit15 = refl }
+  unpack_says l None e =
       let m = missing_format (bits (cmd_of word) 0 3) (bits_below (cmd_of word) 0 3) e in
       let a = m.vl in
       let b = m.vn in

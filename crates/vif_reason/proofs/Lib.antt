@@ -1,5 +1,4 @@
 -- Laws of the definitions, by subject; the crates above cite them.
-pub mod CaseLaws
 pub mod Trial
 pub mod DecodeLaws
 pub mod Truth

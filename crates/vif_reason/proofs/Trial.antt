@@ -1,4 +1,7 @@
 -- A word tried on memories and a log of its own is refused as it would be on others, but for want of room in the log.
+use Rattle.std.specs.Prelude.{None, Option, Some, Ok, Err}
+use Rattle.fields.specs.declared.refusals.Refusal.TheVariants.{ModeWrong}
+use Rattle.vif_codes.specs.declared.Taken.TheVariants.{Word as TakenWord}
 use mathlib.Core.Path.{◌≡◌, refl, sym, ◌∙◌}
 use mathlib.Core.Bool.{Bool, true, false, not}
 use mathlib.Core.List.{List, [], ◌∷◌}
@@ -12,26 +15,21 @@ use Rattle.fields.specs.Refusals.{cmd_unlisted, format_missing, mode_wrong, dire
 use Rattle.fields.proofs.ChoiceLaws.{if_ind}
 use Rattle.gif.specs.declared.GifPath.TheVariants.{Two}
 use Rattle.gif.specs.declared.Path.{Path}
-use Rattle.gif.specs.declared.GifAnswer.{GifAnswer}
-use Rattle.gif.specs.declared.GifAnswer.TheVariants.{Taken, Refused as GifRefused}
+use Rattle.gif.specs.GifAnswer.{GifAnswer, Taken, Refused as GifRefused}
 use Rattle.gif.specs.Log.{entry_size, start_entry, logged, lacks_room}
 use Rattle.gif.specs.Step.{Left as GifLeft, gif_step}
 use Rattle.memories.specs.declared.VifUnit.{VifUnit}
 use Rattle.memories.specs.Lengths.{Lent}
 use Rattle.unpack_rules.specs.declared.Format.{Format}
-use Rattle.unpack_rules.specs.declared.NamedFormat.{NamedFormat}
-use Rattle.unpack_rules.specs.declared.NamedFormat.TheVariants.{Named, Missing}
 use Rattle.unpack_rules.specs.Formats.{format_named}
 use Rattle.unpack_rules.specs.Range.{cycle_refused}
 use Rattle.vif_codes.specs.declared.Code.{Code}
 use Rattle.vif_codes.specs.declared.Code.TheVariants.{Nop, Stcycl, Offset, Base, Itop, Stmod, Mskpath3, Mark, Flushe, Flush, Flusha, Mscal, Mscalf, Mscnt, Stmask, Strow, Stcol, Mpg, Direct, Directhl, Unpack}
 use Rattle.vif_codes.specs.declared.UnpackCode.{UnpackCode}
-use Rattle.vif_codes.specs.declared.Decoded.{Decoded}
-use Rattle.vif_codes.specs.declared.Decoded.TheVariants.{Known, Unknown}
+use Rattle.vif_codes.specs.Decoded.{Decoded, Known, Unknown}
 use Rattle.vif_codes.specs.declared.Incoming.{Incoming}
 use Rattle.vif_codes.specs.declared.Incoming.TheVariants.{Word0, Word1, Word2, Word3}
-use Rattle.vif_codes.specs.declared.VifAnswer.{VifAnswer}
-use Rattle.vif_codes.specs.declared.VifAnswer.TheVariants.{Word, Quadword, Refused}
+use Rattle.vif_codes.specs.VifAnswer.{VifAnswer, Word, Quadword, Refused}
 use Rattle.vif_codes.specs.declared.Waiting.{Waiting}
 use Rattle.vif_codes.specs.declared.Waiting.TheVariants.{Nothing, MaskDue, RowDue, ColDue, MpgDue, DirectDue, DirecthlDue, UnpackDue}
 use Rattle.vif_codes.specs.declared.Vif.{Vif}
@@ -84,9 +82,9 @@ plain_otherwise cmd num imm =
     (if_ind Otherwise _ (known _)
     (if_ind Otherwise _ (known _) (unknown cmd_unlisted (λ e. omega arith)))))))))))))))))))))
 
-unpack_otherwise : (f : NamedFormat) (u : UnpackCode) → Otherwise (unpack_code f u)
-unpack_otherwise (Named f) u = known _
-unpack_otherwise Missing u = unknown format_missing (λ e. omega arith)
+unpack_otherwise : (f : Option Format) (u : UnpackCode) → Otherwise (unpack_code f u)
+unpack_otherwise (Some f) u = known _
+unpack_otherwise None u = unknown format_missing (λ e. omega arith)
 
 decoded_otherwise : (which : VifUnit) (word : ℕ) → Otherwise (decode_of which word)
 unfolding decode_of code_of
@@ -122,8 +120,8 @@ module _ (which : VifUnit) (v : Vif) (used : ℕ) (mem log : List ℕ) (fits : e
   unfolding set_mode if
   tried_mode m i = go (eqb m 3)
     where
-      go : (b : Bool) → TriedCode (result_with (if b (code_result (Refused mode_wrong) v used) (code_result (Word i) (with_mode v m) used)) mem log)
-          (result_with (if b (code_result (Refused mode_wrong) v 0) (code_result (Word i) (with_mode v m) 0)) mem' spare)
+      go : (b : Bool) → TriedCode (result_with (if b (code_result (Err ModeWrong) v used) (code_result (Ok (TakenWord i)) (with_mode v m) used)) mem log)
+          (result_with (if b (code_result (Err ModeWrong) v 0) (code_result (Ok (TakenWord i)) (with_mode v m) 0)) mem' spare)
       go true = refusal mode_wrong (λ e. omega arith)
       go false = plain i i _ _ _ _
 

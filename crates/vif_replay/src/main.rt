@@ -3,219 +3,71 @@
 
 mod input;
 mod run;
-mod start;
 
-use cases::{LOG_NUMBERS, fill_memories, tell_damaged};
-use gif::Path;
-use input::{least, read_case};
-use memories::VifUnit;
-use run::run_groups;
-use start::{case_of, running_of};
-use state_block::{PATH_WORDS, UNIT_WORDS};
-use vif_codes::Vif;
-use wire::{joined, word_at};
+use cases::{Damaged, LOG_NUMBERS, Memories, run_cases};
+use input::{header_right, read_input};
+use run::Running;
+use wire::{Output, long_at, word_at};
 
-// A case but for its memories and words: its unit, the number of its first word, how many groups and words, and its blocks. `known` says whether the blocks
-// are a unit's and a path's.
-#[derive(Clone, Copy)]
-struct Case {
-    which: VifUnit,
-    number: u32,
-    groups: u32,
-    count: u32,
-    known: bool,
-    unit: [u32; UNIT_WORDS],
-    path: [u32; PATH_WORDS],
-}
+// The most words after a header: the groups' lengths, and the calls' words.
+const INPUT_WORDS: usize = 327680;
 
-// Where the results stand, and what is given to the next call.
-#[derive(Clone, Copy)]
-struct Running {
-    at: usize,
-    next: u32,
-    unit: Vif,
-    path: Path,
-    used: u64,
-}
-
-// Where the results stand after a case, and whether the case was whole.
-#[derive(Clone, Copy)]
-struct Ended {
-    at: usize,
-    whole: bool,
-}
-
-// A case that was read, on its memories.
+// One case whose header was read, on its memories and on what they held before a group.
 fn run_case(
-    out: &mut [u8; 65536],
-    at: usize,
+    out: &mut Output,
     header: &[u8],
-    input: &[u64],
-    data: &mut [u32],
-    code: &mut [u8],
-    log: &mut [u64],
-    data_before: &mut [u32],
-    code_before: &mut [u8],
-    log_before: &mut [u64],
-) -> Ended {
-    let first = joined(word_at(header, 24), word_at(header, 28));
-    fill_memories(data, code, log, first);
-    fill_memories(data_before, code_before, log_before, first);
-    let n = run_groups(
-        out,
-        running_of(header, at),
-        case_of(header),
-        input,
-        data,
-        code,
-        log,
-        data_before,
-        code_before,
-        log_before,
-    );
-    Ended { at: n, whole: true }
-}
-
-// A case that was read, if its memories are within their limits.
-fn take_case(
-    out: &mut [u8; 65536],
-    at: usize,
-    header: &[u8],
-    input: &[u64],
-    data: &mut [u32],
-    code: &mut [u8],
-    log: &mut [u64],
-    data_before: &mut [u32],
-    code_before: &mut [u8],
-    log_before: &mut [u64],
-) -> Ended {
-    let d = word_at(header, 4) as usize;
-    let c = word_at(header, 8) as usize;
-    let l = word_at(header, 12) as usize;
-    if least(data.len(), data_before.len()) < d {
-        return Ended { at, whole: false };
+    input: &mut [u32],
+    now: &mut Memories<'_>,
+    before: &mut Memories<'_>,
+) -> Result<(), Damaged> {
+    if !header_right(header) {
+        return Err(Damaged);
     }
-    if least(code.len(), code_before.len()) < c {
-        return Ended { at, whole: false };
+    let groups = word_at(header, 200) as usize;
+    let count = word_at(header, 204) as usize;
+    let input = input.get_mut(..groups + count).ok_or(Damaged)?;
+    read_input(input)?;
+    let (lengths, words) = input.split_at(groups);
+    if lengths.iter().any(|length| 65535 < *length) {
+        return Err(Damaged);
     }
-    if least(log.len(), log_before.len()) < l {
-        return Ended { at, whole: false };
+    let data = word_at(header, 4) as usize;
+    let code = word_at(header, 8) as usize;
+    let log = word_at(header, 12) as usize;
+    let mut now = now.lend(data, code, log)?;
+    let mut before = before.lend(data, code, log)?;
+    let fill = long_at(header, 24);
+    now.fill(fill);
+    before.fill(fill);
+    let mut running = Running::new(header, words);
+    for length in lengths {
+        running.take_group(out, *length, &mut now);
+        running.tell(out);
+        now.tell(&mut before, out);
+        running.read_back();
     }
-    run_case(
-        out,
-        at,
-        header,
-        input,
-        &mut data[..d],
-        &mut code[..c],
-        &mut log[..l],
-        &mut data_before[..d],
-        &mut code_before[..c],
-        &mut log_before[..l],
-    )
-}
-
-// One case whose header was read.
-fn next_case(
-    out: &mut [u8; 65536],
-    at: usize,
-    header: &[u8],
-    input: &mut [u64],
-    data: &mut [u32],
-    code: &mut [u8],
-    log: &mut [u64],
-    data_before: &mut [u32],
-    code_before: &mut [u8],
-    log_before: &mut [u64],
-) -> Ended {
-    if !read_case(header, input) {
-        return Ended { at, whole: false };
-    }
-    take_case(
-        out,
-        at,
-        header,
-        input,
-        data,
-        code,
-        log,
-        data_before,
-        code_before,
-        log_before,
-    )
-}
-
-// Reads the next header; where there is none, or a part of one, that ends the results.
-fn read_header(out: &[u8; 65536], at: usize, number: u64, header: &mut [u8]) -> bool {
-    let got = io::read_full(0, header);
-    if got == 0 {
-        wire::flush(out, at);
-        return false;
-    }
-    if got < 212 {
-        tell_damaged(out, at, number);
-        return false;
-    }
-    true
-}
-
-fn run_all(
-    out: &mut [u8; 65536],
-    header: &mut [u8; 212],
-    input: &mut [u64; 163840],
-    data: &mut [u32; 4100],
-    code: &mut [u8; 16392],
-    log: &mut [u64; LOG_NUMBERS],
-    data_before: &mut [u32; 4100],
-    code_before: &mut [u8; 16392],
-    log_before: &mut [u64; LOG_NUMBERS],
-) {
-    let mut at = 0;
-    let mut number: u64 = 0;
-    while number < 18446744073709551615 {
-        if !read_header(out, at, number, header) {
-            return;
-        }
-        let done = next_case(
-            out,
-            at,
-            header,
-            input,
-            data,
-            code,
-            log,
-            data_before,
-            code_before,
-            log_before,
-        );
-        at = done.at;
-        if !done.whole {
-            tell_damaged(out, at, number);
-            return;
-        }
-        number += 1;
-    }
+    Ok(())
 }
 
 fn main() {
-    let mut out = [0u8; 65536];
-    let mut header = [0u8; 212];
-    let mut input = [0u64; 163840];
+    let mut input = [0u32; INPUT_WORDS];
     let mut data = [0u32; 4100];
     let mut code = [0u8; 16392];
     let mut log = [0u64; LOG_NUMBERS];
     let mut data_before = [0u32; 4100];
     let mut code_before = [0u8; 16392];
     let mut log_before = [0u64; LOG_NUMBERS];
-    run_all(
-        &mut out,
-        &mut header,
-        &mut input,
-        &mut data,
-        &mut code,
-        &mut log,
-        &mut data_before,
-        &mut code_before,
-        &mut log_before,
-    );
+    let mut now = Memories {
+        data: &mut data,
+        code: &mut code,
+        log: &mut log,
+    };
+    let mut before = Memories {
+        data: &mut data_before,
+        code: &mut code_before,
+        log: &mut log_before,
+    };
+    run_cases(&mut [0; 212], |out, header| {
+        run_case(out, header, &mut input, &mut now, &mut before)
+    });
 }

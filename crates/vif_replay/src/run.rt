@@ -1,221 +1,152 @@
 // The calls of a case, group by group.
-use super::input::nth;
-use super::{Case, Running};
-use cases::tell_changes;
+use cases::{Memories, words_at};
+use fields::Refusal;
 use gif::Path;
-use state_block::{PATH_WORDS, UNIT_WORDS};
-use vif_codes::{Incoming, Vif, VifAnswer};
-use wire::{emit, emit_all, emit_long};
+use memories::VifUnit;
+use state_block::{
+    PATH_WORDS, UNIT_WORDS, path_block, path_given, path_in_block, unit_block, unit_given,
+    unit_in_block,
+};
+use vif_codes::{Incoming, Taken, Vif};
+use wire::{Output, long_at, word_at};
 
-fn after(input: &[u64], i: u32, k: u32) -> u32 {
-    nth(input, std::num::wrapping_add_u32(i, k))
+// A unit and its path as blocks.
+#[derive(Clone, Copy)]
+struct Blocks {
+    unit: [u32; UNIT_WORDS],
+    path: [u32; PATH_WORDS],
+}
+
+impl Blocks {
+    fn of(unit: Vif, path: Path) -> Blocks {
+        Blocks {
+            unit: unit_block(unit),
+            path: path_block(path),
+        }
+    }
+
+    fn known(&self) -> bool {
+        unit_in_block(&self.unit).is_some() && path_in_block(&self.path).is_some()
+    }
+}
+
+// What is given to the next call: the words that are left, and the next one's number in its quadword; and the case's blocks.
+#[derive(Clone, Copy)]
+pub(crate) struct Running<'a> {
+    which: VifUnit,
+    words: &'a [u32],
+    number: u32,
+    unit: Vif,
+    path: Path,
+    used: u64,
+    given: Blocks,
+}
+
+// A word that is left.
+fn nth(words: &[u32], i: usize) -> u32 {
+    words.get(i).copied().unwrap_or(0)
 }
 
 // The next word, with its number in its quadword.
-fn incoming(input: &[u64], i: u32, number: u32) -> Incoming {
-    let word = nth(input, i);
+fn incoming(words: &[u32], number: u32) -> Incoming {
+    let word = nth(words, 0);
     match number % 4 {
-        0 => Incoming::Word0(
-            word,
-            after(input, i, 1),
-            after(input, i, 2),
-            after(input, i, 3),
-        ),
+        0 => Incoming::Word0(word, nth(words, 1), nth(words, 2), nth(words, 3)),
         1 => Incoming::Word1(word),
         2 => Incoming::Word2(word),
         _ => Incoming::Word3(word),
     }
 }
 
-fn answer_word(answer: VifAnswer) -> u32 {
+fn flag(set: bool, value: u32) -> u32 {
+    if set { value } else { 0 }
+}
+
+fn answer_word(answer: Result<Taken, Refusal>) -> u32 {
     match answer {
-        VifAnswer::Word(interrupt) => told(0, interrupt),
-        VifAnswer::Quadword { interrupt, closed } => {
-            std::num::wrapping_add_u32(told(1, interrupt), closing(closed))
-        }
-        VifAnswer::Refused(n) => std::num::wrapping_add_u32(65536, n),
+        Ok(Taken::Word { interrupt }) => flag(interrupt, 256),
+        Ok(Taken::Quadword { interrupt, closed }) => 1 | flag(interrupt, 256) | flag(closed, 512),
+        Err(refusal) => refusal.number().wrapping_add(65536),
     }
-}
-
-fn told(kind: u32, interrupt: bool) -> u32 {
-    if interrupt {
-        return std::num::wrapping_add_u32(kind, 256);
-    }
-    kind
-}
-
-fn closing(closed: bool) -> u32 {
-    if closed { 512 } else { 0 }
 }
 
 // The words that a call took; a refused one is passed over.
-fn passed(answer: VifAnswer) -> u32 {
+fn passed(answer: Result<Taken, Refusal>) -> u32 {
     match answer {
-        VifAnswer::Word(_) => 1,
-        VifAnswer::Quadword { .. } => 4,
-        VifAnswer::Refused(_) => 1,
+        Ok(Taken::Quadword { .. }) => 4,
+        _ => 1,
     }
 }
 
-fn call(
-    out: &mut [u8; 65536],
-    s: Running,
-    case: Case,
-    input: &[u64],
-    data: &mut [u32],
-    code: &mut [u8],
-    log: &mut [u64],
-) -> Running {
-    let unit = s.unit;
-    let path = s.path;
-    let i = std::num::wrapping_add_u32(case.groups, s.next);
-    let number = std::num::wrapping_add_u32(case.number, s.next);
-    let next = incoming(input, i, number);
-    let which = case.which;
-    let r = vif::take(which, unit, path, next, data, code, log, s.used);
-    let answer = r.answer;
-    let unit2 = r.unit;
-    let path2 = r.path2;
-    let at = emit(out, s.at, answer_word(answer));
-    Running {
-        at,
-        next: std::num::wrapping_add_u32(s.next, passed(answer)),
-        unit: unit2,
-        path: path2,
-        used: r.used,
-    }
-}
-
-// The calls of one group, or those before the words' end.
-fn calls(
-    out: &mut [u8; 65536],
-    start: Running,
-    case: Case,
-    count: u32,
-    input: &[u64],
-    data: &mut [u32],
-    code: &mut [u8],
-    log: &mut [u64],
-) -> Running {
-    let mut s = start;
-    let mut left = count;
-    while 0 < left {
-        if case.count <= s.next {
-            return s;
+impl<'a> Running<'a> {
+    // What a case starts from. Blocks that are no unit's or no path's stand for what is out of range.
+    pub(crate) fn new(header: &[u8], words: &'a [u32]) -> Running<'a> {
+        let given = Blocks {
+            unit: words_at(header, 32),
+            path: words_at(header, 160),
+        };
+        Running {
+            which: match word_at(header, 208) {
+                0 => VifUnit::Vif0,
+                _ => VifUnit::Vif1,
+            },
+            words,
+            number: word_at(header, 196),
+            unit: unit_given(&given.unit),
+            path: path_given(&given.path),
+            used: long_at(header, 16),
+            given,
         }
-        s = call(out, s, case, input, data, code, log);
-        left = left - 1;
     }
-    s
-}
 
-// The blocks that a result shows.
-fn shown_unit(case: Case, unit: Vif) -> [u32; UNIT_WORDS] {
-    if case.known {
-        return state_block::unit_block(unit);
-    }
-    case.unit
-}
-
-fn shown_path(case: Case, path: Path) -> [u32; PATH_WORDS] {
-    if case.known {
-        return state_block::path_block(path);
-    }
-    case.path
-}
-
-fn tell_state(out: &mut [u8; 65536], s: Running, case: Case) -> usize {
-    let unit = s.unit;
-    let path = s.path;
-    let unit_block = shown_unit(case, unit);
-    let path_block = shown_path(case, path);
-    let a = emit(out, s.at, 4294967295);
-    let b = emit_long(out, a, s.used);
-    let c = emit_all(out, b, &unit_block);
-    emit_all(out, c, &path_block)
-}
-
-fn path_back(path: Path) -> Path {
-    let block = state_block::path_block(path);
-    let r = state_block::path_in_block(&block);
-    r.path
-}
-
-// The unit and the path, read back from their blocks.
-fn read_back(s: Running, at: usize) -> Running {
-    let unit = s.unit;
-    let path = s.path;
-    let block = state_block::unit_block(unit);
-    let r = state_block::unit_in_block(&block);
-    let unit2 = r.unit;
-    Running {
-        at,
-        next: s.next,
-        unit: unit2,
-        path: path_back(path),
-        used: s.used,
-    }
-}
-
-// One group: its calls, and its result.
-fn group(
-    out: &mut [u8; 65536],
-    s: Running,
-    case: Case,
-    k: u32,
-    input: &[u64],
-    data: &mut [u32],
-    code: &mut [u8],
-    log: &mut [u64],
-    data_before: &mut [u32],
-    code_before: &mut [u8],
-    log_before: &mut [u64],
-) -> Running {
-    let t = calls(out, s, case, nth(input, k), input, data, code, log);
-    let first = tell_state(out, t, case);
-    let at = tell_changes(
-        out,
-        first,
-        data,
-        code,
-        log,
-        data_before,
-        code_before,
-        log_before,
-    );
-    read_back(t, at)
-}
-
-// All groups of a case.
-pub(crate) fn run_groups(
-    out: &mut [u8; 65536],
-    start: Running,
-    case: Case,
-    input: &[u64],
-    data: &mut [u32],
-    code: &mut [u8],
-    log: &mut [u64],
-    data_before: &mut [u32],
-    code_before: &mut [u8],
-    log_before: &mut [u64],
-) -> usize {
-    let mut s = start;
-    let mut k = 0;
-    while k < case.groups {
-        s = group(
-            out,
-            s,
-            case,
-            k,
-            input,
-            data,
-            code,
-            log,
-            data_before,
-            code_before,
-            log_before,
+    fn take(&mut self, out: &mut Output, memories: &mut Memories<'_>) {
+        let next = incoming(self.words, self.number);
+        let r = vif::take(
+            self.which,
+            self.unit,
+            self.path,
+            next,
+            memories.data,
+            memories.code,
+            memories.log,
+            self.used,
         );
-        k += 1;
+        let taken = passed(r.answer);
+        out.emit(answer_word(r.answer));
+        self.words = self.words.get(taken as usize..).unwrap_or(&[]);
+        self.number = self.number.wrapping_add(taken);
+        self.unit = r.unit;
+        self.path = r.path2;
+        self.used = r.used;
     }
-    s.at
+
+    // The calls of one group, or those before the words' end.
+    pub(crate) fn take_group(&mut self, out: &mut Output, count: u32, memories: &mut Memories<'_>) {
+        for _ in 0..count {
+            if self.words.is_empty() {
+                break;
+            }
+            self.take(out, memories);
+        }
+    }
+
+    // Puts the entries used and the blocks into the results; blocks that are no unit's or no path's as they were given.
+    pub(crate) fn tell(&self, out: &mut Output) {
+        let blocks = if self.given.known() {
+            Blocks::of(self.unit, self.path)
+        } else {
+            self.given
+        };
+        out.emit(u32::MAX);
+        out.emit(self.used);
+        out.emit_all(&blocks.unit);
+        out.emit_all(&blocks.path);
+    }
+
+    // The unit and the path, read back from their blocks.
+    pub(crate) fn read_back(&mut self) {
+        let blocks = Blocks::of(self.unit, self.path);
+        self.unit = unit_given(&blocks.unit);
+        self.path = path_given(&blocks.path);
+    }
 }

@@ -1,12 +1,12 @@
--- A word inside a buffer, and one that is not.
-use mathlib.Core.Path.{◌≡◌, ap, ◌∙◌}
-use mathlib.Core.List.{List, [], ◌∷◌}
-use Prim.Native.Nat.{ℕ, ◌+◌, ◌<◌, ◌≤◌}
+-- A word inside a buffer, and one that is not; words sent one after another.
+use Rattle.std.proofs.Common.{◌≡◌, refl, ap, sym, ◌∙◌, List, [], ◌∷◌, ◌++◌, ℕ, ◌+◌, ◌-◌, ◌/◌, ◌%◌, ◌^◌, ◌<◌, ◌≤◌, suc, length, get_or, take, drop, drop-cons, append_assoc, add-one, arith}
+use Rattle.std.specs.Int.{w32, to_le_bytes}
 use borrow.Author.Tests.{le-leb, lt-leb}
-use native.Mathlib.Numerals.{add-one}
-use lib.ListN.{length, get_or, drop, drop_of_length-le}
-use lib.Seq.{drop-cons}
-use Rattle.wire.specs.Words.{if, whole_at, stored_at, word_at, with_word, Sent, sent, sent_all}
+use borrow.Rule.Slice.PartMut.{put_mid, Post-is}
+use Rattle.std.specs.List.{flat_map}
+use lib.Seq.{sets-eq}
+use Rattle.wire.specs.declared.Output.{Output}
+use Rattle.wire.specs.Words.{if, whole_at, word_at, with_word, one, sent_all}
 
 module _ (b : List ℕ) (a : ℕ) where
   pub word_out : length b < a + 4 → 0 ≡ word_at b a
@@ -21,21 +21,29 @@ module _ (b : List ℕ) (a : ℕ) where
   unfolding with_word if
   stored_out x h = rw (lt-leb (a + 4) (length b) h)
 
-  pub stored_in : (x : ℕ) → a + 4 ≤ length b → stored_at b a x ≡ with_word b a x
+  pub stored_in : (x : ℕ) → x < 2 ^ 32 → a + 4 ≤ length b → put_mid a (a + 4 - a) b (to_le_bytes w32 x) ≡ with_word b a x
   unfolding with_word if
-  stored_in x h = rw (le-leb (a + 4) (length b) h)
+  stored_in x small h =
+      let top : x / 16777216 % 256 ≡ x / 16777216 = omega arith in
+      let one : a + 1 ≡ suc a = omega arith in
+      let two : a + 2 ≡ suc (suc a) = omega arith in
+      let three : a + 3 ≡ suc (suc (suc a)) = omega arith in
+      rw (le-leb (a + 4) (length b) h, Post-is a (a + 4) b (omega arith), one, two, three, top)
+      (rw top at (sym (sets-eq (to_le_bytes w32 x) b a h ∙ append_assoc (take a b) (to_le_bytes w32 x) (drop (a + 4) b))))
 
--- one word more, and none left
-module _ (ws : List ℕ) (i : ℕ) (out : List ℕ) (n : ℕ) where
-  pub sent_more : i < length ws → {o : List ℕ} {m : ℕ} → sent o m ≡ sent_all out n (get_or ws i 0 ∷ [])
-      → sent_all o m (drop (i + 1) ws) ≡ sent_all out n (drop i ws)
-  sent_more h e =
-      rw (add-one, drop-cons ws i 0, ap (λ (s : Sent). s.out) e, ap (λ (s : Sent). s.at) e)
+-- words sent after words
+pub sent_joined : (xs ys out : List ℕ) (at : ℕ) → sent_all (sent_all out at xs).out (sent_all out at xs).at ys ≡ sent_all out at (xs ++ ys)
+sent_joined [] ys out at = refl
+sent_joined (x ∷ xs) ys out at = sent_joined xs ys _ _
 
-  pub sent_end : length ws ≤ i → {w : Sent} → sent_all out n (drop i ws) ≡ w → sent out n ≡ w
-  sent_end h e = rw (drop_of_length-le ws {i = i} h) at e
+-- one number more
+pub sent_more : {A : Type 0} (w : A → List ℕ) (xs : List A) (i : ℕ) (x : A) (first o : Output) {p : Output} → i < length xs → x ≡ get_or xs i x
+    → sent_all o.out o.at (flat_map w (drop i xs)) ≡ sent_all first.out first.at (flat_map w xs)
+    → p ≡ sent_all o.out o.at (w x) → sent_all p.out p.at (flat_map w (drop (i + 1) xs)) ≡ sent_all first.out first.at (flat_map w xs)
+sent_more w xs i x first o h g e f =
+    rw (add-one, f, sent_joined) (rw (drop-cons xs i x h, ← g) at e)
 
--- two words
-pub sent_two : (out : List ℕ) (at x y : ℕ) {o p : List ℕ} {m k : ℕ} → sent o m ≡ sent_all out at (x ∷ []) → sent p k ≡ sent_all o m (y ∷ [])
-    → sent p k ≡ sent_all out at (x ∷ y ∷ [])
-sent_two out at x y e f = f ∙ rw (ap (λ (s : Sent). s.out) e, ap (λ (s : Sent). s.at) e)
+-- words as themselves
+pub ones : (xs : List ℕ) → flat_map one xs ≡ xs
+ones [] = refl
+ones (x ∷ xs) = ap (λ (ys : List ℕ). x ∷ ys) (ones xs)

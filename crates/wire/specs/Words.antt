@@ -1,5 +1,6 @@
 -- Little-endian words of a byte buffer.
-use Rattle.std.specs.Prelude.{ℕ, ◌+◌, ◌*◌, ◌/◌, ◌%◌, Bool, true, false, List, [], ◌∷◌, length, get_or, set, leb, ltb}
+use Rattle.std.specs.Prelude.{ℕ, ◌+◌, ◌*◌, ◌/◌, ◌%◌, ◌^◌, Bool, true, false, List, [], ◌∷◌, length, get_or, set, leb, ltb}
+use Rattle.wire.specs.declared.Output.{Output}
 
 -- the choice by a test
 unfoldable pub if : {A : Type 0} → Bool → A → A → A
@@ -30,14 +31,17 @@ unfoldable pub emitted : List ℕ → ℕ → ℕ → List ℕ
 emitted b a x = if (ltb 65532 a) (with_word b 0 x) (with_word b a x)
 
 -- a buffer and the place in it
-pub record Sent : Type 0 where
-  pub out : List ℕ
-  pub at : ℕ
-
-abbrev pub sent : List ℕ → ℕ → Sent
+abbrev pub sent : List ℕ → ℕ → Output
 sent out at = record { out = out; at = at }
 
+-- the words of a word, and those of a 64-bit number
+abbrev pub one : ℕ → List ℕ
+one x = x ∷ []
+
+abbrev pub two : ℕ → List ℕ
+two x = x % 2 ^ 32 ∷ x / 2 ^ 32 ∷ []
+
 -- words put into the buffer, one after another
-abbrev pub sent_all : List ℕ → ℕ → List ℕ → Sent
+abbrev pub sent_all : List ℕ → ℕ → List ℕ → Output
 sent_all out at [] = sent out at
 sent_all out at (x ∷ xs) = sent_all (emitted out at x) (next_place at) xs

@@ -1,126 +1,134 @@
 // Little-endian words in byte buffers, and a buffered writer of words to standard output, for the programs.
 #![tactic(auto)]
 
-ghost use Rattle.std.specs.Prelude.{◌≡◌, ◌+◌, ◌*◌, ◌/◌, ◌%◌, ◌<◌, ◌≤◌, ◌^◌, length, [], ◌∷◌};
-ghost use Rattle.wire.specs.Words.{whole_at, stored_at, word_at, with_word, sent, sent_all};
-
-fn wide(x: u8) -> u32
-    ensures { (result ≡ x) × (result < 256) }
-{
-    x as u32
-}
-
-fn read_word(bytes: &[u8], at: usize) -> u32
-    requires { at + 4 ≤ length bytes.now }
-    ensures { result ≡ whole_at bytes.now at }
-{
-    wide(bytes[at])
-        + wide(bytes[at + 1]) * 256
-        + wide(bytes[at + 2]) * 65536
-        + wide(bytes[at + 3]) * 0x0100_0000
-}
-
-fn store_word(bytes: &mut [u8], at: usize, x: u32)
-    requires { at + 4 ≤ length bytes.old }
-    ensures { bytes.new ≡ stored_at bytes.old at x }
-{
-    bytes[at] = (x % 256) as u8;
-    bytes[at + 1] = (x / 256 % 256) as u8;
-    bytes[at + 2] = (x / 65536 % 256) as u8;
-    bytes[at + 3] = (x / 0x0100_0000) as u8;
-}
+ghost use Rattle.std.specs.Prelude.{◌≡◌, ◌+◌, ◌*◌, ◌/◌, ◌%◌, ◌^◌, ◌<◌, replicate, ℕ, List, [], ◌∷◌};
+ghost use Rattle.std.specs.List.{flat_map};
+ghost use Rattle.wire.specs.Words.{word_at, with_word, one, two, sent, sent_all};
 
 // The word at a place, 0 where it is not whole.
 pub fn word_at(bytes: &[u8], at: usize) -> u32
     ensures { result ≡ word_at bytes.now at }
 {
-    if bytes.len() < 4 {
-        return 0;
+    if 4 <= bytes.len() && at <= bytes.len() - 4 {
+        return u32::from_le_bytes([bytes[at], bytes[at + 1], bytes[at + 2], bytes[at + 3]]);
     }
-    if bytes.len() - 4 < at {
-        return 0;
-    }
-    read_word(bytes, at)
+    0
 }
 
 // Stores a word, or nothing where it does not fit.
 pub fn put_word(bytes: &mut [u8], at: usize, x: u32)
     ensures { bytes.new ≡ with_word bytes.old at x }
 {
-    if bytes.len() < 4 {
-        return;
+    if 4 <= bytes.len() && at <= bytes.len() - 4 {
+        bytes[at..at + 4].copy_from_slice(&x.to_le_bytes());
     }
-    if bytes.len() - 4 < at {
-        return;
-    }
-    store_word(bytes, at, x);
 }
 
 // The 64-bit number of a low and a high word.
 pub fn joined(low: u32, high: u32) -> u64
     ensures { result ≡ low + high * 2 ^ 32 }
 {
-    low as u64 + high as u64 * 0x1_0000_0000
+    u64::from(low) + (u64::from(high) << 32)
 }
 
 pub fn low_word(x: u64) -> u32
     ensures { result ≡ x % 2 ^ 32 }
 {
-    (x % 0x1_0000_0000) as u32
+    (x & 0xffff_ffff) as u32
 }
 
 pub fn high_word(x: u64) -> u32
     ensures { result ≡ x / 2 ^ 32 }
 {
-    (x / 0x1_0000_0000) as u32
+    (x >> 32) as u32
 }
 
-fn write_out(out: &[u8], at: usize) -> usize
-    ensures { result ≡ 0 }
+// The 64-bit number of two words at a place, the low one first.
+pub fn long_at(bytes: &[u8], at: usize) -> u64
+    ensures { result ≡ word_at bytes.now at + word_at bytes.now (at + 4) * 2 ^ 32 }
 {
-    if at <= out.len() {
-        io::write_all(1, &out[..at]);
+    match at.checked_add(4) {
+        Some(next) => joined(word_at(bytes, at), word_at(bytes, next)),
+        None => 0,
     }
-    0
 }
 
-// Writes out the first `at` bytes, and answers the place to go on at.
-pub fn flush(out: &[u8; 65536], at: usize) -> usize
-    ensures { result ≡ 0 }
-{
-    write_out(out, at)
+// A buffer of words on their way to standard output, and the place of the next one.
+#[derive(Drop)]
+pub struct Output {
+    pub out: [u8; 65536],
+    pub at: usize,
 }
 
-// Puts a word into a buffer of 65,536 bytes, writing the buffer out first where it is full, and answers the next place.
-pub fn emit(out: &mut [u8; 65536], at: usize, x: u32) -> usize
-    ensures { sent out.new result ≡ sent_all out.old at (x ∷ []) }
-{
-    if 65532 < at {
-        flush(out, at);
-        put_word(out, 0, x);
-        return 4;
+impl Output {
+    pub fn new() -> Output
+        ensures { result ≡ sent (replicate 65536 0) 0 }
+    {
+        Output {
+            out: [0; 65536],
+            at: 0,
+        }
     }
-    put_word(out, at, x);
-    at + 4
-}
 
-// Puts words into the buffer, one after another.
-pub fn emit_all(out: &mut [u8; 65536], at: usize, words: &[u32]) -> usize
-    ensures { sent out.new result ≡ sent_all out.old at words.now }
-{
-    let mut n = at;
-    let mut i = 0;
-    while i < words.len() {
-        n = emit(out, n, words[i]);
-        i += 1;
+    // Writes out what the buffer holds, and begins it again.
+    pub fn flush(&mut self)
+        ensures { self.new ≡ sent self.old.out 0 }
+    {
+        if let Some(bytes) = self.out.get(..self.at) {
+            io::write_all(1, bytes);
+        }
+        self.at = 0;
     }
-    n
+
+    // Puts a word into the buffer, writing the buffer out first where it is full.
+    fn put(&mut self, x: u32)
+        ensures { self.new ≡ sent_all self.old.out self.old.at (x ∷ []) }
+    {
+        if 65532 < self.at {
+            self.flush();
+        }
+        put_word(&mut self.out, self.at, x);
+        self.at += 4;
+    }
+
+    // Puts a number's words into the buffer.
+    pub fn emit<T: Words>(&mut self, x: T)
+        ensures { self.new ≡ sent_all self.old.out self.old.at (T.words x) }
+    {
+        x.emit_to(self);
+    }
+
+    // Puts the words of numbers into the buffer, one number after another.
+    pub fn emit_all<T: Words>(&mut self, xs: &[T])
+        ensures { self.new ≡ sent_all self.old.out self.old.at (flat_map T.words xs.now) }
+    {
+        for x in xs {
+            self.emit(*x);
+        }
+    }
 }
 
-// Puts the two words of a 64-bit number into the buffer.
-pub fn emit_long(out: &mut [u8; 65536], at: usize, x: u64) -> usize
-    ensures { sent out.new result ≡ sent_all out.old at (x % 2 ^ 32 ∷ x / 2 ^ 32 ∷ []) }
-{
-    let n = emit(out, at, low_word(x));
-    emit(out, n, high_word(x))
+// A number that the output takes: a word as itself, a 64-bit number as its low word and then its high one.
+pub trait Words: Copy {
+    ghost words: { Self → List ℕ };
+
+    fn emit_to(self, output: &mut Output)
+        ensures { output.new ≡ sent_all output.old.out output.old.at (words self) };
+}
+
+impl Words for u32 {
+    ghost words = { one };
+
+    fn emit_to(self, output: &mut Output) {
+        output.put(self);
+    }
+}
+
+impl Words for u64 {
+    ghost words = { two };
+
+    fn emit_to(self, output: &mut Output) {
+        output.put(low_word(self));
+        output.put(high_word(self));
+    }
 }

@@ -1,20 +1,9 @@
-use Rattle.std.proofs.Common.{refl, ◌∙◌, rules}
-use Rattle.fields.proofs.PartLaws.{words_out, words_first, words_turn, words_last}
+use Rattle.std.proofs.Common.{arith}
+use Rattle.fields.proofs.PartLaws.{words_out, words_part}
 use Rattle.fields.proofs.put_words.Goals as goal
 
-pub returns-then-block-at : goal.returns-then-block-at
-returns-then-block-at c = words_out _ _ _ c.if-block-at.true
+pub returns-then-at-block : goal.returns-then-at-block
+returns-then-at-block c = words_part _ _ _ _ _ c.if-at-block.true c.min-n.ensures (omega arith) c.copy_from_slice.ensures.after
 
-pub loop-i-init : goal.loop-i-init
-loop-i-init c = record { sizes = refl; same = words_first _ _ _ }
-
-pub loop-i-preserved : goal.loop-i-preserved
-loop-i-preserved c = record {
-  sizes = search rules;
-  same =
-      words_turn _ _ _ _ c.loop-i-test.true c.put_word.ensures
-      ∙ c.loop-i.invariant.same;
-}
-
-pub returns : goal.returns
-returns c = words_last _ _ _ _ c.loop-i-test.false ∙ c.loop-i.invariant.same
+pub returns-else-at-block : goal.returns-else-at-block
+returns-else-at-block c = words_out _ _ _ c.if-at-block.false

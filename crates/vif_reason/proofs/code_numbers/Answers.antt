@@ -1,57 +1,45 @@
 use native.Mathlib.Nat.{div-one}
-use borrow.Author.Tests.{ne_eqb}
-use borrow.Author.Rules.{rules}
 use Rattle.fields.specs.Fields.{if, bits}
+use Rattle.fields.specs.declared.refusals.Refusal.TheVariants.{CmdUnlisted, FormatMissing, CycleWrong, ModeWrong, TopsMissing, LogFull}
+use Rattle.fields.proofs.RefusalLaws.{refusal_other}
 use Rattle.vif_reason.specs.Reason.{code_numbers}
 use Rattle.vif_reason.proofs.code_numbers.Goals as goal
+
+pub returns-in-CmdUnlisted : goal.returns-in-CmdUnlisted
+unfolding code_numbers bits if
+returns-in-CmdUnlisted c = simp c.in-CmdUnlisted.is c.one.ensures
+
+pub returns-in-FormatMissing : goal.returns-in-FormatMissing
+unfolding code_numbers bits if
+returns-in-FormatMissing c = simp c.in-FormatMissing.is c.one-in-FormatMissing.ensures
+
+pub returns-in-CycleWrong : goal.returns-in-CycleWrong
+unfolding code_numbers bits if
+returns-in-CycleWrong c = simp c.in-CycleWrong.is c.one-in-CycleWrong.ensures
+
+pub returns-in-ModeWrong : goal.returns-in-ModeWrong
+unfolding code_numbers bits if
+returns-in-ModeWrong c = simp (c.in-ModeWrong.is, div-one) c.one-in-ModeWrong.ensures
+
+pub returns-in-TopsMissing : goal.returns-in-TopsMissing
+unfolding code_numbers bits if
+returns-in-TopsMissing c = simp c.in-TopsMissing.is c.one-in-TopsMissing.ensures
+
+pub returns-in-LogFull : goal.returns-in-LogFull
+unfolding code_numbers bits if
+returns-in-LogFull c = simp (c.in-LogFull.is, c.free_entries.ensures)
 
 pub returns-in_default : goal.returns-in_default
 unfolding code_numbers if
 returns-in_default c =
-    let n = c.in_default.in_default-own.rest in
-    rw (ne_eqb _ _ n.0.0.0.0.0.1, ne_eqb _ _ n.0.0.0.0.1, ne_eqb _ _ n.0.0.0.1, ne_eqb _ _ n.0.0.1, ne_eqb _ _ n.0.1, ne_eqb _ _ n.1)
+    let x = c.args.refusal in
+    let d = c.in_default in
+    rw (
+      refusal_other x CmdUnlisted d.not-CmdUnlisted,
+      refusal_other x FormatMissing d.not-FormatMissing,
+      refusal_other x CycleWrong d.not-CycleWrong,
+      refusal_other x ModeWrong d.not-ModeWrong,
+      refusal_other x TopsMissing d.not-TopsMissing,
+      refusal_other x LogFull d.not-LogFull,
+    )
     c.one-in_default.ensures
-
-pub returns-in-20 : goal.returns-in-20
-unfolding code_numbers bits if
-returns-in-20 c = simp c.in-20.is c.one.ensures
-
-pub returns-in-21 : goal.returns-in-21
-unfolding code_numbers bits if
-returns-in-21 c = simp c.in-21.is c.one-in-21.ensures
-
-pub returns-in-22 : goal.returns-in-22
-unfolding code_numbers bits if
-returns-in-22 c = simp c.in-22.is c.one-in-22.ensures
-
-pub returns-in-23 : goal.returns-in-23
-unfolding code_numbers bits if
-returns-in-23 c = simp (c.in-23.is, div-one) c.one-in-23.ensures
-
-pub returns-in-26 : goal.returns-in-26
-unfolding code_numbers bits if
-returns-in-26 c = simp c.in-26.is c.one-in-26.ensures
-
-pub returns-in-31 : goal.returns-in-31
-unfolding code_numbers bits if
-returns-in-31 c = simp (c.in-31.is, c.free_entries.ensures)
-
-pub overflow_cast-word : goal.overflow_cast-word
-unfolding code_numbers bits if
-overflow_cast-word c = search rules
-
-pub overflow_cast-word-in-21 : goal.overflow_cast-word-in-21
-unfolding code_numbers bits if
-overflow_cast-word-in-21 c = search rules
-
-pub overflow_cast-unit : goal.overflow_cast-unit
-unfolding code_numbers bits if
-overflow_cast-unit c = search rules
-
-pub overflow_cast-word-in-23 : goal.overflow_cast-word-in-23
-unfolding code_numbers bits if
-overflow_cast-word-in-23 c = search rules
-
-pub overflow_cast-word-in-26 : goal.overflow_cast-word-in-26
-unfolding code_numbers bits if
-overflow_cast-word-in-26 c = search rules

@@ -1,13 +1,12 @@
+use Rattle.std.proofs.Common.{◌∙◌, arith}
 use Rattle.wire.proofs.Laws.{word_out, word_in}
-use mathlib.Core.Path.{◌∙◌}
-use native.Mathlib.Omega.{arith}
+use Rattle.wire.proofs.word_at.Goals.{else-bytes-ge4-via-then-bytes-ge4+else-at-bytes, else-bytes-ge4-via-else-bytes-ge4}
 use Rattle.wire.proofs.word_at.Goals as goal
 
-pub returns-then-bytes-lt4 : goal.returns-then-bytes-lt4
-returns-then-bytes-lt4 c = word_out c.args.bytes.now c.args.at (omega arith)
-
-pub returns-then-bytes-at : goal.returns-then-bytes-at
-returns-then-bytes-at c = word_out c.args.bytes.now c.args.at (omega arith)
+pub returns-then-at-bytes : goal.returns-then-at-bytes
+returns-then-at-bytes c = c.from_le_bytes.ensures ∙ word_in c.args.bytes.now c.args.at (omega arith)
 
 pub returns : goal.returns
-returns c = c.read_word.ensures ∙ word_in c.args.bytes.now c.args.at (omega arith)
+returns c =
+    word_out c.args.bytes.now c.args.at
+    (elim c.else-bytes-ge4.branch [ else-bytes-ge4-via-then-bytes-ge4+else-at-bytes w ↦ omega arith | else-bytes-ge4-via-else-bytes-ge4 w ↦ omega arith ])

@@ -1,11 +1,6 @@
-use Rattle.cases.proofs.Laws.{sends_begin, numbers_on, numbers_end}
+use Rattle.std.proofs.Common.{arith}
+use Rattle.cases.proofs.Laws.{numbers_on}
 use Rattle.cases.proofs.whole.emit_bytes.Goals as goal
 
-pub loop-k-init : goal.loop-k-init
-loop-k-init c = sends_begin
-
 pub loop-k-preserved : goal.loop-k-preserved
-loop-k-preserved c = numbers_on c.loop-k.invariant c.loop-k-test.true c.byte_word.ensures c.emit-n.ensures
-
-pub returns : goal.returns
-returns c = numbers_end c.loop-k.invariant c.loop-k-test.false
+loop-k-preserved c = numbers_on c.loop-k.invariant (omega (arith, c.div_ceil-k-end.ensures)) c.byte_word.ensures c.emit.ensures

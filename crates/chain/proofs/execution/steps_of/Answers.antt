@@ -1,7 +1,7 @@
 use mathlib.Core.Path.{refl, sym, ap, ◌∙◌}
 use native.Mathlib.Omega.{arith}
-use Rattle.chain.specs.declared.StepAnswer.TheVariants.{Completed}
-use Rattle.chain.proofs.RunLaws.{ends_done, ends_out, steps_begin}
+use Rattle.chain.specs.StepAnswer.{step_answer}
+use Rattle.chain.proofs.RunLaws.{completed_as, ends_done, ends_out, steps_begin}
 use Rattle.chain.proofs.Theorems.{ready_along}
 use Rattle.chain.proofs.CountLaws.{run_fits}
 use Rattle.chain.proofs.BurstLaws.{goes_on, ends_interrupt, ends_refused, summed}
@@ -30,7 +30,7 @@ loop-data-smaller c =
     let few = a.few in
     let most = c.ranges.allowance in
     let e = summed _ _ _ _ _ i.same a (run_fits c.requires c.args.allowance (omega arith)) l c.plus-counts.ensures in
-    let f = a.some (c.in-Completed.is ∙ ap Completed c.if-i.false) in
+    let f = a.some (completed_as c.in-Ok.is c.if-interrupt.false) in
     rw e (omega arith)
 
 pub loop-data-preserved : goal.loop-data-preserved
@@ -42,7 +42,7 @@ loop-data-preserved c =
     let few = a.few in
     let most = c.ranges.allowance in
     let e = summed _ _ _ _ _ i.same a (run_fits c.requires c.args.allowance (omega arith)) l c.plus-counts.ensures in
-    let q = c.in-Completed.is ∙ ap Completed c.if-i.false in
+    let q = completed_as c.in-Ok.is c.if-interrupt.false in
     record {
       ready = ready_along (a.goes q) i.ready;
       lengths = (k.«data» ∙ i.lengths.0, k.code ∙ i.lengths.1, k.log ∙ i.lengths.2);
@@ -57,58 +57,22 @@ pub returns-then-counts-allowance : goal.returns-then-counts-allowance
 returns-then-counts-allowance c =
     ends_out _ _ _ _ _ c.loop-data.invariant.same c.if-counts-allowance.true (sym c.finished.ensures ∙ c.if-finished.false)
 
-pub returns-then-i : goal.returns-then-i
-returns-then-i c =
+pub returns-then-interrupt : goal.returns-then-interrupt
+returns-then-interrupt c =
     let i = c.loop-data.invariant in
     let a = c.advance-r.ensures in
     let l = c.if-counts-allowance.false in
     let few = a.few in
     let most = c.ranges.allowance in
     let e = summed _ _ _ _ _ i.same a (run_fits c.requires c.args.allowance (omega arith)) l c.plus-counts.ensures in
-    rw e (ends_interrupt _ _ _ _ _ i.same a (c.in-Completed.is ∙ ap Completed c.if-i.true))
+    rw e (ends_interrupt _ _ _ _ _ i.same a (completed_as c.in-Ok.is c.if-interrupt.true))
 
-pub returns-in-Refused : goal.returns-in-Refused
-returns-in-Refused c =
+pub returns-in-Err : goal.returns-in-Err
+returns-in-Err c =
     let i = c.loop-data.invariant in
     let a = c.advance-r.ensures in
     let l = c.if-counts-allowance.false in
     let few = a.few in
     let most = c.ranges.allowance in
     let e = summed _ _ _ _ _ i.same a (run_fits c.requires c.args.allowance (omega arith)) l c.plus-counts.ensures in
-    rw e (ends_refused _ _ _ _ _ i.same a c.in-Refused.is)
-
-pub shape_of-data-then-finished : goal.shape_of-data-then-finished
-shape_of-data-then-finished c = c.loop-data.invariant.lengths.0
-
-pub shape_of-code-then-finished : goal.shape_of-code-then-finished
-shape_of-code-then-finished c = c.loop-data.invariant.lengths.1
-
-pub shape_of-log-then-finished : goal.shape_of-log-then-finished
-shape_of-log-then-finished c = c.loop-data.invariant.lengths.2
-
-pub shape_of-data-then-counts-allowance : goal.shape_of-data-then-counts-allowance
-shape_of-data-then-counts-allowance c = c.loop-data.invariant.lengths.0
-
-pub shape_of-code-then-counts-allowance : goal.shape_of-code-then-counts-allowance
-shape_of-code-then-counts-allowance c = c.loop-data.invariant.lengths.1
-
-pub shape_of-log-then-counts-allowance : goal.shape_of-log-then-counts-allowance
-shape_of-log-then-counts-allowance c = c.loop-data.invariant.lengths.2
-
-pub shape_of-data-then-i : goal.shape_of-data-then-i
-shape_of-data-then-i c = c.advance-r.auto.data ∙ c.loop-data.invariant.lengths.0
-
-pub shape_of-code-then-i : goal.shape_of-code-then-i
-shape_of-code-then-i c = c.advance-r.auto.code ∙ c.loop-data.invariant.lengths.1
-
-pub shape_of-log-then-i : goal.shape_of-log-then-i
-shape_of-log-then-i c = c.advance-r.auto.log ∙ c.loop-data.invariant.lengths.2
-
-pub shape_of-data-in-Refused : goal.shape_of-data-in-Refused
-shape_of-data-in-Refused c = c.advance-r.auto.data ∙ c.loop-data.invariant.lengths.0
-
-pub shape_of-code-in-Refused : goal.shape_of-code-in-Refused
-shape_of-code-in-Refused c = c.advance-r.auto.code ∙ c.loop-data.invariant.lengths.1
-
-pub shape_of-log-in-Refused : goal.shape_of-log-in-Refused
-shape_of-log-in-Refused c = c.advance-r.auto.log ∙ c.loop-data.invariant.lengths.2
+    rw e (ends_refused _ _ _ _ _ i.same a (ap step_answer c.in-Err.is))

@@ -1,13 +1,16 @@
-use Rattle.fields.specs.Memory.{long_at}
-use Rattle.chain.specs.Tags.{tag_refusal, tag_read}
 use Rattle.fields.specs.Fields.{if}
-use borrow.Author.Tests.{lt-ltb}
+use Rattle.fields.proofs.RefusalLaws.{refusal_not_none}
+use Rattle.chain.specs.Tags.{tag_read}
 use Rattle.chain.proofs.tags.take_tag.Goals as goal
 
-pub returns-then-main-tadr : goal.returns-then-main-tadr
-unfolding tag_read tag_refusal if
-returns-then-main-tadr c = rw (lt-ltb _ _ c.if-main-tadr.true) c.refused.ensures
+pub returns-in-Ok : goal.returns-in-Ok
+unfolding tag_read if
+returns-in-Ok c =
+    let t = c.new-tag.ensures in
+    rw (← c.long_at.ensures, ← t.qwc, ← t.id, ← t.addr, ← t.spr, ← c.in-Ok.ensures, ← c.one_tag.ensures, ← c.accepted.ensures) c.completed.ensures
 
-pub returns : goal.returns
-unfolding long_at
-returns c = rw (← c.word_at.ensures, ← c.word_at-2.ensures) c.read_tag.ensures
+pub returns-in-Err : goal.returns-in-Err
+unfolding tag_read if
+returns-in-Err c =
+    let t = c.new-tag.ensures in
+    rw (← c.long_at.ensures, ← t.qwc, ← t.id, ← t.addr, ← t.spr, ← c.in-Err.ensures, refusal_not_none c.in-Err.refusal) c.refused.ensures

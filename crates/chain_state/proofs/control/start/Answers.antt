@@ -1,12 +1,12 @@
+use native.Mathlib.Omega.{arith}
 use Rattle.chain_state.specs.Start.{start_of}
 use Rattle.fields.specs.Fields.{if}
-use mathlib.Core.Path.{sym, ◌∙◌}
 use Rattle.chain_state.proofs.control.start.Goals as goal
 
-pub returns-then-accepted : goal.returns-then-accepted
+pub returns-then-start_in_range : goal.returns-then-start_in_range
 unfolding start_of if
-returns-then-accepted c = rw (sym c.accepted.ensures ∙ c.if-accepted.true, c.started.ensures)
+returns-then-start_in_range c = grind arith
 
-pub returns-else-accepted : goal.returns-else-accepted
+pub returns-else-state_in_range : goal.returns-else-state_in_range
 unfolding start_of if
-returns-else-accepted c = rw (sym c.accepted.ensures ∙ c.if-accepted.false)
+returns-else-state_in_range c = grind arith

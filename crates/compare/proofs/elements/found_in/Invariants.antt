@@ -1,11 +1,6 @@
-use mathlib.Core.Path.{◌≡◌}
-use Prim.Native.Nat.{◌-◌, ◌≤◌}
-use Rattle.compare.specs.Elements.{found_in}
-use Rattle.compare.specs.Inner.{list_of}
+use Rattle.std.proofs.Common.{◌≡◌}
+use Rattle.compare.specs.Inner.{found_by, unequal}
 use Rattle.compare.proofs.elements.found_in.Given as goal
 
 abbrev pub invariant-loop-i : goal.invariant-loop-i
-invariant-loop-i l = (l.i ≤ l.n) × (l.f ≡ found_in l.size (list_of l.memory l.da l.ca l.la) (list_of l.memory l.db l.cb l.lb) l.i)
-
-abbrev pub decreases-loop-i : goal.decreases-loop-i
-decreases-loop-i l = l.n - l.i
+invariant-loop-i g l = l.found ≡ found_by (unequal g.T.PartialEq.eq l.size l.a l.b) l.i

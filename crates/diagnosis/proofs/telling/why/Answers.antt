@@ -1,19 +1,26 @@
-use mathlib.Core.Path.{sym, ◌∙◌}
+use Rattle.std.proofs.Common.{refl, sym, arith}
+use Rattle.fields.proofs.RefusalLaws.{refusal_small}
 use Rattle.diagnosis.proofs.TrialLaws.{log_held}
 use Rattle.diagnosis.proofs.WhyLaws.{why_entry, why_ended, why_told}
 use Rattle.diagnosis.proofs.telling.why.Goals as goal
 
-pub returns-then-refused-ne0 : goal.returns-then-refused-ne0
-returns-then-refused-ne0 c = why_entry _ _ _ c.entry_refusal-refused.ensures c.if-refused-ne0.true
+pub returns-in-Err : goal.returns-in-Err
+returns-in-Err c =
+    why_entry _ _ _ c.in-Err.ensures (λ z. omega (arith, (refusal_small c.in-Err.refusal).0, z))
 
 pub returns-then-finished : goal.returns-then-finished
 returns-then-finished c =
-    why_ended _ _ _ c.entry_refusal-refused.ensures c.if-refused-ne0.false (sym c.finished.ensures ∙ c.if-finished.true)
+    why_ended _ _ _ c.in_default.ensures refl (sym c.if-finished.ensures)
 
 pub outlook-requires : goal.outlook-requires
 outlook-requires c =
-    log_held _ _ _ (sym c.entry_refusal-refused.ensures ∙ c.if-refused-ne0.false)
+    log_held _ _ _ (sym c.in_default.ensures)
 
-pub returns : goal.returns
-returns c =
-    why_told _ _ _ c.entry_refusal-refused.ensures c.if-refused-ne0.false (sym c.finished.ensures ∙ c.if-finished.false) c.try_step-tried.ensures c.outlook.ensures c.told.ensures
+pub returns-in-Ok : goal.returns-in-Ok
+returns-in-Ok c =
+    why_told _ _ _ c.in_default.ensures refl (sym c.if-finished.ensures) c.try_step.ensures c.in-Ok.ensures refl
+
+pub returns-in-Err-outlook : goal.returns-in-Err-outlook
+returns-in-Err-outlook c =
+    why_told _ _ _ c.in_default.ensures refl (sym c.if-finished.ensures) c.try_step.ensures c.in-Err-outlook.ensures
+    (rw (← c.numbers-shown.ensures, c.next_place.ensures))

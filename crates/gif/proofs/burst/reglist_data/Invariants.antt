@@ -1,14 +1,11 @@
 use mathlib.Core.Path.{◌≡◌}
-use Prim.Native.Nat.{◌+◌, ◌*◌, ◌-◌, ◌%◌}
+use Prim.Native.Nat.{◌+◌, ◌*◌, ◌%◌}
 use Rattle.gif.proofs.BurstLaws.{Came}
 use Rattle.gif.proofs.burst.reglist_data.Given as goal
 
 abbrev pub invariant-loop-k : goal.invariant-loop-k
 invariant-loop-k l =
     record {
-      came : Came l.which l.main l.a l.n l.used l.initial.log l.q l.tag l.k l.q l.entries l.log;
+      came : Came l.source.which l.source.main.now l.source.a l.n l.used l.initial.log l.q l.tag l.k l.q l.entries l.log;
       at : l.nibble ≡ (l.item + 2 * l.k) % l.tag.nreg;
     }
-
-abbrev pub decreases-loop-k : goal.decreases-loop-k
-decreases-loop-k l = l.n - l.k

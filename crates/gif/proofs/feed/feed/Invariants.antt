@@ -10,12 +10,12 @@ use Rattle.gif.proofs.feed.feed.Given as goal
 abbrev pub invariant-loop-taken : goal.invariant-loop-taken
 invariant-loop-taken l =
     record {
-      inner : QuadwordsInside l.main l.a l.count;
+      inner : QuadwordsInside l.source.main.now l.source.a l.count;
       log_fits : LogFits l.log l.entries;
       place_fits : PlaceFits l.p.place;
       length : length l.log ≡ length l.initial.log;
       few : l.packets ≤ l.taken;
-      same : plus l.taken l.packets (feeds_of l.which l.main (l.a + 16 * l.taken) (l.count - l.taken) l.p l.entries l.log) ≡ feeds_of l.which l.main l.a l.count l.initial.p l.used l.initial.log;
+      same : plus l.taken l.packets (feeds_of l.source.which l.source.main.now (l.source.a + 16 * l.taken) (l.count - l.taken) l.p l.entries l.log) ≡ feeds_of l.source.which l.source.main.now l.source.a l.count l.initial.p l.used l.initial.log;
     }
 
 abbrev pub decreases-loop-taken : goal.decreases-loop-taken

@@ -1,9 +1,10 @@
 use Rattle.gif.proofs.LogLaws.{entry_fits, entry_full}
+use borrow.Author.Tests.{lt-ltb, le-ltb}
 use native.Mathlib.Omega.{arith}
 use Rattle.gif.proofs.log.write_entry.Goals as goal
 
-pub returns-then-used-log : goal.returns-then-used-log
-returns-then-used-log c = entry_fits _ _ _ (let l = c.if-used-log.true in omega arith) c.put.ensures
+pub returns-then-fits : goal.returns-then-fits
+returns-then-fits c = let l = c.if-fits.true in rw (lt-ltb _ _ l) (entry_fits _ _ _ (omega arith) c.put.ensures)
 
-pub returns-else-used-log : goal.returns-else-used-log
-returns-else-used-log c = entry_full _ _ _ (let l = c.if-used-log.false in omega arith)
+pub returns-else-fits : goal.returns-else-fits
+returns-else-fits c = let l = c.if-fits.false in rw (le-ltb _ _ l) (entry_full _ _ _ (omega arith))

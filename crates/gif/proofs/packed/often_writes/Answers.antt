@@ -8,4 +8,4 @@ pub returns-then-descriptor-eq14 : goal.returns-then-descriptor-eq14
 unfolding packed_writes if
 returns-then-descriptor-eq14 c =
     let x = c.args in
-    simp (c.one.ensures, c.if-descriptor-eq14.true, bits_middle x.low x.high (search rules) 71, whole_low x.low x.high (search rules))
+    simp (c.one.ensures, c.if-descriptor-eq14.true, bits_middle x.quad.low x.quad.high (search rules) 71, whole_low x.quad.low x.quad.high (search rules))

@@ -7,7 +7,7 @@ use Rattle.gif.proofs.packed.packed_q.Goals as goal
 
 pub returns-then-descriptor-eq2 : goal.returns-then-descriptor-eq2
 unfolding packed_q if
-returns-then-descriptor-eq2 c = simp (eq-eqb _ _ c.if-descriptor-eq2.true, bits_middle c.args.low c.args.high (search rules) 95)
+returns-then-descriptor-eq2 c = simp (eq-eqb _ _ c.if-descriptor-eq2.true, bits_middle c.args.quad.low c.args.quad.high (search rules) 95)
 
 pub returns-else-descriptor-eq2 : goal.returns-else-descriptor-eq2
 unfolding packed_q if

@@ -6,5 +6,5 @@ use Rattle.gif.proofs.packed.xyzf_value.Goals as goal
 
 pub returns : goal.returns
 unfolding xyzf
-returns c = let l = c.args.low in let h = c.args.high in
+returns c = let l = c.args.quad.low in let h = c.args.quad.high in
     simp (bits_first l h 15 (omega arith), bits_low l h 32 47 (omega arith) (omega arith), bits_high l h (search rules) 68 91 (omega arith), bits_high l h (search rules) 100 107 (omega arith))

@@ -1,20 +1,20 @@
 use Rattle.gif.specs.Reglist.{reglist_write}
 use Rattle.fields.specs.Fields.{if}
-use mathlib.Core.Path.{sym, ◌∙◌}
+use mathlib.Core.Path.{sym}
 use Rattle.gif.proofs.reglist.halves.Goals as goal
 
-pub returns-then-silent-2 : goal.returns-then-silent-2
+pub returns-in-true-true : goal.returns-in-true-true
 unfolding reglist_write if
-returns-then-silent-2 c = simp (sym c.silent.ensures ∙ c.if-silent.true, sym c.silent-then-silent.ensures ∙ c.if-silent-2.true)
+returns-in-true-true c = simp (sym c.in-true-true.ensures, sym c.in-true-true.ensures')
 
-pub returns-else-silent-2 : goal.returns-else-silent-2
+pub returns-in-true-false : goal.returns-in-true-false
 unfolding reglist_write if
-returns-else-silent-2 c = simp (sym c.silent.ensures ∙ c.if-silent.true, sym c.silent-then-silent.ensures ∙ c.if-silent-2.false)
+returns-in-true-false c = simp (sym c.in-true-false.ensures, sym c.in-true-false.ensures')
 
-pub returns-then-silent-3 : goal.returns-then-silent-3
+pub returns-in-false-true : goal.returns-in-false-true
 unfolding reglist_write if
-returns-then-silent-3 c = simp (sym c.silent.ensures ∙ c.if-silent.false, sym c.silent-else-silent.ensures ∙ c.if-silent-3.true)
+returns-in-false-true c = simp (sym c.in-false-true.ensures, sym c.in-false-true.ensures')
 
-pub returns-else-silent-3 : goal.returns-else-silent-3
+pub returns-in-false-false : goal.returns-in-false-false
 unfolding reglist_write if
-returns-else-silent-3 c = simp (sym c.silent.ensures ∙ c.if-silent.false, sym c.silent-else-silent.ensures ∙ c.if-silent-3.false)
+returns-in-false-false c = simp (sym c.in-false-false.ensures, sym c.in-false-false.ensures')

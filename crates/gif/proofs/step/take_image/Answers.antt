@@ -7,5 +7,5 @@ pub returns : goal.returns
 unfolding image_step
 returns c =
     let x = c.args in
-    rw (whole_low x.low x.high (search rules), whole_high x.low x.high (search rules) (search rules), ← c.place_after-place.ensures, ← c.image_writes-writes.ensures, ← c.data_closes.ensures)
-    c.finish.ensures
+    rw (whole_low x.quad.low x.quad.high (search rules), whole_high x.quad.low x.quad.high (search rules) (search rules), ← c.image_writes.ensures)
+    c.finish_data.ensures

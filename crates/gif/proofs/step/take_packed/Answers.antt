@@ -7,4 +7,4 @@ returns-then-descriptor-eq11 c =
 
 pub returns : goal.returns
 returns c =
-    packed_taken _ _ _ _ _ _ c.taken.ensures c.descriptor_at-descriptor.ensures c.if-descriptor-eq11.false c.place_after-place.ensures c.packed_q-q.ensures c.data_closes.ensures c.packed_writes-writes.ensures c.finish.ensures
+    packed_taken _ _ _ _ _ _ c.taken.ensures c.descriptor_at-descriptor.ensures c.if-descriptor-eq11.false c.packed_q-q.ensures c.packed_writes-writes.ensures c.finish_data.ensures

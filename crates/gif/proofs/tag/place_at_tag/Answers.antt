@@ -5,10 +5,10 @@ use borrow.Author.Tests.{eq-eqb, ne_eqb}
 use borrow.Author.Rules.{rules}
 use Rattle.gif.proofs.tag.place_at_tag.Goals as goal
 
-pub returns-then-low-eq0 : goal.returns-then-low-eq0
+pub returns-then-quad-eq0 : goal.returns-then-quad-eq0
 unfolding place_at_tag if
-returns-then-low-eq0 c = simp (nloop_at c.args.low c.args.high (search rules), eq-eqb _ _ c.if-low-eq0.true)
+returns-then-quad-eq0 c = simp (nloop_at c.args.quad.low c.args.quad.high (search rules), eq-eqb _ _ c.if-quad-eq0.true)
 
-pub returns-else-low-eq0 : goal.returns-else-low-eq0
+pub returns-else-quad-eq0 : goal.returns-else-quad-eq0
 unfolding place_at_tag if
-returns-else-low-eq0 c = rw (nloop_at c.args.low c.args.high (search rules), ne_eqb _ _ c.if-low-eq0.false, c.tag_of.ensures)
+returns-else-quad-eq0 c = rw (nloop_at c.args.quad.low c.args.quad.high (search rules), ne_eqb _ _ c.if-quad-eq0.false, c.tag_of.ensures)

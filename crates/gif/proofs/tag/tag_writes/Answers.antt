@@ -1,26 +1,23 @@
-use Rattle.gif.proofs.TagLaws.{bit_one, not_packed}
-use Prim.Native.Nat.{◌/◌}
+use Rattle.std.proofs.Common.{ne_eqb}
 use borrow.Author.Rules.{rules}
-use Rattle.gif.proofs.TagLaws.{nloop_at, pre_at, prim_at, flg_at}
 use Rattle.gif.specs.Tag.{tag_writes, format_of}
+use Rattle.gif.proofs.TagLaws.{nloop_at, pre_at, prim_at, flg_at, not_packed}
 use Rattle.fields.specs.Fields.{if}
-use borrow.Author.Tests.{eq-eqb, ne_eqb}
 use Rattle.gif.proofs.tag.tag_writes.Goals as goal
+use Rattle.gif.proofs.tag.tag_writes.Goals.{else-has_data-via-then-has_data+then-pre+else-quad-eq0, else-has_data-via-then-has_data+else-pre, else-has_data-via-else-has_data}
 
-pub returns-then-low-eq0 : goal.returns-then-low-eq0
-unfolding tag_writes if
-returns-then-low-eq0 c = simp (nloop_at c.args.low c.args.high (search rules), eq-eqb _ _ c.if-low-eq0.true)
-
-pub returns-then-low-eq0-2 : goal.returns-then-low-eq0-2
-unfolding tag_writes if
-returns-then-low-eq0-2 c = simp (nloop_at c.args.low c.args.high (search rules), ne_eqb _ _ c.if-low-eq0.false, pre_at c.args.low c.args.high (search rules), c.if-low-eq0-2.true)
-
-pub returns-then-low-eq0-3 : goal.returns-then-low-eq0-3
+pub returns-then-quad-eq0 : goal.returns-then-quad-eq0
 unfolding tag_writes format_of if
-returns-then-low-eq0-3 c = let l = c.args.low in let h = c.args.high in
-    simp (nloop_at l h (search rules), ne_eqb _ _ c.if-low-eq0.false, pre_at l h (search rules), bit_one (l / 70368744177664) c.if-low-eq0-2.false, flg_at l h (search rules), c.if-low-eq0-3.true, prim_at l h (search rules))
+returns-then-quad-eq0 c = let l = c.args.quad.low in let h = c.args.quad.high in
+    simp (nloop_at l h (search rules), ne_eqb _ _ c.if-has_data.true, pre_at l h (search rules), c.if-pre.true, flg_at l h (search rules), c.if-quad-eq0.true, prim_at l h (search rules))
 
-pub returns-else-low-eq0-3 : goal.returns-else-low-eq0-3
+pub returns-else-has_data : goal.returns-else-has_data
 unfolding tag_writes if
-returns-else-low-eq0-3 c = let l = c.args.low in let h = c.args.high in
-    simp (nloop_at l h (search rules), ne_eqb _ _ c.if-low-eq0.false, pre_at l h (search rules), bit_one (l / 70368744177664) c.if-low-eq0-2.false, flg_at l h (search rules), not_packed _ c.if-low-eq0-3.false)
+returns-else-has_data c = let l = c.args.quad.low in let h = c.args.quad.high in
+    elim c.else-has_data.branch [
+      | else-has_data-via-then-has_data+then-pre+else-quad-eq0 w ↦
+          simp (nloop_at l h (search rules), ne_eqb _ _ w.if-has_data.true, pre_at l h (search rules), w.if-pre.true, flg_at l h (search rules), not_packed _ w.if-quad-eq0.false)
+      | else-has_data-via-then-has_data+else-pre w ↦
+          simp (nloop_at l h (search rules), ne_eqb _ _ w.if-has_data.true, pre_at l h (search rules), ne_eqb _ _ w.if-pre.false)
+      | else-has_data-via-else-has_data w ↦ simp (nloop_at l h (search rules), w.if-has_data.false)
+    ]

@@ -1,16 +1,17 @@
-use borrow.Author.Tests.{eq-eqb, ne_eqb}
+use Rattle.fields.proofs.RefusalLaws.{refusal_other}
+use Rattle.fields.specs.declared.refusals.Refusal.TheVariants.{DescriptorB, LogFull}
 use Rattle.fields.specs.Fields.{if}
 use Rattle.gif_reason.specs.Reason.{quadword_numbers}
 use Rattle.gif_reason.proofs.shown.quadword_numbers.Goals as goal
 
-pub returns-then-refusal-eq-DESCRIPTOR_B : goal.returns-then-refusal-eq-DESCRIPTOR_B
+pub returns-in-DescriptorB : goal.returns-in-DescriptorB
 unfolding quadword_numbers if
-returns-then-refusal-eq-DESCRIPTOR_B c = rw (eq-eqb _ _ c.if-refusal-eq-DESCRIPTOR_B.true, c.met_descriptor.ensures)
+returns-in-DescriptorB c = rw (c.in-DescriptorB.is, c.met_descriptor.ensures)
 
-pub returns-then-refusal-eq-LOG_FULL : goal.returns-then-refusal-eq-LOG_FULL
+pub returns-in-LogFull : goal.returns-in-LogFull
 unfolding quadword_numbers if
-returns-then-refusal-eq-LOG_FULL c = rw (ne_eqb _ _ c.if-refusal-eq-DESCRIPTOR_B.false, eq-eqb _ _ c.if-refusal-eq-LOG_FULL.true, c.free_entries.ensures)
+returns-in-LogFull c = rw (c.in-LogFull.is, c.free_entries.ensures)
 
-pub returns : goal.returns
+pub returns-in_default : goal.returns-in_default
 unfolding quadword_numbers if
-returns c = rw (ne_eqb _ _ c.if-refusal-eq-DESCRIPTOR_B.false, ne_eqb _ _ c.if-refusal-eq-LOG_FULL.false)
+returns-in_default c = rw (refusal_other c.args.refusal DescriptorB c.in_default.not-DescriptorB, refusal_other c.args.refusal LogFull c.in_default.not-LogFull)

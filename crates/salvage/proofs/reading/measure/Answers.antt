@@ -1,68 +1,51 @@
-use native.Mathlib.Omega.{arith}
-use borrow.Author.Rules.{rules}
+use Rattle.std.proofs.Common.{arith, refl}
 use Rattle.sheet.specs.Whole.{Bytes}
 use Rattle.salvage.proofs.LoopLaws.{end_measured, found_inside, found_dropped, found_more, dropped_inside, dropped_kept, dropped_more}
 use Rattle.salvage.proofs.reading.measure.Goals as goal
 
-pub loop-next-init : goal.loop-next-init
-loop-next-init c = record { short = c.requires; inside = omega arith; few = (omega arith, omega arith); kept = omega arith; dropped = omega arith }
+pub loop-sums-init : goal.loop-sums-init
+loop-sums-init c = record { short = c.requires; inside = omega arith; few = (omega arith, omega arith); kept = omega arith; dropped = omega arith }
 
-pub returns-in-End : goal.returns-in-End
-returns-in-End c =
-    let i = c.loop-next.invariant in
-    let m = end_measured _ _ c.read_record.ensures c.in-End.is _ _ i.kept i.dropped in
-    rw (m.0, m.1)
+pub returns-in-Ok-None : goal.returns-in-Ok-None
+returns-in-Ok-None c =
+    let i = c.loop-sums.invariant in
+    let m = end_measured _ _ (rw c.in-Ok-None.field-0-is at c.in-Ok-None.ensures) refl _ _ i.kept i.dropped in
+    rw (← m.0, ← m.1)
 
-pub overflow_sub-bytes : goal.overflow_sub-bytes
-overflow_sub-bytes c = let f = found_inside _ _ c.read_record.ensures c.in-Found.is in omega arith
+pub overflow_sub-sums : goal.overflow_sub-sums
+overflow_sub-sums c = let f = found_inside _ _ (rw c.in-Ok-Some.field-0-is at c.in-Ok-Some.ensures) refl in omega arith
 
-pub overflow_add-bytes : goal.overflow_add-bytes
-overflow_add-bytes c =
-    let f = found_inside _ _ c.read_record.ensures c.in-Found.is in
-    let i = c.loop-next.invariant in
-    search rules
+pub loop-sums-smaller-in-Ok-Some : goal.loop-sums-smaller-in-Ok-Some
+loop-sums-smaller-in-Ok-Some c = let f = found_inside _ _ (rw c.in-Ok-Some.field-0-is at c.in-Ok-Some.ensures) refl in omega arith
 
-pub loop-next-smaller-in-Found : goal.loop-next-smaller-in-Found
-loop-next-smaller-in-Found c = let f = found_inside _ _ c.read_record.ensures c.in-Found.is in omega arith
-
-pub loop-next-preserved-in-Found : goal.loop-next-preserved-in-Found
-loop-next-preserved-in-Found c =
-    let e = c.read_record.ensures in
-    let q = c.in-Found.is in
-    let i = c.loop-next.invariant in
-    let b : Bytes _ = record { below = λ k. (c.shared_slice_known-1.given k).fits } in
-    let f = found_inside _ _ e q in
-    let m = found_more _ _ e q b in
+pub loop-sums-preserved-in-Ok-Some : goal.loop-sums-preserved-in-Ok-Some
+loop-sums-preserved-in-Ok-Some c =
+    let e = rw c.in-Ok-Some.field-0-is at c.in-Ok-Some.ensures in
+    let i = c.loop-sums.invariant in
+    let b : Bytes _ = record { below = λ k. (c.type_inv.sheet k).fits } in
+    let f = found_inside _ _ e refl in
+    let m = found_more _ _ e refl b in
     record {
       short = i.short;
       inside = f.1;
       few = (omega arith, omega arith);
       kept = omega (arith, i.kept);
-      dropped = rw (← found_dropped _ _ e q) i.dropped;
+      dropped = rw (← found_dropped _ _ e refl) i.dropped;
     }
 
-pub loop-next-smaller : goal.loop-next-smaller
-loop-next-smaller c =
-    let d = dropped_inside _ _ c.read_record.ensures c.in-Refused.is c.range_end-at.ensures in omega arith
+pub loop-sums-smaller : goal.loop-sums-smaller
+loop-sums-smaller c = let d = dropped_inside _ _ c.in-Err.ensures refl c.range_end-at.ensures in omega arith
 
-pub loop-next-preserved : goal.loop-next-preserved
-loop-next-preserved c =
-    let e = c.read_record.ensures in
-    let q = c.in-Refused.is in
+pub loop-sums-preserved : goal.loop-sums-preserved
+loop-sums-preserved c =
     let z = c.range_end-at.ensures in
-    let i = c.loop-next.invariant in
-    let d = dropped_inside _ _ e q z in
-    let m = dropped_more _ _ e q z in
+    let i = c.loop-sums.invariant in
+    let d = dropped_inside _ _ c.in-Err.ensures refl z in
+    let m = dropped_more _ _ c.in-Err.ensures refl z in
     record {
       short = i.short;
       inside = d.1;
       few = (omega arith, omega arith);
-      kept = rw (← dropped_kept _ _ e q z) i.kept;
+      kept = rw (← dropped_kept _ _ c.in-Err.ensures refl z) i.kept;
       dropped = omega (arith, i.dropped);
     }
-
-pub overflow_add-ranges : goal.overflow_add-ranges
-overflow_add-ranges c = let i = c.loop-next.invariant in search rules
-
-pub overflow_add-at : goal.overflow_add-at
-overflow_add-at c = let i = c.loop-next.invariant in search rules

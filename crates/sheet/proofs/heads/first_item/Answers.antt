@@ -6,6 +6,6 @@ pub returns-then-starts_second : goal.returns-then-starts_second
 unfolding first_item if
 returns-then-starts_second c = rw (← c.starts_second.ensures, c.if-starts_second.true)
 
-pub returns : goal.returns
+pub returns-else-starts_second : goal.returns-else-starts_second
 unfolding first_item if
-returns c = rw (← c.starts_second.ensures, c.if-starts_second.false)
+returns-else-starts_second c = rw (← c.starts_second.ensures, c.if-starts_second.false)

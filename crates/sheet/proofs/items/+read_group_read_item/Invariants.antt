@@ -1,4 +1,4 @@
--- The record reader and the group reader: bytes left and depth fall from the one to the other, and the members left in the group reader's loop.
+-- The record reader and the group reader: bytes left and depth fall from the one to the other.
 use Rattle.std.proofs.Common.{◌≡◌, length, ◌+◌, ◌-◌, ◌*◌, ◌≤◌}
 use Rattle.sheet.specs.Groups.{item_at, group_from, members_from}
 use Rattle.sheet.specs.Sums.{answered, answered_from}
@@ -11,12 +11,9 @@ decreases-read_group l = 2 * (length l.sheet.now - l.at + l.depth) + 1
 abbrev pub decreases-read_item : goal.decreases-read_item
 decreases-read_item l = 2 * (length l.sheet.now - l.at + l.depth)
 
-abbrev pub invariant-read_group-loop-left : goal.invariant-read_group-loop-left
-invariant-read_group-loop-left l = record {
-  past : l.at ≤ l.place;
-  same : answered_from l.repetitions l.sum (members_from (item_at l.sheet l.depth) (length l.sheet) l.left l.place)
+abbrev pub invariant-read_group-loop-member : goal.invariant-read_group-loop-member
+invariant-read_group-loop-member l = record {
+  past : l.at ≤ l.next;
+  same : answered_from l.repetitions l.sum (members_from (item_at l.sheet l.depth) (length l.sheet) (l.members - l._member) l.next)
       ≡ answered (group_from (item_at l.sheet l.depth) (length l.sheet) l.at l.repetitions l.members);
 }
-
-abbrev pub decreases-read_group-loop-left : goal.decreases-read_group-loop-left
-decreases-read_group-loop-left l = l.left

@@ -1,6 +1,7 @@
-use borrow.Author.Tests.{ne_eqb}
 use Rattle.fields.specs.Fields.{if}
-use Rattle.sheet.specs.Reader.{kind_of}
+use Rattle.std.proofs.Common.{◌≡◌, false, rules}
+use borrow.Author.Tests.{tests}
+use Rattle.sheet.specs.Reader.{kind_listed, kind_of}
 use Rattle.sheet.proofs.reader.kind_of.Goals as goal
 
 pub returns-in-1 : goal.returns-in-1
@@ -15,6 +16,10 @@ pub returns-in-3 : goal.returns-in-3
 unfolding kind_of if
 returns-in-3 c = rw c.in-3.is
 
+pub returns-in-4 : goal.returns-in-4
+unfolding kind_of if
+returns-in-4 c = rw c.in-4.is
+
 pub returns-in_default : goal.returns-in_default
 unfolding kind_of if
-returns-in_default c = rw (ne_eqb _ 1 c.in_default.in_default-own.rest.0.0.1, ne_eqb _ 2 c.in_default.in_default-own.rest.0.1, ne_eqb _ 3 c.in_default.in_default-own.rest.1)
+returns-in_default c = let z : kind_listed c.args.k ≡ false = search (rules, tests) in rw z

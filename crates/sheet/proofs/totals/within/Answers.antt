@@ -5,7 +5,7 @@ use Rattle.sheet.proofs.totals.within.Goals as goal
 
 pub returns-then-t : goal.returns-then-t
 unfolding within if
-returns-then-t c = rw (lt-ltb _ _ c.if-t.true)
+returns-then-t c = rw (lt-ltb _ _ c.if-t.true) (rw c.into.ensures)
 
 pub returns : goal.returns
 unfolding within if

@@ -1,31 +1,18 @@
-use mathlib.Core.Path.{refl, sym, ◌∙◌}
-use native.Mathlib.Omega.{arith}
-use Rattle.sheet.proofs.ActLaws.{sheet_end, item_fits, item_next, sheet_fits, sheet_done_lem}
-use Rattle.sheet_builder.proofs.WriterLaws.{writing, end_room, chain_whole}
+use Rattle.std.proofs.Common.{rules, ap, sym}
+use Rattle.sheet_builder.specs.Writing.{out}
+use Rattle.sheet_builder.specs.declared.writer.Writer.{Writer}
+use Rattle.sheet_builder.proofs.WriterLaws.{end_room, chain_whole}
 use Rattle.sheet_builder.proofs.writer.put_chain.Goals as goal
 
-pub loop-at-init : goal.loop-at-init
-loop-at-init c = record { fits = rw c.first_item-at.ensures c.requires; same = rw c.first_item-at.ensures refl }
+pub act_on-requires : goal.act_on-requires
+act_on-requires c = let r = c.requires in record { records = r.records; accepted = r.accepted; room = r.room }
 
-pub put_item-w-requires : goal.put_item-w-requires
-put_item-w-requires c = item_fits writing _ _ _ c.loop-at.invariant.fits c.loop-at-test.true
-
-pub loop-at-smaller : goal.loop-at-smaller
-loop-at-smaller c = let n = item_next writing _ _ _ c.loop-at.invariant.fits c.loop-at-test.true c.put_item-w.ensures in omega arith
-
-pub loop-at-preserved : goal.loop-at-preserved
-loop-at-preserved c =
-    let i = c.loop-at.invariant in
-    let h = c.loop-at-test.true in
-    record {
-      fits = sheet_fits writing _ _ _ i.fits h c.put_item-w.ensures;
-      same = sheet_done_lem writing _ _ _ i.fits h c.put_item-w.ensures ∙ i.same;
-    }
-
-pub put_quadword-requires : goal.put_quadword-requires
-put_quadword-requires c = end_room c.loop-at.invariant.fits c.loop-at-test.false
+pub put_words-requires : goal.put_words-requires
+put_words-requires c = let e = ap (λ (w : Writer). out w.output.now w.to) c.act_on.ensures in end_room _ c.requires.accepted _ c.requires.room e
 
 pub returns : goal.returns
 returns c =
-    let i = c.loop-at.invariant in
-    chain_whole _ _ c.requires.accepted (sym (sheet_end writing _ _ _ i.fits c.loop-at-test.false) ∙ i.same) c.put_quadword.ensures
+    let e = ap (λ (w : Writer). out w.output.now w.to) c.act_on.ensures in
+    let same = sym (ap (λ (w : Writer). w.output.ghost_name) c.act_on.ensures) in
+    let whole = chain_whole _ c.requires.accepted _ c.requires.room e c.put_words.ensures.1 in
+    search rules

@@ -6,6 +6,6 @@ pub returns-then-front : goal.returns-then-front
 unfolding met if
 returns-then-front c = rw c.if-front.true c.next_front.ensures
 
-pub returns : goal.returns
+pub returns-else-front : goal.returns-else-front
 unfolding met if
-returns c = rw c.if-front.false
+returns-else-front c = rw c.if-front.false

@@ -1,5 +1,5 @@
 use mathlib.Core.Path.{◌≡◌}
-use Prim.Native.Nat.{◌*◌, ◌-◌, ◌≤◌}
+use Prim.Native.Nat.{◌*◌, ◌-◌}
 use Rattle.sheet.specs.Records.{bytes_at}
 use Rattle.sheet.specs.Meaning.{entries_at}
 use Rattle.sheet_meaning.specs.Met.{met_all}
@@ -7,10 +7,5 @@ use Rattle.sheet_meaning.proofs.matching.meet_entries.Given as goal
 
 abbrev pub invariant-loop-j : goal.invariant-loop-j
 invariant-loop-j l =
-    record {
-      most : l.j ≤ l.n;
-      same : met_all l.log l.used (entries_at (bytes_at l.sheet l.body (16 * l.n)) (l.n - l.j) l.j) l.f ≡ met_all l.log l.used (entries_at (bytes_at l.sheet l.body (16 * l.n)) l.n 0) l.initial.f;
-    }
-
-abbrev pub decreases-loop-j : goal.decreases-loop-j
-decreases-loop-j l = l.n - l.j
+    met_all l.log.numbers.now l.log.used (entries_at (bytes_at l.sheet l.body (16 * l.n)) (l.n - l.j) l.j) l.met
+    ≡ met_all l.log.numbers.now l.log.used (entries_at (bytes_at l.sheet l.body (16 * l.n)) l.n 0) l.fn.front

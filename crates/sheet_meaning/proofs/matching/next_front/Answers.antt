@@ -1,16 +1,11 @@
-use borrow.Author.Tests.{lt-ltb, le-ltb}
-use Rattle.fields.specs.Fields.{if}
-use Rattle.sheet_meaning.specs.Met.{next_front}
+use Rattle.std.proofs.Common.{◌∙◌}
+use Rattle.sheet_meaning.proofs.MatchLaws.{front_compared, front_past}
 use Rattle.sheet_meaning.proofs.matching.next_front.Goals as goal
-
-pub returns-then-used-n : goal.returns-then-used-n
-unfolding next_front if
-returns-then-used-n c = rw (le-ltb _ _ c.if-used-n.true)
-
-pub returns-then-entry_is : goal.returns-then-entry_is
-unfolding next_front if
-returns-then-entry_is c = rw (lt-ltb _ _ c.if-used-n.false, ← c.entry_is.ensures, c.if-entry_is.true)
+use Rattle.sheet_meaning.proofs.matching.next_front.Goals.{then-n-log, else-n-log}
 
 pub returns : goal.returns
-unfolding next_front if
-returns c = rw (lt-ltb _ _ c.if-used-n.false, ← c.entry_is.ensures, c.if-entry_is.false)
+returns c =
+    elim c.if-n-log.branch [
+      | then-n-log w ↦ front_compared _ _ _ _ c.from.ensures w.if-n-log.true (w.whole-is ∙ w.entry_is-whole.ensures)
+      | else-n-log w ↦ front_past _ _ _ _ c.from.ensures w.if-n-log.false w.whole-is
+    ]

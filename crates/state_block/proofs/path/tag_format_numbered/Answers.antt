@@ -1,4 +1,3 @@
-use borrow.Author.Tests.{ne_eqb}
 use Rattle.fields.specs.Fields.{if}
 use Rattle.state_block.specs.Words.{numbered}
 use Rattle.state_block.specs.PathBlock.{tag_format_numbered}
@@ -12,6 +11,6 @@ pub returns-in-1 : goal.returns-in-1
 unfolding tag_format_numbered numbered if
 returns-in-1 c = rw c.in-1.is
 
-pub returns-in_default : goal.returns-in_default
+pub returns-in-2 : goal.returns-in-2
 unfolding tag_format_numbered numbered if
-returns-in_default c = rw (ne_eqb _ _ c.in_default.in_default-own.rest.0.1, ne_eqb _ _ c.in_default.in_default-own.rest.1)
+returns-in-2 c = rw c.in-2.is

@@ -1,6 +1,5 @@
 use borrow.Author.Tests.{ne_eqb}
 use Rattle.fields.specs.Fields.{if}
-use borrow.Author.Rules.{rules}
 use Rattle.state_block.proofs.state.payload_words.Goals as goal
 
 pub returns-then-count-eq0 : goal.returns-then-count-eq0
@@ -10,15 +9,3 @@ returns-then-count-eq0 c = rw (c.in-Words.is, c.if-count-eq0.true)
 pub returns-else-count-eq0 : goal.returns-else-count-eq0
 unfolding if
 returns-else-count-eq0 c = rw (c.in-Words.is, ne_eqb _ _ c.if-count-eq0.false)
-
-pub enum_told-1 : goal.enum_told-1
-unfolding if
-enum_told-1 c = search rules
-
-pub enum_known-payload : goal.enum_known-payload
-unfolding if
-enum_known-payload c = search rules
-
-pub returns-in-Nothing : goal.returns-in-Nothing
-unfolding if
-returns-in-Nothing c = search rules

@@ -1,4 +1,4 @@
-use mathlib.Core.Path.{refl}
+use Rattle.std.proofs.Common.{refl}
 use Rattle.state_block.proofs.UnitLaws.{unit_stored}
 use Rattle.state_block.proofs.unit.unit_block.Goals as goal
 

@@ -1,12 +1,11 @@
-use borrow.Author.Tests.{eq-eqb, ne_eqb}
-use Rattle.fields.specs.Fields.{if}
-use Rattle.state_block.specs.UnitBlock.{unit_in_block}
+use Rattle.state_block.proofs.WordLaws.{chunk_length}
+use Rattle.state_block.proofs.UnitLaws.{none_long, words_read}
 use Rattle.state_block.proofs.unit.unit_in_block.Goals as goal
 
-pub returns-then-block-ne-UNIT_WORDS : goal.returns-then-block-ne-UNIT_WORDS
-unfolding unit_in_block if
-returns-then-block-ne-UNIT_WORDS c = rw (c.no_unit.ensures, ne_eqb _ _ c.if-block-ne-UNIT_WORDS.true)
+pub returns-in_err-as_array : goal.returns-in_err-as_array
+returns-in_err-as_array c = rw c.from_residual.ensures (none_long c.args.block.now c.in_err-as_array.ensures.cases)
 
 pub returns : goal.returns
-unfolding unit_in_block if
-returns c = rw (c.unit_with.ensures, c.waiting_in_block.ensures, eq-eqb _ _ c.if-block-ne-UNIT_WORDS.false)
+returns c =
+    let w = c.in_ok-as_array.ensures.cases in
+    rw (c.unit_in_words.ensures, ← w.same) (words_read _ (chunk_length w))

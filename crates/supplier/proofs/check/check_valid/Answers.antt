@@ -1,12 +1,21 @@
+use Rattle.std.proofs.Common.{sym}
 use Rattle.supplier.proofs.RunLaws.{lent_fits}
-use Rattle.supplier.proofs.CheckLaws.{words_copied}
+use Rattle.supplier.proofs.CheckLaws.{ran_judges, ran_checked}
 use Rattle.supplier.proofs.check.check_valid.Goals as goal
 
-pub copy_bytes-requires : goal.copy_bytes-requires
-copy_bytes-requires c =
-    (lent_fits _ _ c.requires.entered).wide
+pub copy_from_slice-requires : goal.copy_from_slice-requires
+copy_from_slice-requires c = sym (lent_fits _ _ c.requires.entered).long
 
-pub run_beside-requires : goal.run_beside-requires
-run_beside-requires c =
-    let f = lent_fits _ _ c.requires.entered in
-    record { runs = c.requires; same_words = words_copied _ _ c.put_words.ensures f.long; same_bytes = c.copy_bytes.ensures }
+pub copy_from_slice-requires-2 : goal.copy_from_slice-requires-2
+copy_from_slice-requires-2 c = sym (lent_fits _ _ c.requires.entered).wide
+
+pub judge-requires : goal.judge-requires
+judge-requires c =
+    let n = c.new-after.ensures in
+    rw (n.0, n.1)
+    (ran_judges c.requires c.copy_from_slice.ensures.after c.copy_from_slice-2.ensures.after _ c.started.ensures _ c.run-r.ensures)
+
+pub returns : goal.returns
+returns c =
+    let n = c.new-after.ensures in
+    ran_checked c.requires c.copy_from_slice.ensures.after c.copy_from_slice-2.ensures.after _ c.started.ensures _ c.run-r.ensures (rw (n.0, n.1) at c.judge.ensures)

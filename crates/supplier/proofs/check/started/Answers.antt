@@ -1,8 +1,8 @@
-use mathlib.Core.Path.{ap, ◌∙◌}
-use Rattle.chain_state.specs.declared.StartResult.{StartResult}
-use Rattle.supplier.specs.Check.{begun}
+use Rattle.supplier.proofs.RunLaws.{reset_ok, reset_begins}
 use Rattle.supplier.proofs.check.started.Goals as goal
 
+pub unwrap-requires : goal.unwrap-requires
+unwrap-requires c = reset_ok _ c.reset.ensures c.start.ensures
+
 pub returns : goal.returns
-unfolding begun
-returns c = ap (λ (r : StartResult). r.state) c.start.ensures ∙ rw c.reset.ensures
+returns c = reset_begins c.reset.ensures c.unwrap.ensures c.start.ensures

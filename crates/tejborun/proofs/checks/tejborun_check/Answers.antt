@@ -6,5 +6,4 @@ returns-then-res-lt15 c = check_short _ _ _ _ _ c.if-res-lt15.true
 
 pub returns : goal.returns
 returns c =
-    check_told _ _ _ _ _ c.if-res-lt15.false c.check_chain-r.ensures c.number.ensures c.offset.ensures c.put_after_three.ensures
-    c.kind.ensures
+    check_told _ _ _ _ _ c.if-res-lt15.false c.check_chain-r.ensures c.number-number.ensures c.offset-offset.ensures c.put_before.ensures c.kind.ensures

@@ -1,12 +1,15 @@
-use Rattle.tejborun.proofs.TotalLaws.{not_eleven, too_few, enough, add_short, add_done}
+use Rattle.tejborun.proofs.TotalLaws.{too_short, enough, add_short, add_done, add_refused}
 use Rattle.tejborun.proofs.sums.tejborun_add_totals.Goals as goal
 
 pub returns-then-sums-ne-TOTALS : goal.returns-then-sums-ne-TOTALS
-returns-then-sums-ne-TOTALS c = add_short _ _ (not_eleven _ _ _ c.if-sums-ne-TOTALS.true)
+returns-then-sums-ne-TOTALS c = add_short _ _ (too_short _ _ _ c.then-sums-ne-TOTALS.either)
 
-pub returns-then-counts-lt-COUNTS : goal.returns-then-counts-lt-COUNTS
-returns-then-counts-lt-COUNTS c = add_short _ _ (too_few _ _ _ c.if-sums-ne-TOTALS.false c.if-counts-lt-COUNTS.true)
+pub returns-in-Ok : goal.returns-in-Ok
+returns-in-Ok c =
+    let e = enough _ _ 12 c.if-sums-ne-TOTALS.false c.if-counts-lt-COUNTS.false in
+    add_done _ _ c.if-sums-ne-TOTALS.false e c.totals_from.ensures c.counts_from.ensures c.add_totals.ensures c.in-Ok.is (rw c.numbers_of.ensures at c.put.ensures)
 
-pub returns : goal.returns
-returns c =
-    add_done _ _ c.if-sums-ne-TOTALS.false (enough _ _ _ c.if-sums-ne-TOTALS.false c.if-counts-lt-COUNTS.false) c.totals_from.ensures c.counts_from.ensures c.add_totals-r.ensures c.put_totals.ensures c.add_number.ensures
+pub returns-in-Err : goal.returns-in-Err
+returns-in-Err c =
+    let e = enough _ _ 12 c.if-sums-ne-TOTALS.false c.if-counts-lt-COUNTS.false in
+    rw c.number.ensures (add_refused _ _ c.if-sums-ne-TOTALS.false e c.totals_from.ensures c.counts_from.ensures c.add_totals.ensures c.in-Err.is)

@@ -1,9 +1,7 @@
-use Rattle.totals.proofs.AddLaws.{add_refused, add_done}
+use mathlib.Core.Path.{ap, ◌∙◌}
+use Rattle.totals.specs.Totals.{added_by}
+use Rattle.totals.proofs.AddLaws.{add_by}
 use Rattle.totals.proofs.adding.add_totals.Goals as goal
 
-pub returns-then-any_passes : goal.returns-then-any_passes
-returns-then-any_passes c = add_refused _ _ c.any_passes.ensures c.if-any_passes.true
-
 pub returns : goal.returns
-returns c =
-    add_done _ _ c.any_passes.ensures c.if-any_passes.false c.counts_of.ensures c.plus.ensures c.totals_in-sums.ensures
+returns c = ap (λ x. added_by c.args.totals x) c.ok_or.ensures.value ∙ add_by _ _ _ c.added.ensures

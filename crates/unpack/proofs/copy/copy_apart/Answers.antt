@@ -5,19 +5,12 @@ use Rattle.unpack_rules.proofs.WriteLaws.{position_inside}
 use Rattle.unpack.proofs.CopyLaws.{copy_inside, copy_near, copy_words_lem, next_cycle, next_place, next_vector, stores_more, stores_none}
 use Rattle.unpack.proofs.copy.copy_apart.Goals as goal
 
-pub place-quad-requires : goal.place-quad-requires
-place-quad-requires c =
-    let p = c.requires in
-    let f = p.few in
-    let s = p.some in
-    (p.cycle, p.memory.some, p.inside, omega arith)
-
 pub loop-i-init : goal.loop-i-init
 loop-i-init c =
     let p = c.requires in
     let e = c.place-quad.ensures in
     let t = c.place_in_cycle-cycle.ensures in
-    let q = position_inside c.args.size c.args.address c.args.r.cl c.args.r.wl c.args.first p.memory.some in
+    let q = position_inside c.args.w.size c.args.w.address c.args.w.registers.cl c.args.w.registers.wl c.args.w.first p.memory.some in
     record {
       sizes = refl;
       few = let h = p.some in omega arith;
@@ -29,43 +22,20 @@ loop-i-init c =
       same = refl;
     }
 
-pub quad_inside-words-requires : goal.quad_inside-words-requires
-quad_inside-words-requires c =
+pub quad_inside-requires : goal.quad_inside-requires
+quad_inside-requires c =
     copy_inside c.requires _ c.loop-i-test.true c.loop-i.invariant.byte
 
-pub store_quadword-requires : goal.store_quadword-requires
-store_quadword-requires c =
-    let q = c.loop-i.invariant in
-    let m = c.requires.memory.long in
-    let s = q.sizes in
-    let b = q.below in
-    omega arith
-
-pub stride-requires : goal.stride-requires
-stride-requires c =
-    (c.requires.cycle, c.loop-i.invariant.short)
-
-pub overflow_add-quad : goal.overflow_add-quad
-overflow_add-quad c =
-    let m = c.requires.memory.most in
-    let b = c.loop-i.invariant.below in
-    let s = c.stride.ensures.few in
-    omega arith
-
-pub next_in_cycle-turn-requires : goal.next_in_cycle-turn-requires
-next_in_cycle-turn-requires c =
-    (c.requires.cycle.wide, c.loop-i.invariant.short)
-
-pub next_vector-from-requires : goal.next_vector-from-requires
-next_vector-from-requires c =
-    copy_near c.requires _ c.loop-i-test.true c.loop-i.invariant.byte
+pub next_vector-at-requires : goal.next_vector-at-requires
+next_vector-at-requires c =
+    (copy_near c.requires _ c.loop-i-test.true c.loop-i.invariant.byte, omega arith)
 
 pub loop-i-preserved : goal.loop-i-preserved
 loop-i-preserved c =
     let p = c.requires in
     let q = c.loop-i.invariant in
-    let e = c.wrapped-next.ensures in
-    let y = next_cycle _ _ p.cycle.some _ q.turn c.next_in_cycle-turn.ensures in
+    let e = c.wrapped-quad.ensures in
+    let y = next_cycle _ _ p.cycle.some _ q.turn c.next_in_cycle-cycle.ensures in
     record {
       sizes = c.store_quadword.auto.data ∙ q.sizes;
       few = omega (arith, c.loop-i-test.true);
@@ -73,14 +43,11 @@ loop-i-preserved c =
       below = rw e (mod-lt _ p.memory.some);
       turn = y;
       short = rw y (mod-lt _ p.cycle.some);
-      byte = next_vector _ _ p.cycle.some _ _ _ _ _ q.byte y c.next_vector-from.ensures;
+      byte = next_vector _ _ p.cycle.some _ _ _ _ _ q.byte y c.next_vector-at.ensures;
       same =
-          stores_more _ _ _ _ _ _ c.loop-i-test.true q.place (copy_words_lem p _ c.loop-i-test.true q.byte c.quad_inside-words.ensures) c.store_quadword.ensures
+          stores_more _ _ _ _ _ _ c.loop-i-test.true q.place (copy_words_lem p _ c.loop-i-test.true q.byte c.quad_inside.ensures) c.store_quadword.ensures
           ∙ q.same;
     }
 
 pub returns : goal.returns
 returns c = sym (stores_none _ _ _ _ _ c.loop-i-test.false) ∙ c.loop-i.invariant.same
-
-pub shape_of-data : goal.shape_of-data
-shape_of-data c = c.loop-i.invariant.sizes

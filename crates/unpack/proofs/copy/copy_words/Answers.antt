@@ -1,11 +1,8 @@
-use mathlib.Core.Path.{refl, sym, ◌∙◌}
+use mathlib.Core.Path.{sym, ◌∙◌}
 use native.Mathlib.Omega.{arith}
 use lib.ListN.{length-set}
-use Rattle.unpack.proofs.CopyLaws.{copied_first, copied_more, copied_none}
+use Rattle.unpack.proofs.CopyLaws.{copied_more, copied_none}
 use Rattle.unpack.proofs.copy.copy_words.Goals as goal
-
-pub loop-j-init : goal.loop-j-init
-loop-j-init c = record { sizes = refl; few = omega arith; same = copied_first _ _ _ _ _ }
 
 pub loop-j-preserved : goal.loop-j-preserved
 loop-j-preserved c =

@@ -11,6 +11,3 @@ invariant-loop-j l =
       few : l.j ≤ l.n;
       same : copy_words l.main (l.n - l.j) (l.a + 4 * l.j) (l.to + l.j) l.data ≡ copy_words l.main l.n l.a l.to l.initial.data;
     }
-
-abbrev pub decreases-loop-j : goal.decreases-loop-j
-decreases-loop-j l = l.n - l.j

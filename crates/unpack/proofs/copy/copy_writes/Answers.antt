@@ -4,7 +4,7 @@ use Rattle.unpack.proofs.copy.copy_writes.Goals as goal
 pub copy_runs-requires : goal.copy_runs-requires
 copy_runs-requires c =
     let p = c.requires in
-    (p.memory, p.inside, p.few, p.some, even_vectors p c.if-r.true)
+    (p.memory, p.inside, p.few, p.some, even_vectors p c.if-w.true)
 
-pub returns-then-r : goal.returns-then-r
-returns-then-r c = even_copied _ _ _ _ _ _ _ _ _ c.if-r.true c.copy_runs.ensures
+pub returns-then-w : goal.returns-then-w
+returns-then-w c = even_copied _ _ _ _ _ _ _ _ _ c.if-w.true c.copy_runs.ensures

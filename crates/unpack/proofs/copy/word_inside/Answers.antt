@@ -1,5 +1,5 @@
+use Rattle.std.proofs.Common.{rules}
 use Rattle.fields.specs.Memory.{word_at}
-use borrow.Author.Rules.{rules}
 use Rattle.unpack.proofs.copy.word_inside.Goals as goal
 
 pub returns : goal.returns

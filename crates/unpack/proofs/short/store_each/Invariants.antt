@@ -10,9 +10,6 @@ invariant-loop-i l =
     record {
       sizes : length l.data ≡ length l.initial.data;
       same :
-          stores_from (position_of l.size l.address l.r.cl l.r.wl) (λ (i : ℕ). l.words) (l.last - l.i) l.i l.data
-          ≡ stores_from (position_of l.size l.address l.r.cl l.r.wl) (λ (i : ℕ). l.words) (l.last - l.first) l.first l.initial.data;
+          stores_from (position_of l.w.size l.w.address l.w.registers.cl l.w.registers.wl) (λ (i : ℕ). l.words) (l.w.last - l.i) l.i l.data
+          ≡ stores_from (position_of l.w.size l.w.address l.w.registers.cl l.w.registers.wl) (λ (i : ℕ). l.words) (l.w.last - l.w.first) l.w.first l.initial.data;
     }
-
-abbrev pub decreases-loop-i : goal.decreases-loop-i
-decreases-loop-i l = l.last - l.i

@@ -1,5 +1,5 @@
 use native.Mathlib.Omega.{arith}
-use Rattle.unpack.proofs.ShortLaws.{numbers, short_again, copy_join, after_end, copied_words}
+use Rattle.unpack.proofs.ShortLaws.{numbers, copy_join, after_end, copied_words}
 use Rattle.unpack.proofs.short.take_all.Goals as goal
 
 pub has_vectors-requires : goal.has_vectors-requires
@@ -7,29 +7,6 @@ has_vectors-requires c =
     let p = c.requires in
     let n = numbers p.0 in
     (omega arith, p.2, omega arith)
-
-pub end_vector-requires : goal.end_vector-requires
-end_vector-requires c =
-    let p = c.requires in
-    let h = c.has_vectors.ensures c.if-has_vectors.true in
-    (p.0, omega arith, omega arith)
-
-pub overflow_sub-n : goal.overflow_sub-n
-overflow_sub-n c =
-    let h = c.has_vectors.ensures c.if-has_vectors.true in
-    omega arith
-
-pub copy_vectors-requires : goal.copy_vectors-requires
-copy_vectors-requires c =
-    let p = c.requires in
-    let h = c.has_vectors.ensures c.if-has_vectors.true in
-    (short_again p.0 c.end_vector.auto.data, omega arith, omega arith, omega arith, omega arith)
-
-pub skip-requires : goal.skip-requires
-skip-requires c =
-    let p = c.requires in
-    let h = c.has_vectors.ensures c.if-has_vectors.true in
-    (omega arith, omega arith, omega arith)
 
 pub returns-then-has_vectors : goal.returns-then-has_vectors
 returns-then-has_vectors c =

@@ -14,18 +14,15 @@ overflow_sub-v-2 c =
     let n = numbers c.requires in
     omega (arith, c.vectors_before.ensures, c.if-u-ne1.false)
 
-pub writes_done-first-requires : goal.writes_done-first-requires
-writes_done-first-requires c =
+pub writes_done-requires : goal.writes_done-requires
+writes_done-requires c =
     let x = c.requires in
     let n = numbers x in
     let v = c.vectors_before.ensures in
     (x.cycle, n.cycle, omega arith, omega arith)
 
-pub overflow_add-v : goal.overflow_add-v
-overflow_add-v c = let n = numbers c.requires in omega (arith, c.vectors_before.ensures)
-
-pub writes_done-last-requires : goal.writes_done-last-requires
-writes_done-last-requires c =
+pub writes_done-requires-2 : goal.writes_done-requires-2
+writes_done-requires-2 c =
     let x = c.requires in
     let n = numbers x in
     let v = c.vectors_before.ensures in
@@ -35,8 +32,8 @@ writes_done-last-requires c =
 pub store_each-requires : goal.store_each-requires
 store_each-requires c =
     let x = c.requires in
-    (x.cycle, x.memory, x.unpacking.inside, done_most _ _ _ _ x.cycle.some (numbers x).few c.writes_done-last.ensures)
+    (x.cycle, x.memory, x.unpacking.inside, done_most _ _ _ _ x.cycle.some (numbers x).few c.writes_done-2.ensures)
 
 pub returns : goal.returns
 returns c =
-    word_short _ c.requires c.if-u-ne1.false (rw c.vectors_before.ensures) c.writes_done-first.ensures c.writes_done-last.ensures c.four-words.ensures c.store_each.ensures
+    word_short _ c.requires c.if-u-ne1.false (rw c.vectors_before.ensures) c.writes_done.ensures c.writes_done-2.ensures c.four-words.ensures c.store_each.ensures

@@ -1,16 +1,9 @@
-use mathlib.Core.Path.{◌≡◌, refl, sym, ◌∙◌}
-use Prim.Native.Nat.{◌+◌, ◌*◌, ◌-◌, ◌<◌}
+use mathlib.Core.Path.{refl, sym, ◌∙◌}
+use Prim.Native.Nat.{◌<◌}
 use native.Mathlib.Omega.{arith}
 use Rattle.unpack_rules.proofs.WordsLaws.{words_more, words_none}
 use Rattle.unpack.proofs.ShortLaws.{short_on}
 use Rattle.unpack.proofs.short.take_singly.Goals as goal
-
-pub loop-k-init : goal.loop-k-init
-loop-k-init c =
-    let a = c.args in
-    let e : a.a + 4 * 0 ≡ a.a = omega arith in
-    let z : a.n - 0 ≡ a.n = omega arith in
-    record { fits = c.requires.0; sizes = refl; few = omega arith; left = omega arith; same = λ row g. rw (e, z) }
 
 pub loop-k-preserved : goal.loop-k-preserved
 loop-k-preserved c =
@@ -31,21 +24,3 @@ loop-k-preserved c =
 
 pub returns : goal.returns
 returns c = record { leaves = λ row g. sym (c.loop-k.invariant.same row g) ∙ words_none _ _ _ _ _ _ _ _ _ c.loop-k-test.false }
-
-pub overflow_mul-k : goal.overflow_mul-k
-overflow_mul-k c = let p = c.requires in omega arith
-
-pub overflow_add-a : goal.overflow_add-a
-overflow_add-a c = let p = c.requires in omega arith
-
-pub take_short-requires : goal.take_short-requires
-take_short-requires c = c.loop-k.invariant.fits
-
-pub overflow_add-k : goal.overflow_add-k
-overflow_add-k c = omega arith
-
-pub loop-k-smaller : goal.loop-k-smaller
-loop-k-smaller c = omega arith
-
-pub shape_of-data : goal.shape_of-data
-shape_of-data c = c.loop-k.invariant.sizes

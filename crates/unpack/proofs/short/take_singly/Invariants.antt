@@ -20,6 +20,3 @@ invariant-loop-k l =
           → taken_by l.size V4x32 l.rest l.r (words_from l.main (l.a + 4 * l.k) (l.n - l.k)) (written row l.data)
           ≡ taken_by l.size V4x32 l.initial.rest l.r (words_from l.main l.a l.n) (written row l.initial.data);
     }
-
-abbrev pub decreases-loop-k : goal.decreases-loop-k
-decreases-loop-k l = l.n - l.k

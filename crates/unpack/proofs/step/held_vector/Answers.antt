@@ -1,13 +1,6 @@
-use Rattle.unpack_rules.proofs.PayloadLaws.{payload_fits, starts_inside, vector_fits}
+use Rattle.unpack_rules.proofs.PayloadLaws.{starts_inside, vector_fits}
 use Rattle.unpack_rules.specs.Step.{held_vector}
-use native.Mathlib.Omega.{arith}
 use Rattle.unpack.proofs.step.held_vector.Goals as goal
-
-pub overflow_mul-at : goal.overflow_mul-at
-overflow_mul-at c = let m = payload_fits c.args.f c.args.i (omega arith) in rw c.vector_bits.ensures (omega arith)
-
-pub overflow_add-at : goal.overflow_add-at
-overflow_add-at c = let m = payload_fits c.args.f c.args.i (omega arith) in rw c.vector_bits.ensures (omega arith)
 
 pub overflow_sub-at : goal.overflow_sub-at
 overflow_sub-at c = rw c.vector_bits.ensures (starts_inside c.args.f c.args.k c.args.i c.requires.0)

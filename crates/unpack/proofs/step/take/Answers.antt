@@ -20,11 +20,6 @@ payload_words-requires c =
     let n = c.requires.1.few in
     omega (arith, c.vectors_before-vectors.ensures)
 
-pub overflow_sub-k : goal.overflow_sub-k
-overflow_sub-k c =
-    let m = c.requires.1.most in
-    rw (c.payload_words.ensures, c.vectors_before-vectors.ensures) m
-
 pub whole_vectors-from-requires : goal.whole_vectors-from-requires
 whole_vectors-from-requires c =
     let t = taken_few c.args.f c.args.r c.args.u c.requires.1 in

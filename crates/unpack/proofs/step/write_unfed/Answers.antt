@@ -1,13 +1,8 @@
-use mathlib.Core.Path.{refl, sym, ◌∙◌}
-use native.Mathlib.Nat.{sub-zero}
+use mathlib.Core.Path.{sym, ◌∙◌}
 use native.Mathlib.Omega.{arith}
 use Rattle.unpack_rules.proofs.WriteLaws.{row_few, row_chosen, unfed_at, writes_more, writes_none}
 use Rattle.unpack_rules.proofs.StepLaws.{unfed_again, unfed_vectors}
 use Rattle.unpack.proofs.step.write_unfed.Goals as goal
-
-pub loop-i-init : goal.loop-i-init
-loop-i-init c =
-    record { fits = c.requires; length = refl; codes = c.unfold_mask-codes.ensures; col = refl; same = rw sub-zero }
 
 pub bounds-codes-c : goal.bounds-codes-c
 bounds-codes-c c = row_few _ _ c.row_of_cycle-c.ensures
@@ -39,6 +34,3 @@ loop-i-preserved c =
 
 pub returns : goal.returns
 returns c = sym (writes_none _ _ _ _ _ _ c.loop-i-test.false _) ∙ c.loop-i.invariant.same
-
-pub shape_of-data : goal.shape_of-data
-shape_of-data c = c.loop-i.invariant.length

@@ -1,22 +1,10 @@
-use mathlib.Core.Path.{refl, sym, ◌∙◌}
+use mathlib.Core.Path.{sym, ◌∙◌}
 use Prim.Native.Nat.{◌+◌}
 use native.Mathlib.Omega.{arith}
 use Rattle.unpack_rules.proofs.CycleLaws.{vectors_few}
 use Rattle.unpack_rules.proofs.WriteLaws.{row_few, row_chosen, filling_at, writes_more, writes_none}
 use Rattle.unpack_rules.proofs.StepLaws.{word_fits_again, number_up, number_some, number_in}
 use Rattle.unpack.proofs.step.write_vectors.Goals as goal
-
-pub loop-i-init : goal.loop-i-init
-loop-i-init c =
-    let p = c.requires in
-    record { fits = p; later = omega arith; vectors = c.vectors_before-vectors.ensures; length = refl; codes = c.unfold_mask-codes.ensures; col = refl; same = refl }
-
-pub vectors_after-vectors-requires : goal.vectors_after-vectors-requires
-vectors_after-vectors-requires c =
-    let i = c.loop-i.invariant in
-    let f = i.fits.few in
-    let l = c.loop-i-test.true in
-    (i.fits.cycle.some, i.vectors, omega arith)
 
 pub overflow_sub-vectors : goal.overflow_sub-vectors
 overflow_sub-vectors c =
@@ -28,7 +16,7 @@ held_vector-fields-requires c =
     let i = c.loop-i.invariant in
     let w = i.fits in
     let a = c.args in
-    let v = vectors_few a.r.cl a.r.wl (c.loop-i.i + 1) in
+    let v = vectors_few a.w.registers.cl a.w.registers.wl (c.loop-i.i + 1) in
     let l = c.loop-i-test.true in
     let n = w.few in
     (number_in (w.each _ i.later l) c.vectors_after-vectors.ensures, w.words, omega (arith, c.vectors_after-vectors.ensures))
@@ -44,7 +32,7 @@ write_at-next-requires c =
     let i = c.loop-i.invariant in
     let w = i.fits in
     let e = c.row_of_cycle-c.ensures in
-    (w.cycle, w.memory, w.inside, (let f = w.few in omega arith), row_chosen _ _ _ i.codes e, rw (i.col, e))
+    (w.cycle, w.memory, c.requires.1, (let f = w.few in omega arith), row_chosen _ _ _ i.codes e, rw (i.col, e))
 
 pub loop-i-preserved : goal.loop-i-preserved
 loop-i-preserved c =
@@ -66,6 +54,3 @@ loop-i-preserved c =
 
 pub returns : goal.returns
 returns c = sym (writes_none _ _ _ _ _ _ c.loop-i-test.false _) ∙ c.loop-i.invariant.same
-
-pub shape_of-data : goal.shape_of-data
-shape_of-data c = c.loop-i.invariant.length

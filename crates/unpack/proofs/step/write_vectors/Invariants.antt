@@ -11,16 +11,13 @@ use Rattle.unpack.proofs.step.write_vectors.Given as goal
 abbrev pub invariant-loop-i : goal.invariant-loop-i
 invariant-loop-i l =
     record {
-      fits : WordFits l.size l.f l.u l.r l.k l.from l.to l.data;
-      later : l.from ≤ l.i;
-      vectors : l.vectors ≡ vectors_before l.r.cl l.r.wl l.i;
+      fits : WordFits l.w.size l.f l.u l.w.registers l.k l.w.first l.w.last l.data;
+      later : l.w.first ≤ l.i;
+      vectors : l.vectors ≡ vectors_before l.w.registers.cl l.w.registers.wl l.i;
       length : length l.data ≡ length l.initial.data;
-      codes : l.codes ≡ unfolded l.r.mask;
-      col : l.col ≡ l.r.col;
+      codes : l.codes ≡ unfolded l.w.registers.mask;
+      col : l.col ≡ l.w.registers.col;
       same :
-          writes_from l.size l.u.address l.r (held_vector l.f l.u l.word l.k) (l.to - l.i) l.i (written l.rows l.data)
-          ≡ writes_from l.size l.u.address l.r (held_vector l.f l.u l.word l.k) (l.to - l.from) l.from (written l.initial.rows l.initial.data);
+          writes_from l.w.size l.w.address l.w.registers (held_vector l.f l.u l.word l.k) (l.w.last - l.i) l.i (written l.rows l.data)
+          ≡ writes_from l.w.size l.w.address l.w.registers (held_vector l.f l.u l.word l.k) (l.w.last - l.w.first) l.w.first (written l.initial.rows l.initial.data);
     }
-
-abbrev pub decreases-loop-i : goal.decreases-loop-i
-decreases-loop-i l = l.to - l.i

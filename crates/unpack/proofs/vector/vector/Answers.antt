@@ -1,4 +1,4 @@
-use Rattle.unpack_rules.proofs.VectorLaws.{part_fits, part_as, part_near}
+use Rattle.unpack_rules.proofs.VectorLaws.{part_fits, part_as}
 use Rattle.unpack_rules.proofs.VectorLaws.{vector_five, vector_one, vector_two, vector_three, vector_four}
 use Rattle.unpack_rules.proofs.PayloadLaws.{few_elements}
 use native.Mathlib.Omega.{arith}
@@ -15,37 +15,22 @@ pub extended_at-x-requires : goal.extended_at-x-requires
 extended_at-x-requires c = part_fits _ _ c.requires c.element_bits-width.ensures 0 _ (few_elements c.args.f).some (omega arith)
 
 pub returns-then-n-eq1 : goal.returns-then-n-eq1
-returns-then-n-eq1 c = vector_one _ _ _ _ (sym c.is_five.ensures ∙ c.if-is_five.false) c.elements_of-n.ensures (part_as _ _ c.requires c.element_bits-width.ensures _ _ 0 _ (omega arith) c.extended_at-x.ensures) c.if-n-eq1.true
-
-pub overflow_add-at : goal.overflow_add-at
-overflow_add-at c = let n = part_near c.args.f c.args.at c.requires c.element_bits-width.ensures 1 (omega arith) in omega arith
+returns-then-n-eq1 c = vector_one _ _ _ _ (sym c.is_five.ensures ∙ c.if-is_five.false) c.elements-n.ensures (part_as _ _ c.requires c.element_bits-width.ensures _ _ 0 _ (omega arith) c.extended_at-x.ensures) c.if-n-eq1.true
 
 pub extended_at-y-requires : goal.extended_at-y-requires
-extended_at-y-requires c = let n = (few_elements c.args.f).some in part_fits _ _ c.requires c.element_bits-width.ensures 1 _ (omega (arith, c.elements_of-n.ensures)) (omega arith)
+extended_at-y-requires c = let n = (few_elements c.args.f).some in part_fits _ _ c.requires c.element_bits-width.ensures 1 _ (omega (arith, c.elements-n.ensures)) (omega arith)
 
 pub returns-then-n-eq2 : goal.returns-then-n-eq2
-returns-then-n-eq2 c = vector_two _ _ _ _ (sym c.is_five.ensures ∙ c.if-is_five.false) c.elements_of-n.ensures (part_as _ _ c.requires c.element_bits-width.ensures _ _ 0 _ (omega arith) c.extended_at-x.ensures) c.if-n-eq1.false (part_as _ _ c.requires c.element_bits-width.ensures _ _ 1 _ (omega arith) c.extended_at-y.ensures) c.if-n-eq2.true
-
-pub overflow_mul-width : goal.overflow_mul-width
-overflow_mul-width c = let n = part_near c.args.f c.args.at c.requires c.element_bits-width.ensures 2 (omega arith) in omega arith
-
-pub overflow_add-at-2 : goal.overflow_add-at-2
-overflow_add-at-2 c = let n = part_near c.args.f c.args.at c.requires c.element_bits-width.ensures 2 (omega arith) in omega arith
+returns-then-n-eq2 c = vector_two _ _ _ _ (sym c.is_five.ensures ∙ c.if-is_five.false) c.elements-n.ensures (part_as _ _ c.requires c.element_bits-width.ensures _ _ 0 _ (omega arith) c.extended_at-x.ensures) c.if-n-eq1.false (part_as _ _ c.requires c.element_bits-width.ensures _ _ 1 _ (omega arith) c.extended_at-y.ensures) c.if-n-eq2.true
 
 pub extended_at-z-requires : goal.extended_at-z-requires
-extended_at-z-requires c = let n = (few_elements c.args.f).some in part_fits _ _ c.requires c.element_bits-width.ensures 2 _ (omega (arith, c.elements_of-n.ensures)) (omega arith)
+extended_at-z-requires c = let n = (few_elements c.args.f).some in part_fits _ _ c.requires c.element_bits-width.ensures 2 _ (omega (arith, c.elements-n.ensures)) (omega arith)
 
 pub returns-then-n-eq3 : goal.returns-then-n-eq3
-returns-then-n-eq3 c = vector_three _ _ _ _ (sym c.is_five.ensures ∙ c.if-is_five.false) c.elements_of-n.ensures (part_as _ _ c.requires c.element_bits-width.ensures _ _ 0 _ (omega arith) c.extended_at-x.ensures) c.if-n-eq1.false (part_as _ _ c.requires c.element_bits-width.ensures _ _ 1 _ (omega arith) c.extended_at-y.ensures) c.if-n-eq2.false (part_as _ _ c.requires c.element_bits-width.ensures _ _ 2 _ (omega arith) c.extended_at-z.ensures) c.if-n-eq3.true
-
-pub overflow_mul-width-2 : goal.overflow_mul-width-2
-overflow_mul-width-2 c = let n = part_near c.args.f c.args.at c.requires c.element_bits-width.ensures 3 (omega arith) in omega arith
-
-pub overflow_add-at-3 : goal.overflow_add-at-3
-overflow_add-at-3 c = let n = part_near c.args.f c.args.at c.requires c.element_bits-width.ensures 3 (omega arith) in omega arith
+returns-then-n-eq3 c = vector_three _ _ _ _ (sym c.is_five.ensures ∙ c.if-is_five.false) c.elements-n.ensures (part_as _ _ c.requires c.element_bits-width.ensures _ _ 0 _ (omega arith) c.extended_at-x.ensures) c.if-n-eq1.false (part_as _ _ c.requires c.element_bits-width.ensures _ _ 1 _ (omega arith) c.extended_at-y.ensures) c.if-n-eq2.false (part_as _ _ c.requires c.element_bits-width.ensures _ _ 2 _ (omega arith) c.extended_at-z.ensures) c.if-n-eq3.true
 
 pub extended_at-w-requires : goal.extended_at-w-requires
-extended_at-w-requires c = let n = (few_elements c.args.f).some in part_fits _ _ c.requires c.element_bits-width.ensures 3 _ (omega (arith, c.elements_of-n.ensures)) (omega arith)
+extended_at-w-requires c = let n = (few_elements c.args.f).some in part_fits _ _ c.requires c.element_bits-width.ensures 3 _ (omega (arith, c.elements-n.ensures)) (omega arith)
 
 pub returns : goal.returns
-returns c = vector_four _ _ _ _ (sym c.is_five.ensures ∙ c.if-is_five.false) c.elements_of-n.ensures (part_as _ _ c.requires c.element_bits-width.ensures _ _ 0 _ (omega arith) c.extended_at-x.ensures) c.if-n-eq1.false (part_as _ _ c.requires c.element_bits-width.ensures _ _ 1 _ (omega arith) c.extended_at-y.ensures) c.if-n-eq2.false (part_as _ _ c.requires c.element_bits-width.ensures _ _ 2 _ (omega arith) c.extended_at-z.ensures) c.if-n-eq3.false (part_as _ _ c.requires c.element_bits-width.ensures _ _ 3 _ (omega arith) c.extended_at-w.ensures)
+returns c = vector_four _ _ _ _ (sym c.is_five.ensures ∙ c.if-is_five.false) c.elements-n.ensures (part_as _ _ c.requires c.element_bits-width.ensures _ _ 0 _ (omega arith) c.extended_at-x.ensures) c.if-n-eq1.false (part_as _ _ c.requires c.element_bits-width.ensures _ _ 1 _ (omega arith) c.extended_at-y.ensures) c.if-n-eq2.false (part_as _ _ c.requires c.element_bits-width.ensures _ _ 2 _ (omega arith) c.extended_at-z.ensures) c.if-n-eq3.false (part_as _ _ c.requires c.element_bits-width.ensures _ _ 3 _ (omega arith) c.extended_at-w.ensures)

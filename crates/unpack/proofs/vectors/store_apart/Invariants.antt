@@ -10,15 +10,12 @@ abbrev pub invariant-loop-i : goal.invariant-loop-i
 invariant-loop-i l =
     record {
       sizes : length l.data ≡ length l.initial.data;
-      place : l.quad ≡ position_of l.size l.address l.r.cl l.r.wl l.i;
-      below : l.quad < l.size;
-      turn : l.cycle ≡ l.i % l.r.wl;
-      short : l.cycle < l.r.wl;
-      vector : l.index + suc (vectors_before l.r.cl l.r.wl l.first) ≡ vectors_before l.r.cl l.r.wl (suc l.i);
+      place : l.quad ≡ position_of l.w.size l.w.address l.w.registers.cl l.w.registers.wl l._i;
+      below : l.quad < l.w.size;
+      turn : l.cycle ≡ l._i % l.w.registers.wl;
+      short : l.cycle < l.w.registers.wl;
+      vector : l.index + suc (vectors_before l.w.registers.cl l.w.registers.wl l.w.first) ≡ vectors_before l.w.registers.cl l.w.registers.wl (suc l._i);
       same :
-          stores_from (position_of l.size l.address l.r.cl l.r.wl) (vector_of l.xs l.r.cl l.r.wl l.first) (l.last - l.i) l.i l.data
-          ≡ stores_from (position_of l.size l.address l.r.cl l.r.wl) (vector_of l.xs l.r.cl l.r.wl l.first) (l.last - l.first) l.first l.initial.data;
+          stores_from (position_of l.w.size l.w.address l.w.registers.cl l.w.registers.wl) (vector_of l.xs l.w.registers.cl l.w.registers.wl l.w.first) (l.w.last - l._i) l._i l.data
+          ≡ stores_from (position_of l.w.size l.w.address l.w.registers.cl l.w.registers.wl) (vector_of l.xs l.w.registers.cl l.w.registers.wl l.w.first) (l.w.last - l.w.first) l.w.first l.initial.data;
     }
-
-abbrev pub decreases-loop-i : goal.decreases-loop-i
-decreases-loop-i l = l.last - l.i

@@ -17,5 +17,5 @@ unfolding vector_in
 returns c =
     let f = c.args.f in
     let p = part_in f c.args.usn c.args.main.now (λ j. let y = c.shared_slice_known-1.given j in omega arith) c.args.at c.requires.2 in
-    c.store_words.ensures
+    c.store_quadword.ensures
     ∙ ap (store_quadword _ _) (vector_one _ _ _ _ c.requires.3.extends refl (p 0 (few_elements f).some _ _ (omega arith) c.extended_inside-x.ensures) c.requires.3.single)

@@ -15,6 +15,3 @@ invariant-loop-j l =
           stores_from (λ (i : ℕ). l.to + i) (vector_from l.f l.usn l.main l.a 0) (l.n - l.j) l.j l.data
           ≡ stores_from (λ (i : ℕ). l.to + i) (vector_from l.f l.usn l.main l.a 0) l.n 0 l.initial.data;
     }
-
-abbrev pub decreases-loop-j : goal.decreases-loop-j
-decreases-loop-j l = l.n - l.j

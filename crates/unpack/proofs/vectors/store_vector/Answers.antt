@@ -30,7 +30,7 @@ returns-then-n-eq1 c =
     let w = c.requires.2 in
     let f = c.args.f in
     let p = part_in f c.args.usn c.args.main.now (λ j. let y = c.shared_slice_known-1.given j in omega arith) c.args.at w in
-    c.store_words.ensures
+    c.store_quadword-then-n-eq1.ensures
     ∙ ap (store_quadword _ _)
     (vector_one _ _ _ _ (sym c.is_five.ensures ∙ c.if-is_five.false) c.requires.3 (p 0 (few_elements f).some _ _ (omega arith) c.extended_inside-x.ensures) c.if-n-eq1.true)
 
@@ -49,7 +49,7 @@ returns-then-n-eq2 c =
     let m = (few_elements f).some in
     let e = c.requires.3 in
     let p = part_in f c.args.usn c.args.main.now (λ j. let c = c.shared_slice_known-1.given j in omega arith) c.args.at w in
-    c.store_words-then-n-eq2.ensures
+    c.store_quadword-then-n-eq2.ensures
     ∙ ap (store_quadword _ _)
     (vector_two _ _ _ _ (sym c.is_five.ensures ∙ c.if-is_five.false) e (p 0 m _ _ (omega arith) c.extended_inside-x.ensures) c.if-n-eq1.false (p 1 (omega arith) _ _ (omega arith) c.extended_inside-y.ensures) c.if-n-eq2.true)
 
@@ -68,7 +68,7 @@ returns-then-n-eq3 c =
     let m = (few_elements f).some in
     let e = c.requires.3 in
     let p = part_in f c.args.usn c.args.main.now (λ j. let c = c.shared_slice_known-1.given j in omega arith) c.args.at w in
-    c.store_words-then-n-eq3.ensures
+    c.store_quadword-then-n-eq3.ensures
     ∙ ap (store_quadword _ _)
     (vector_three _ _ _ _ (sym c.is_five.ensures ∙ c.if-is_five.false) e (p 0 m _ _ (omega arith) c.extended_inside-x.ensures) c.if-n-eq1.false (p 1 (omega arith) _ _ (omega arith) c.extended_inside-y.ensures) c.if-n-eq2.false (p 2 (omega arith) _ _ (omega arith) c.extended_inside-z.ensures) c.if-n-eq3.true)
 
@@ -87,6 +87,6 @@ returns c =
     let m = (few_elements f).some in
     let e = c.requires.3 in
     let p = part_in f c.args.usn c.args.main.now (λ j. let c = c.shared_slice_known-1.given j in omega arith) c.args.at w in
-    c.store_words-2.ensures
+    c.store_quadword-2.ensures
     ∙ ap (store_quadword _ _)
     (vector_four _ _ _ _ (sym c.is_five.ensures ∙ c.if-is_five.false) e (p 0 m _ _ (omega arith) c.extended_inside-x.ensures) c.if-n-eq1.false (p 1 (omega arith) _ _ (omega arith) c.extended_inside-y.ensures) c.if-n-eq2.false (p 2 (omega arith) _ _ (omega arith) c.extended_inside-z.ensures) c.if-n-eq3.false (p 3 (omega arith) _ _ (omega arith) c.extended_inside-w.ensures))

@@ -1,24 +1,8 @@
 use mathlib.Core.Path.{refl, sym, ◌∙◌}
-use native.Mathlib.Nat.{mul-zero, add-zero, sub-zero}
 use native.Mathlib.Omega.{arith}
-use borrow.Author.Rules.{rules}
 use Rattle.unpack.proofs.CopyLaws.{stores_more, stores_none}
-use Rattle.unpack.proofs.VectorsLaws.{run_inside, run_next, run_first}
+use Rattle.unpack.proofs.VectorsLaws.{run_next, run_first}
 use Rattle.unpack.proofs.vectors.store_vectors.Goals as goal
-
-pub loop-j-init : goal.loop-j-init
-loop-j-init c = record { sizes = refl; few = omega arith; byte = rw (mul-zero, add-zero); same = rw sub-zero }
-
-pub store_vector-requires : goal.store_vector-requires
-store_vector-requires c =
-    let i = c.loop-j.invariant in
-    let e = i.sizes in
-    (run_inside c.args.f c.args.a _ _ _ c.requires.0 c.loop-j-test.true i.byte, (let h = c.loop-j-test.true in let p = c.requires.1 in omega arith), c.element_bits-width.ensures, c.elements_of-elements.ensures)
-
-pub overflow_add-at : goal.overflow_add-at
-overflow_add-at c =
-    let r = run_inside c.args.f c.args.a _ _ _ c.requires.0 c.loop-j-test.true c.loop-j.invariant.byte in
-    search (rules, r)
 
 pub loop-j-preserved : goal.loop-j-preserved
 loop-j-preserved c =
@@ -32,6 +16,3 @@ loop-j-preserved c =
 
 pub returns : goal.returns
 returns c = sym (stores_none _ _ _ _ _ c.loop-j-test.false) ∙ c.loop-j.invariant.same
-
-pub shape_of-data : goal.shape_of-data
-shape_of-data c = c.loop-j.invariant.sizes

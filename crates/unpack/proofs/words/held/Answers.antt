@@ -1,4 +1,4 @@
 use Rattle.unpack.proofs.words.held.Goals as goal
 
 pub returns : goal.returns
-returns c = rw c.one_less.ensures
+returns c = rw c.saturating_sub.ensures

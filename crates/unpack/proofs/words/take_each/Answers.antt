@@ -19,11 +19,6 @@ payload_words-requires c =
     let n = c.requires.1.few in
     omega (arith, c.vectors_before-vectors.ensures)
 
-pub overflow_sub-taken : goal.overflow_sub-taken
-overflow_sub-taken c =
-    let m = c.requires.1.most in
-    rw (c.payload_words.ensures, c.vectors_before-vectors.ensures) m
-
 pub whole_vectors-from-requires : goal.whole_vectors-from-requires
 whole_vectors-from-requires c =
     let t = taken_few c.args.f c.args.r c.args.u c.requires.1 in
@@ -53,30 +48,8 @@ loop-k-init c =
       same = rw (e, z);
     }
 
--- no more words than those of a whole payload are taken
-pub overflow_add-taken : goal.overflow_add-taken
-overflow_add-taken c =
-    let i = c.loop-k.invariant in
-    let w = taken_few c.args.f c.args.r c.loop-k.rest i.unpacking in
-    let e = i.words in
-    omega arith
-
-pub overflow_add-taken-in-loop-k : goal.overflow_add-taken-in-loop-k
-overflow_add-taken-in-loop-k c =
-    let i = c.loop-k.invariant in
-    let w = taken_few c.args.f c.args.r c.loop-k.rest i.unpacking in
-    let e = i.words in
-    omega arith
-
 pub whole_vectors-to-requires : goal.whole_vectors-to-requires
 whole_vectors-to-requires c =
-    let i = c.loop-k.invariant in
-    let w = taken_few c.args.f c.args.r c.loop-k.rest i.unpacking in
-    let e = i.words in
-    omega arith
-
-pub overflow_add-taken-then-from-to : goal.overflow_add-taken-then-from-to
-overflow_add-taken-then-from-to c =
     let i = c.loop-k.invariant in
     let w = taken_few c.args.f c.args.r c.loop-k.rest i.unpacking in
     let e = i.words in
@@ -122,18 +95,3 @@ loop-k-preserved c =
 
 pub returns : goal.returns
 returns c = sym (words_none _ _ _ _ _ _ _ _ _ c.loop-k-test.false) ∙ c.loop-k.invariant.same
-
-pub overflow_mul-k : goal.overflow_mul-k
-overflow_mul-k c = let i = c.loop-k.invariant.small in omega arith
-
-pub overflow_add-a : goal.overflow_add-a
-overflow_add-a c = let i = c.loop-k.invariant.near in let j = c.loop-k.invariant.small in omega arith
-
-pub overflow_add-k : goal.overflow_add-k
-overflow_add-k c = omega arith
-
-pub loop-k-smaller : goal.loop-k-smaller
-loop-k-smaller c = omega arith
-
-pub shape_of-data : goal.shape_of-data
-shape_of-data c = c.loop-k.invariant.lengths

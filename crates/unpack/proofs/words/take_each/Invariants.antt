@@ -28,6 +28,3 @@ invariant-loop-k l =
           taken_by l.size l.f l.rest l.r (words_from l.main (l.a + 4 * l.k) (l.n - l.k)) (written l.rows l.data)
           ≡ taken_by l.size l.f l.initial.rest l.r (words_from l.main l.a l.n) (written l.initial.rows l.initial.data);
     }
-
-abbrev pub decreases-loop-k : goal.decreases-loop-k
-decreases-loop-k l = l.n - l.k

@@ -1,6 +1,5 @@
 use mathlib.Core.Path.{refl, ◌∙◌}
 use native.Mathlib.Omega.{arith}
-use borrow.Author.Rules.{rules}
 use Rattle.unpack_rules.proofs.CycleLaws.{vectors_few}
 use Rattle.unpack_rules.proofs.StepLaws.{payload_few, taken_is}
 use Rattle.unpack.proofs.ReadLaws.{begun_fits, begun_due, begun_taken, words_joined}
@@ -12,11 +11,6 @@ payload_words-requires c =
     let n = c.requires.1.few in
     omega (arith, c.vectors_before-vectors.ensures)
 
-pub overflow_sub-payload_words : goal.overflow_sub-payload_words
-overflow_sub-payload_words c =
-    let m = c.requires.1.most in
-    rw (c.payload_words.ensures, c.vectors_before-vectors.ensures) m
-
 pub has_vectors-requires : goal.has_vectors-requires
 has_vectors-requires c =
     let p = c.requires in
@@ -24,61 +18,35 @@ has_vectors-requires c =
     let d = p.1.most in
     (c.words_before-lead.ensures.1, p.3, omega arith)
 
-pub take_few-begun-requires : goal.take_few-begun-requires
-take_few-begun-requires c =
-    let p = c.requires in
-    let h = c.has_vectors.ensures c.if-has_vectors.true in
-    (p.0, p.1, p.2, p.3, omega arith)
-
-pub overflow_sub-n : goal.overflow_sub-n
-overflow_sub-n c =
-    let h = c.has_vectors.ensures c.if-has_vectors.true in
-    omega arith
-
-pub take_vectors-next-requires : goal.take_vectors-next-requires
-take_vectors-next-requires c =
+pub take_vectors-requires : goal.take_vectors-requires
+take_vectors-requires c =
     let p = c.requires in
     let a = c.args in
     let h = c.has_vectors.ensures c.if-has_vectors.true in
     let l = c.words_before-lead.ensures in
-    let f = begun_fits a.size a.f a.u a.r _ a.a _ a.n _ c.take_few-begun.ensures p.1 (omega arith) in
-    let d = begun_due a.size a.f a.u a.r _ a.a _ a.n _ c.take_few-begun.ensures p.1 (omega arith) in
-    let k = begun_taken a.size a.f a.u a.r _ a.a _ a.n _ c.take_few-begun.ensures p.1 (omega arith) in
+    let f = begun_fits a.size a.f a.u a.r _ a.a _ a.n _ c.take_few.ensures p.1 (omega arith) in
+    let d = begun_due a.size a.f a.u a.r _ a.a _ a.n _ c.take_few.ensures p.1 (omega arith) in
+    let k = begun_taken a.size a.f a.u a.r _ a.a _ a.n _ c.take_few.ensures p.1 (omega arith) in
     let q = taken_is a.f a.r a.u c.vectors_before-vectors.ensures c.payload_words.ensures in
     record {
       cycle = p.0;
-      memory = record { some = p.2.some; most = p.2.most; long = c.take_few-begun.auto.data ∙ p.2.long };
+      memory = record { some = p.2.some; most = p.2.most; long = c.take_few.auto.data ∙ p.2.long };
       unpacking = f;
       fewer = omega arith;
       begins = rw (k, ← q) l.0;
       lies = omega arith;
     }
 
-pub overflow_sub-n-then-has_vectors : goal.overflow_sub-n-then-has_vectors
-overflow_sub-n-then-has_vectors c =
-    let h = c.has_vectors.ensures c.if-has_vectors.true in
-    omega arith
-
-pub overflow_mul-n : goal.overflow_mul-n
-overflow_mul-n c =
-    let h = c.has_vectors.ensures c.if-has_vectors.true in
-    search (rules, h)
-
-pub overflow_add-a : goal.overflow_add-a
-overflow_add-a c =
-    let h = c.has_vectors.ensures c.if-has_vectors.true in
-    search (rules, h)
-
 pub skip-requires : goal.skip-requires
 skip-requires c =
     let p = c.requires in
     let a = c.args in
     let h = c.has_vectors.ensures c.if-has_vectors.true in
-    let d = begun_due a.size a.f a.u a.r _ a.a _ a.n _ c.take_few-begun.ensures p.1 (omega arith) in
+    let d = begun_due a.size a.f a.u a.r _ a.a _ a.n _ c.take_few.ensures p.1 (omega arith) in
     (omega arith, omega arith, omega arith)
 
 pub returns-then-has_vectors : goal.returns-then-has_vectors
 returns-then-has_vectors c =
     let a = c.args in
     let h = c.has_vectors.ensures c.if-has_vectors.true in
-    words_joined a.size a.f a.u a.r _ a.a _ a.n _ c.take_few-begun.ensures (omega arith) refl c.take_vectors-next.ensures c.skip.ensures
+    words_joined a.size a.f a.u a.r _ a.a _ a.n _ c.take_few.ensures (omega arith) refl c.take_vectors.ensures c.skip.ensures

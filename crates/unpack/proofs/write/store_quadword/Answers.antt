@@ -1,6 +1,7 @@
 use Rattle.unpack_rules.specs.Whole.{store_quadword}
+use mathlib.Core.Path.{refl}
 use Rattle.unpack.proofs.write.store_quadword.Goals as goal
 
 pub returns : goal.returns
 unfolding store_quadword
-returns c = c.store_words.ensures
+returns c = refl

@@ -1,13 +1,11 @@
-use mathlib.Core.Path.{◌∙◌}
 use Rattle.fields.proofs.CountLaws.{counted_quadwords, plus_units_fits}
 use Rattle.vif.proofs.bursts.with_quadwords.Goals as goal
 
 pub returns : goal.returns
 returns c =
-    c.taken.ensures
-    ∙ rw (
-      c.with_waiting-unit.ensures,
-      c.plus_units-counts.ensures,
+    rw (
+      c.with_waiting.ensures,
+      c.plus_units.ensures,
       c.quadwords_alone.ensures,
       plus_units_fits c.requires.2 (counted_quadwords c.requires.3) c.requires.1,
     )

@@ -12,12 +12,3 @@ returns c =
     λ p used mem log.
     let h = c.requires in
     mpg_leads _ _ _ _ _ c.instructions-size.ensures.0 _ p used mem log h.0 h.2 h.1.left h.1.due_most h.3 (omega arith) c.store_words.ensures c.mpg_left.ensures c.with_waiting.ensures
-
-pub overflow_add-first : goal.overflow_add-first
-overflow_add-first c = let h = c.requires in omega (arith, h.1.few)
-
-pub overflow_sub-first : goal.overflow_sub-first
-overflow_sub-first c = let h = c.requires in omega (arith, h.1.due_most)
-
-pub mpg_left-requires : goal.mpg_left-requires
-mpg_left-requires c = let h = c.requires in h.3.most

@@ -24,9 +24,6 @@ unpack_payload-requires c =
     let q = c.in-UnpackDue.is in
     (q, unpack_due _ c.args.unit h.ranged q _ h.long, ahead_is _ _ _ q h.ahead, h.near)
 
-pub returns-in-Nothing : goal.returns-in-Nothing
-returns-in-Nothing c = absurd (c.requires.busy c.in-Nothing.is)
-
 pub returns-in-MaskDue : goal.returns-in-MaskDue
 returns-in-MaskDue c =
     λ p used log.
@@ -50,15 +47,3 @@ returns-in-ColDue c =
     let q = c.in-ColDue.is in
     let a = ahead_is _ _ _ q h.ahead in
     one_word a.0 (col_leads _ _ _ _ p used _ c.word_at-in-ColDue.ensures a.1 q c.col_word.ensures)
-
-pub returns-in-DirectDue : goal.returns-in-DirectDue
-returns-in-DirectDue c = absurd (ahead_is _ _ _ c.in-DirectDue.is c.requires.ahead)
-
-pub returns-in-DirecthlDue : goal.returns-in-DirecthlDue
-returns-in-DirecthlDue c = absurd (ahead_is _ _ _ c.in-DirecthlDue.is c.requires.ahead)
-
-pub returns-in-MpgDue : goal.returns-in-MpgDue
-returns-in-MpgDue c = λ p used log. c.mpg_words.ensures p used _ log
-
-pub returns-in-UnpackDue : goal.returns-in-UnpackDue
-returns-in-UnpackDue c = λ p used log. c.unpack_payload.ensures p used _ log

@@ -1,6 +1,4 @@
-use mathlib.Core.Path.{◌≡◌}
 use Prim.Native.Nat.{◌-◌, ◌≤◌}
-use lib.ListN.{length}
 use Rattle.memories.specs.Lengths.{lent}
 use Rattle.vif.specs.Feeds.{fed}
 use Rattle.vif.specs.Inner.{Leads, fed_in, words_with}
@@ -9,7 +7,6 @@ use Rattle.vif.proofs.codes.take_codes.Given as goal
 abbrev pub invariant-loop-k : goal.invariant-loop-k
 invariant-loop-k l =
     record {
-      lengths : (length l.data ≡ length l.initial.data) × (length l.code ≡ length l.initial.code) × (length l.log ≡ length l.initial.log);
       few : l.k ≤ l.n;
       few_nops : l.nops ≤ l.k;
       leads : Leads l.which l.main l.from l.k (words_with l.k l.nops) (fed_in l.s (lent l.initial.data l.initial.code l.initial.log)) (fed l.unit l.s.path2 l.used (lent l.data l.code l.log));

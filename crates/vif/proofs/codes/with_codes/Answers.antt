@@ -1,4 +1,3 @@
-use mathlib.Core.Path.{◌∙◌}
 use native.Mathlib.Omega.{arith}
 use Rattle.fields.specs.Counts.{Counted}
 use Rattle.fields.proofs.CountLaws.{plus_units_fits}
@@ -9,4 +8,4 @@ pub returns : goal.returns
 returns c =
     let h = c.requires in
     let w : Counted (words_with c.args.words c.args.nops) = record { few_packets = omega arith; few_words = omega arith; few_nops = h.3 } in
-    c.taken.ensures ∙ rw (c.plus_units-counts.ensures, plus_units_fits h.2 w h.1)
+    rw (c.plus_units.ensures, plus_units_fits h.2 w h.1)

@@ -1,4 +1,5 @@
-use mathlib.Core.Path.{refl, sym, ◌∙◌}
+use mathlib.Core.Logic.{⊎_elim}
+use mathlib.Core.Path.{sym, ◌∙◌}
 use mathlib.Core.List.{[]}
 use native.Mathlib.Omega.{arith}
 use Rattle.fields.proofs.CountLaws.{counted_none}
@@ -10,7 +11,6 @@ loop-s-init c =
     let e = c.nothing_taken-s.ensures in
     record {
       ready = rw e c.requires.0;
-      lengths = (refl, refl, refl);
       quiet = rw e;
       counted = rw e counted_none;
       same = rest_begins _ _ _ _ _ c.nothing_taken-s.result _ (rw e) (rw e);
@@ -18,11 +18,10 @@ loop-s-init c =
 
 pub returns-then-s-limit : goal.returns-then-s-limit
 returns-then-s-limit c =
-    rest_ends _ _ _ _ _ _ c.nothing_taken-s.ensures c.loop-s.invariant.same (rest_out _ _ _ _ _ _ _ c.loop-s.invariant.quiet c.if-s-limit.true)
-
-pub returns-then-s-count : goal.returns-then-s-count
-returns-then-s-count c =
-    rest_ends _ _ _ _ _ _ c.nothing_taken-s.ensures c.loop-s.invariant.same (rest_used _ _ _ _ _ _ _ c.loop-s.invariant.quiet c.if-s-count.true)
+    ⊎_elim
+    (λ l. rest_ends _ _ _ _ _ _ c.nothing_taken-s.ensures c.loop-s.invariant.same (rest_out _ _ _ _ _ _ _ c.loop-s.invariant.quiet l))
+    (λ l. rest_ends _ _ _ _ _ _ c.nothing_taken-s.ensures c.loop-s.invariant.same (rest_used _ _ _ _ _ _ _ c.loop-s.invariant.quiet l.1))
+    c.then-s-limit.either
 
 pub take_codes-s-requires : goal.take_codes-s-requires
 take_codes-s-requires c =
@@ -47,12 +46,11 @@ give_word-s-requires c =
 pub returns-then-s : goal.returns-then-s
 returns-then-s c =
     let u = c.burst-s.ensures _ _ in
-    rest_ends _ _ _ _ _ _ c.nothing_taken-s.ensures c.loop-s.invariant.same (c.take_codes-s.ensures.same ∙ u.same ∙ c.give_word-s.ensures.stops _ _ u.going c.if-s.true)
-
-pub returns-then-s-before : goal.returns-then-s-before
-returns-then-s-before c =
-    let u = c.burst-s.ensures _ _ in
-    rest_ends _ _ _ _ _ _ c.nothing_taken-s.ensures c.loop-s.invariant.same (c.take_codes-s.ensures.same ∙ u.same ∙ c.give_word-s.ensures.refuses _ _ u.going c.if-s-before.true)
+    let e = c.take_codes-s.ensures.same ∙ u.same in
+    ⊎_elim
+    (λ i. rest_ends _ _ _ _ _ _ c.nothing_taken-s.ensures c.loop-s.invariant.same (e ∙ c.give_word-s.ensures.stops _ _ u.going i))
+    (λ q. rest_ends _ _ _ _ _ _ c.nothing_taken-s.ensures c.loop-s.invariant.same (e ∙ c.give_word-s.ensures.refuses _ _ u.going q.1))
+    c.then-s.either
 
 pub loop-s-smaller-then-s-start : goal.loop-s-smaller-then-s-start
 loop-s-smaller-then-s-start c =
@@ -67,7 +65,6 @@ loop-s-preserved-then-s-start c =
     let u = c.take_codes-s.ensures in
     record {
       ready = u.ready;
-      lengths = (c.take_codes-s.auto.data ∙ c.loop-s.invariant.lengths.0, c.take_codes-s.auto.code ∙ c.loop-s.invariant.lengths.1, c.take_codes-s.auto.log ∙ c.loop-s.invariant.lengths.2);
       quiet = u.quiet;
       counted = u.counted;
       same = sym u.same ∙ c.loop-s.invariant.same;
@@ -89,44 +86,7 @@ loop-s-preserved c =
     let quiet = c.if-s.false in
     record {
       ready = g.ready;
-      lengths = (c.give_word-s.auto.data ∙ c.take_codes-s.auto.data ∙ c.loop-s.invariant.lengths.0, c.give_word-s.auto.code ∙ c.take_codes-s.auto.code ∙ c.loop-s.invariant.lengths.1, c.give_word-s.auto.log ∙ c.burst-s.auto.log ∙ c.take_codes-s.auto.log ∙ c.loop-s.invariant.lengths.2);
       quiet = quiet;
       counted = g.counted;
       same = sym (c.take_codes-s.ensures.same ∙ u.same ∙ g.goes _ _ u.going quiet) ∙ c.loop-s.invariant.same;
     }
-
-pub shape_of-data-then-s-limit : goal.shape_of-data-then-s-limit
-shape_of-data-then-s-limit c = c.loop-s.invariant.lengths.0
-
-pub shape_of-code-then-s-limit : goal.shape_of-code-then-s-limit
-shape_of-code-then-s-limit c = c.loop-s.invariant.lengths.1
-
-pub shape_of-log-then-s-limit : goal.shape_of-log-then-s-limit
-shape_of-log-then-s-limit c = c.loop-s.invariant.lengths.2
-
-pub shape_of-data-then-s-count : goal.shape_of-data-then-s-count
-shape_of-data-then-s-count c = c.loop-s.invariant.lengths.0
-
-pub shape_of-code-then-s-count : goal.shape_of-code-then-s-count
-shape_of-code-then-s-count c = c.loop-s.invariant.lengths.1
-
-pub shape_of-log-then-s-count : goal.shape_of-log-then-s-count
-shape_of-log-then-s-count c = c.loop-s.invariant.lengths.2
-
-pub shape_of-data-then-s : goal.shape_of-data-then-s
-shape_of-data-then-s c = c.give_word-s.auto.data ∙ c.take_codes-s.auto.data ∙ c.loop-s.invariant.lengths.0
-
-pub shape_of-code-then-s : goal.shape_of-code-then-s
-shape_of-code-then-s c = c.give_word-s.auto.code ∙ c.take_codes-s.auto.code ∙ c.loop-s.invariant.lengths.1
-
-pub shape_of-log-then-s : goal.shape_of-log-then-s
-shape_of-log-then-s c = c.give_word-s.auto.log ∙ c.burst-s.auto.log ∙ c.take_codes-s.auto.log ∙ c.loop-s.invariant.lengths.2
-
-pub shape_of-data-then-s-before : goal.shape_of-data-then-s-before
-shape_of-data-then-s-before c = c.give_word-s.auto.data ∙ c.take_codes-s.auto.data ∙ c.loop-s.invariant.lengths.0
-
-pub shape_of-code-then-s-before : goal.shape_of-code-then-s-before
-shape_of-code-then-s-before c = c.give_word-s.auto.code ∙ c.take_codes-s.auto.code ∙ c.loop-s.invariant.lengths.1
-
-pub shape_of-log-then-s-before : goal.shape_of-log-then-s-before
-shape_of-log-then-s-before c = c.give_word-s.auto.log ∙ c.burst-s.auto.log ∙ c.take_codes-s.auto.log ∙ c.loop-s.invariant.lengths.2

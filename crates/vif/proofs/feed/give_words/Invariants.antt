@@ -1,7 +1,6 @@
 use mathlib.Core.Path.{◌≡◌}
 use mathlib.Core.Bool.{false}
 use Prim.Native.Nat.{◌-◌}
-use lib.ListN.{length}
 use Rattle.fields.specs.Counts.{Counted}
 use Rattle.memories.specs.Lengths.{lent}
 use Rattle.vif.specs.Feed.{feeds_of}
@@ -12,7 +11,6 @@ abbrev pub invariant-loop-s : goal.invariant-loop-s
 invariant-loop-s l =
     record {
       ready : FedReady l.which (fed_in l.s (lent l.data l.code l.log));
-      lengths : (length l.data ≡ length l.initial.data) × (length l.code ≡ length l.initial.code) × (length l.log ≡ length l.initial.log);
       quiet : l.s.interrupt ≡ false;
       counted : Counted l.s.counts;
       same : rest_of l.which l.main l.limit l.a l.count l.s (lent l.data l.code l.log) ≡ feeds_of l.which l.main l.limit l.a l.count (fed_in l.initial.s (lent l.initial.data l.initial.code l.initial.log));

@@ -1,11 +1,12 @@
-use borrow.Author.Tests.{eq-eqb, ne_eqb}
+use mathlib.Core.Path.{sym, ◌∙◌}
 use Rattle.vif.specs.Feed.{takes_steps}
+use Rattle.vif.proofs.FeedLaws.{lengths_ok}
 use Rattle.vif.proofs.feed.takes_steps.Goals as goal
 
-pub returns-then-lengths_refusal-ne0 : goal.returns-then-lengths_refusal-ne0
+pub returns-then-is_ok : goal.returns-then-is_ok
 unfolding takes_steps
-returns-then-lengths_refusal-ne0 c = rw (← c.lengths_refusal.ensures, ne_eqb _ _ c.if-lengths_refusal-ne0.true)
+returns-then-is_ok c = rw (lengths_ok _ c.test_lengths.ensures, sym c.is_ok.ensures.value ∙ c.if-is_ok.true) c.in_range.ensures
 
-pub returns : goal.returns
+pub returns-else-is_ok : goal.returns-else-is_ok
 unfolding takes_steps
-returns c = rw (← c.lengths_refusal.ensures, eq-eqb _ _ c.if-lengths_refusal-ne0.false) c.in_range.ensures
+returns-else-is_ok c = rw (lengths_ok _ c.test_lengths.ensures, sym c.is_ok.ensures.value ∙ c.if-is_ok.false) c.if-is_ok.false

@@ -1,21 +1,23 @@
-use mathlib.Core.Path.{sym, ◌∙◌}
+use mathlib.Core.Path.{◌≡◌}
+use mathlib.Core.Bool.{true}
+use Prim.Native.Nat.{◌*◌}
 use native.Mathlib.Omega.{arith}
-use borrow.Author.Tests.{eq-eqb, ne_eqb}
+use Rattle.std.proofs.lemmas.Grind.{common_steps}
+use Rattle.fields.specs.Memory.{inside}
 use Rattle.vif.specs.Feed.{words_inside}
 use Rattle.gif.proofs.FeedLaws.{inside_most}
 use Rattle.vif.proofs.feed.words_inside.Goals as goal
 
-pub returns-then-a-ne0 : goal.returns-then-a-ne0
-unfolding words_inside
-returns-then-a-ne0 c = rw (sym c.lies_inside.ensures ∙ c.if-lies_inside.true, ne_eqb _ 0 c.if-a-ne0.true)
-
 pub overflow_add-result : goal.overflow_add-result
-overflow_add-result c = omega (arith, inside_most _ _ _ (sym c.lies_inside.ensures ∙ c.if-lies_inside.true))
+overflow_add-result c =
+    let x = c.args in
+    let e : inside x.main.now x.a (4 * x.count) ≡ true = grind (arith, common_steps) in
+    omega (arith, inside_most _ _ _ e)
 
-pub returns-then-lies_inside : goal.returns-then-lies_inside
+pub returns-then-a-eq0 : goal.returns-then-a-eq0
 unfolding words_inside
-returns-then-lies_inside c = rw (sym c.lies_inside.ensures ∙ c.if-lies_inside.true, eq-eqb _ 0 c.if-a-ne0.false)
+returns-then-a-eq0 c = grind (arith, common_steps)
 
-pub returns : goal.returns
+pub returns-else-a-eq0 : goal.returns-else-a-eq0
 unfolding words_inside
-returns c = rw (sym c.lies_inside.ensures ∙ c.if-lies_inside.false)
+returns-else-a-eq0 c = grind (arith, common_steps)

@@ -1,13 +1,11 @@
 use mathlib.Core.Path.{◌≡◌}
 use Prim.Native.Nat.{◌+◌, ◌*◌, ◌-◌, ◌≤◌}
-use lib.ListN.{length}
 use Rattle.vif.specs.Inner.{stored_words}
 use Rattle.vif.proofs.mpg.store_words.Given as goal
 
 abbrev pub invariant-loop-k : goal.invariant-loop-k
 invariant-loop-k l =
     record {
-      sizes : length l.code ≡ length l.initial.code;
       few : l.k ≤ l.n;
       same : stored_words l.size l.address l.main (l.n - l.k) (l.first + l.k) (l.a + 4 * l.k) l.code ≡ stored_words l.size l.address l.main l.n l.first l.a l.initial.code;
     }

@@ -2,20 +2,19 @@ use mathlib.Core.Path.{sym, ◌∙◌}
 use Rattle.vif.proofs.StepLaws.{tests_passed, lengths_refused, range_refused_lem, vif_tested}
 use Rattle.vif.proofs.step.take.Goals as goal
 
-pub returns-then-refusal-ne0 : goal.returns-then-refusal-ne0
-returns-then-refusal-ne0 c = rw c.answered.ensures (lengths_refused _ _ _ _ _ c.lengths_refusal-refusal.ensures _ c.if-refusal-ne0.true)
+pub returns-in-Err : goal.returns-in-Err
+returns-in-Err c = rw c.answered.ensures (lengths_refused _ _ _ _ _ _ _ c.in-Err.ensures)
 
 pub step-requires : goal.step-requires
-step-requires c =
-    tests_passed _ _ _ _ _ c.lengths_refusal-refusal.ensures c.if-refusal-ne0.false c.in_range.ensures c.if-in_range.true
+step-requires c = tests_passed _ _ _ _ _ c.in_default.ensures c.in_range.ensures c.if-in_range.true
 
 pub returns-then-in_range : goal.returns-then-in_range
 returns-then-in_range c =
     c.step.ensures
     ∙ sym (vif_tested _ _ _ _ _ _
-    (tests_passed _ _ _ _ _ c.lengths_refusal-refusal.ensures c.if-refusal-ne0.false c.in_range.ensures c.if-in_range.true))
+    (tests_passed _ _ _ _ _ c.in_default.ensures c.in_range.ensures c.if-in_range.true))
 
 pub returns-else-in_range : goal.returns-else-in_range
 returns-else-in_range c =
     rw c.answered-else-in_range.ensures
-    (range_refused_lem _ _ _ _ _ c.lengths_refusal-refusal.ensures _ c.if-refusal-ne0.false c.in_range.ensures c.if-in_range.false)
+    (range_refused_lem _ _ _ _ _ _ c.in_default.ensures c.in_range.ensures c.if-in_range.false)

@@ -1,4 +1,5 @@
 use native.Mathlib.Nat.{div-one}
+use native.Mathlib.Omega.{arith}
 use borrow.Author.Tests.{ne_eqb}
 use Rattle.fields.specs.Fields.{if, bits}
 use Rattle.vif_codes.specs.Codes.{plain_code}
@@ -7,8 +8,29 @@ use Rattle.vif_codes.proofs.decoding.plain_code.Goals as goal
 pub returns-in_default : goal.returns-in_default
 unfolding plain_code if
 returns-in_default c =
-    let n = c.in_default.in_default-own.rest in
-    simp (ne_eqb _ _ n.0.0.0.0.0.0.0.0.0.0.0.0.0.0.0.0.0.0.0.1, ne_eqb _ _ n.0.0.0.0.0.0.0.0.0.0.0.0.0.0.0.0.0.0.1, ne_eqb _ _ n.0.0.0.0.0.0.0.0.0.0.0.0.0.0.0.0.0.1, ne_eqb _ _ n.0.0.0.0.0.0.0.0.0.0.0.0.0.0.0.0.1, ne_eqb _ _ n.0.0.0.0.0.0.0.0.0.0.0.0.0.0.0.1, ne_eqb _ _ n.0.0.0.0.0.0.0.0.0.0.0.0.0.0.1, ne_eqb _ _ n.0.0.0.0.0.0.0.0.0.0.0.0.0.1, ne_eqb _ _ n.0.0.0.0.0.0.0.0.0.0.0.0.1, ne_eqb _ _ n.0.0.0.0.0.0.0.0.0.0.0.1, ne_eqb _ _ n.0.0.0.0.0.0.0.0.0.0.1, ne_eqb _ _ n.0.0.0.0.0.0.0.0.0.1, ne_eqb _ _ n.0.0.0.0.0.0.0.0.1, ne_eqb _ _ n.0.0.0.0.0.0.0.1, ne_eqb _ _ n.0.0.0.0.0.0.1, ne_eqb _ _ n.0.0.0.0.0.1, ne_eqb _ _ n.0.0.0.0.1, ne_eqb _ _ n.0.0.0.1, ne_eqb _ _ n.0.0.1, ne_eqb _ _ n.0.1, ne_eqb _ _ n.1)
+    let n = c.args.cmd in
+    rw (
+      ne_eqb n 0x00 (λ e. omega arith),
+      ne_eqb n 0x01 (λ e. omega arith),
+      ne_eqb n 0x02 (λ e. omega arith),
+      ne_eqb n 0x03 (λ e. omega arith),
+      ne_eqb n 0x04 (λ e. omega arith),
+      ne_eqb n 0x05 (λ e. omega arith),
+      ne_eqb n 0x06 (λ e. omega arith),
+      ne_eqb n 0x07 (λ e. omega arith),
+      ne_eqb n 0x10 (λ e. omega arith),
+      ne_eqb n 0x11 (λ e. omega arith),
+      ne_eqb n 0x13 (λ e. omega arith),
+      ne_eqb n 0x14 (λ e. omega arith),
+      ne_eqb n 0x15 (λ e. omega arith),
+      ne_eqb n 0x17 (λ e. omega arith),
+      ne_eqb n 0x20 (λ e. omega arith),
+      ne_eqb n 0x30 (λ e. omega arith),
+      ne_eqb n 0x31 (λ e. omega arith),
+      ne_eqb n 0x4A (λ e. omega arith),
+      ne_eqb n 0x50 (λ e. omega arith),
+      ne_eqb n 0x51 (λ e. omega arith),
+    )
 
 pub returns-in-0 : goal.returns-in-0
 unfolding plain_code bits if

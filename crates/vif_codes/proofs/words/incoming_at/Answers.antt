@@ -1,5 +1,7 @@
 use Rattle.vif_codes.specs.Words.{incoming_at}
 use Rattle.fields.specs.Fields.{if}
+use Prim.Native.Nat.{◌/◌, ◌%◌}
+use native.Mathlib.Omega.{arith}
 use borrow.Author.Tests.{ne_eqb}
 use Rattle.vif_codes.proofs.words.incoming_at.Goals as goal
 
@@ -17,4 +19,6 @@ returns-in-2 c = rw (c.in-2.is, c.word_at-in-2.ensures)
 
 pub returns-in_default : goal.returns-in_default
 unfolding incoming_at if
-returns-in_default c = rw (ne_eqb _ 0 c.in_default.in_default-own.rest.0.0.1, ne_eqb _ 1 c.in_default.in_default-own.rest.0.1, ne_eqb _ 2 c.in_default.in_default-own.rest.1, c.word_at-in_default.ensures)
+returns-in_default c =
+    let n = c.args.a / 4 % 4 in
+    rw (ne_eqb n 0 (λ e. omega arith), ne_eqb n 1 (λ e. omega arith), ne_eqb n 2 (λ e. omega arith), c.word_at-in_default.ensures)

@@ -1,7 +1,0 @@
-use Rattle.chain_state.proofs.setters.held_by.Goals as goal
-
-pub returns-in-Vif0 : goal.returns-in-Vif0
-returns-in-Vif0 c = rw c.in-Vif0.is
-
-pub returns-in-Vif1 : goal.returns-in-Vif1
-returns-in-Vif1 c = rw c.in-Vif1.is

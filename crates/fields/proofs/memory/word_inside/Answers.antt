@@ -1,7 +1,0 @@
-use Rattle.fields.specs.Memory.{word_at}
-use Rattle.std.proofs.Common.{rules}
-use Rattle.fields.proofs.memory.word_inside.Goals as goal
-
-pub returns : goal.returns
-unfolding word_at
-returns c = search rules

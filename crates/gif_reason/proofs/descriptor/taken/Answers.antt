@@ -1,6 +1,0 @@
-use Rattle.gif.specs.Tag.{taken_of}
-use Rattle.gif_reason.proofs.descriptor.taken.Goals as goal
-
-pub returns : goal.returns
-unfolding taken_of
-returns c = rw c.quadwords.ensures

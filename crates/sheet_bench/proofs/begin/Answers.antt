@@ -1,6 +1,0 @@
-use mathlib.Core.Path.{sym}
-use lib.Seq.{length-take-le}
-use Rattle.sheet_bench.proofs.begin.Goals as goal
-
-pub slice_bounds-time-end-2 : goal.slice_bounds-time-end-2
-slice_bounds-time-end-2 c = sym (length-take-le _ _ c.if-sheet-size.false)

@@ -1,0 +1,7 @@
+use Rattle.std.proofs.Common.{rules}
+use Rattle.fields.specs.Memory.{word_at}
+use Rattle.sheet_meaning.proofs.plain.word_inside.Goals as goal
+
+pub returns : goal.returns
+unfolding word_at
+returns c = search rules

@@ -1,4 +1,0 @@
-use Rattle.state_block.proofs.path.tag_in_block.Goals as goal
-
-pub returns : goal.returns
-returns c = cc

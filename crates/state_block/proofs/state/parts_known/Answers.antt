@@ -1,4 +1,0 @@
-use Rattle.state_block.proofs.state.parts_known.Goals as goal
-
-pub returns : goal.returns
-returns c = cc

@@ -1,4 +1,0 @@
-use Rattle.state_block.proofs.state.tag_words.Goals as goal
-
-pub returns-in-From : goal.returns-in-From
-returns-in-From c = cc

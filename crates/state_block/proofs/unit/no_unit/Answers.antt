@@ -1,6 +1,0 @@
-use Rattle.chain_state.specs.Start.{reset_state}
-use Rattle.state_block.proofs.unit.no_unit.Goals as goal
-
-pub returns : goal.returns
-unfolding reset_state
-returns c = rw c.reset-reset.ensures

@@ -1,4 +1,0 @@
-use Rattle.state_block.proofs.unit.unpack_words.Goals as goal
-
-pub returns : goal.returns
-returns c = cc
