@@ -97,7 +97,11 @@ fn take_reglist(
     let item = 2 * tag.taken();
     let first = tag.descriptor_at(item);
     let second = second_descriptor(tag, item + 1, (item + 1) % tag.nreg);
-    if first == 11 || second == 11 {
+    // Two tests: by `||` both descriptors would be picked before the first is tested.
+    if first == 11 {
+        return refuse(Refusal::DescriptorB, path, used);
+    }
+    if second == 11 {
         return refuse(Refusal::DescriptorB, path, used);
     }
     let writes = halves(first, second, quad);
