@@ -2,3 +2,4 @@
 pub mod Changes
 pub mod Input
 pub mod Memories
+pub mod Runs

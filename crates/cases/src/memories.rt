@@ -1,5 +1,5 @@
 // A unit's memories and the log as a case has them.
-ghost use Rattle.std.specs.Prelude.{◌≡◌, ◌+◌, ◌%◌, ◌^◌, ◌++◌, length, take, IfOk};
+ghost use Rattle.std.specs.Prelude.{◌≡◌, ◌+◌, ◌%◌, ◌^◌, ◌++◌, ◌&&◌, length, take, leb, is_ok, IfOk};
 ghost use Rattle.wire.specs.Words.{sent_all};
 ghost use Rattle.cases.specs.Memories.{ruled, fill_number, memories_words, sum_of};
 ghost use Rattle.cases.specs.Changes.{word_changes, byte_changes, long_changes, kept};
@@ -27,6 +27,8 @@ impl Memories<'_> {
         code: usize,
         log: usize,
     ) -> Result<Memories<'b>, Damaged>
+        ensures limits { is_ok result
+            ≡ (leb «data» (length self.old.«data».now) && (leb code (length self.old.code.now) && leb log (length self.old.log.now))) }
         ensures lengths { IfOk result (λ m. (length m.«data».now ≡ «data») × (length m.code.now ≡ code) × (length m.log.now ≡ log)) }
         ensures values { IfOk result (λ m. (m.«data».now ≡ take «data» self.old.«data».now)
             × (m.code.now ≡ take code self.old.code.now)

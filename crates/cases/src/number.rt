@@ -94,12 +94,10 @@ pub trait Shown: Number {
 
     // Number i, 0 beyond the memory's end.
     fn number(memory: &[Self], i: usize) -> u64
-        requires { 4 * i + 4 ≤ 2 ^ 64 }
         ensures { result ≡ number memory.now i };
 
     // Puts number i's words into the results.
     fn emit(memory: &[Self], i: usize, out: &mut Output)
-        requires { 4 * i + 4 ≤ 2 ^ 64 }
         ensures { out.new ≡ sent_all out.old.out out.old.at (words (number memory.now i)) };
 }
 
@@ -123,6 +121,17 @@ impl Shown for u32 {
     }
 }
 
+// Word i of a byte memory, 0 beyond its end.
+fn word_in(memory: &[u8], i: usize) -> u32
+    ensures { result ≡ byte_word memory.now i }
+{
+    if i < memory.len().div_ceil(4) {
+        byte_word(memory, i)
+    } else {
+        0
+    }
+}
+
 impl Shown for u8 {
     ghost count = { words_in };
 
@@ -135,11 +144,11 @@ impl Shown for u8 {
     }
 
     fn number(memory: &[u8], i: usize) -> u64 {
-        u64::from(byte_word(memory, i))
+        u64::from(word_in(memory, i))
     }
 
     fn emit(memory: &[u8], i: usize, out: &mut Output) {
-        out.emit(byte_word(memory, i));
+        out.emit(word_in(memory, i));
     }
 }
 

@@ -1,12 +1,25 @@
 // Cases read from standard input one after another.
-ghost use Rattle.std.specs.Prelude.{◌≡◌};
+ghost use Rattle.std.specs.Prelude.{◌≡◌, ℕ, List, length, replicate, Result};
+ghost use Rattle.wire.specs.declared.Output.{Output};
 ghost use Rattle.wire.specs.Words.{sent};
+ghost use Rattle.cases.specs.declared.run.Damaged.{Damaged};
+ghost use Rattle.cases.specs.Runs.{Runs};
 
 use wire::Output;
 
 // What a case is that is not right, or not whole.
 #[derive(Clone, Copy, Debug, PartialEq, Eq)]
 pub struct Damaged;
+
+// What cases are run on, and how one of them is run.
+pub trait Case {
+    // What a case may leave: what it is run on and the results before, its header, its answer, and both after.
+    ghost ran: { Self → Output → List ℕ → Result Unit Damaged → Self → Output → Type 0 } = { λ _ _ _ _ _ _. Unit {0} };
+
+    // Runs the case whose header was read.
+    fn run(&mut self, out: &mut Output, header: &[u8]) -> Result<(), Damaged>
+        ensures { ran self.old out.old header.now result self.new out.new };
+}
 
 // Writes out the results, and the line about a damaged case.
 fn tell_damaged(out: &mut Output, number: u64)
@@ -18,12 +31,12 @@ fn tell_damaged(out: &mut Output, number: u64)
     io::write_all(1, b"\n");
 }
 
-// Reads headers, as long as the buffer, and runs each one's case, to the end of the input or the first damaged case.
-pub fn run_cases<F: FnMut(&mut Output, &[u8]) -> Result<(), Damaged> + Drop>(
-    header: &mut [u8],
-    mut run: F,
-)
-    requires pre { (f : _) (x1 : _) (x2 : _) → F.pre f x1 x2 }
+// Reads headers, as long as the buffer, and runs each one's case, to the end of the input or the first damaged case. Inlined, as the programs' `run` is, so that
+// the buffers are seen to lie apart: else what was kept of a log is copied number by number.
+#[inline(always)]
+pub fn run_cases<C: Case>(header: &mut [u8], case: &mut C)
+    ensures size { length header.new ≡ length header.old }
+    ensures in_turn { Runs C.ran (length header.old) case.old (sent (replicate 65536 0) 0) case.new }
 {
     let mut out = Output::new();
     for number in 0..u64::MAX {
@@ -32,7 +45,7 @@ pub fn run_cases<F: FnMut(&mut Output, &[u8]) -> Result<(), Damaged> + Drop>(
             out.flush();
             return;
         }
-        if got < header.len() || run(&mut out, header).is_err() {
+        if got < header.len() || case.run(&mut out, header).is_err() {
             tell_damaged(&mut out, number);
             return;
         }

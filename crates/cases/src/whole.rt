@@ -4,7 +4,7 @@ ghost use Rattle.wire.specs.Words.{sent_all};
 ghost use Rattle.cases.specs.Memories.{byte_word, bytes_words};
 
 use super::number::number_in;
-use wire::Output;
+use wire::{Output, put};
 
 // Word k of a byte memory; what lies beyond its end is zero.
 pub(crate) fn byte_word(memory: &[u8], k: usize) -> u32
@@ -23,7 +23,9 @@ pub(crate) fn byte_word(memory: &[u8], k: usize) -> u32
 pub fn emit_bytes(out: &mut Output, memory: &[u8])
     ensures { out.new ≡ sent_all out.old.out out.old.at (bytes_words memory.now) }
 {
+    let mut at = out.at;
     for k in 0..memory.len().div_ceil(4) {
-        out.emit(byte_word(memory, k));
+        at = put(&mut out.out, at, byte_word(memory, k));
     }
+    out.at = at;
 }

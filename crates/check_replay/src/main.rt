@@ -2,9 +2,12 @@
 #![tactic(auto)]
 
 use blocks::emit_counts;
-use cases::{Damaged, LOG_NUMBERS, Memories, read_part, run_cases};
+use cases::{Case, Damaged, LOG_NUMBERS, Memories, read_part, run_cases};
 use supplier::{CheckResult, check_chain, kind, number, offset};
 use wire::{Output, long_at, low_word, word_at};
+
+// The bytes that main memory may have here, more than a run accepts.
+const MAIN: usize = 1048608;
 
 fn tell_result(out: &mut Output, r: CheckResult) {
     out.emit(kind(r.answer));
@@ -34,12 +37,13 @@ fn run_case(
     out: &mut Output,
     header: &[u8],
     sheet: &mut [u8],
-    main: &mut [u8],
+    main: &mut [u8; MAIN],
     memories: &mut Memories<'_>,
 ) -> Result<(), Damaged> {
     let size = word_at(header, 4) as usize;
     let given = 4 * word_at(header, 12) as usize;
-    if word_at(header, 0) != 0x31484354 {
+    // Before anything is read: what is given of main memory lies inside it.
+    if word_at(header, 0) != 0x31484354 || (word_at(header, 8) as usize) < given {
         return Err(Damaged);
     }
     read_part(sheet, size.div_ceil(4) * 4)?;
@@ -56,18 +60,35 @@ fn run_case(
     Ok(())
 }
 
+// What cases run on: the sheet, main memory, and the unit's memories and the log.
+#[derive(Drop)]
+struct Buffers<'a> {
+    sheet: &'a mut [u8],
+    main: &'a mut [u8; MAIN],
+    memories: Memories<'a>,
+}
+
+impl Case for Buffers<'_> {
+    fn run(&mut self, out: &mut Output, header: &[u8]) -> Result<(), Damaged> {
+        run_case(out, header, self.sheet, self.main, &mut self.memories)
+    }
+}
+
 fn main() {
     let mut sheet = [0u8; 131088];
-    let mut main = [0u8; 1048608];
+    let mut main = [0u8; MAIN];
     let mut data = [0u32; 4100];
     let mut code = [0u8; 16392];
     let mut log = [0u64; LOG_NUMBERS];
-    let mut memories = Memories {
+    let memories = Memories {
         data: &mut data,
         code: &mut code,
         log: &mut log,
     };
-    run_cases(&mut [0; 44], |out, header| {
-        run_case(out, header, &mut sheet, &mut main, &mut memories)
-    });
+    let mut buffers = Buffers {
+        sheet: &mut sheet,
+        main: &mut main,
+        memories,
+    };
+    run_cases(&mut [0; 44], &mut buffers);
 }

@@ -1,7 +1,7 @@
 // Reads GIF cases from standard input and writes what each quadword leaves (docs/FORMATS.md, "GIF cases").
 #![tactic(auto)]
 
-use cases::{Damaged, LOG_NUMBERS, fill, read_part, run_cases, tell, words_at};
+use cases::{Case, Damaged, LOG_NUMBERS, fill, read_part, run_cases, tell, words_at};
 use fields::Refusal;
 use gif::{GifPath, Path};
 use state_block::{PATH_WORDS, path_block, path_given, path_in_block};
@@ -67,6 +67,7 @@ impl Running {
 }
 
 // One case whose header was read, on its log and on what that held before a quadword.
+#[inline(always)]
 fn run_case(
     out: &mut Output,
     header: &[u8],
@@ -93,11 +94,26 @@ fn run_case(
     Ok(())
 }
 
+// What cases run on: the log, and what it held before a quadword.
+#[derive(Drop)]
+struct Logs<'a> {
+    log: &'a mut [u64],
+    before: &'a mut [u64],
+}
+
+impl Case for Logs<'_> {
+    #[inline(always)]
+    fn run(&mut self, out: &mut Output, header: &[u8]) -> Result<(), Damaged> {
+        run_case(out, header, self.log, self.before)
+    }
+}
+
 fn main() {
     let mut log = [0u64; LOG_NUMBERS];
     let mut before = [0u64; LOG_NUMBERS];
-    run_cases(
-        &mut [0; 68],
-        |out, header| run_case(out, header, &mut log, &mut before),
-    );
+    let mut logs = Logs {
+        log: &mut log,
+        before: &mut before,
+    };
+    run_cases(&mut [0; 68], &mut logs);
 }

@@ -1,7 +1,7 @@
 // Reads salvage cases from standard input and writes what each leaves (docs/FORMATS.md, "Salvage cases").
 #![tactic(auto)]
 
-use cases::{Damaged, emit_bytes, fill, read_part, run_cases};
+use cases::{Case, Damaged, emit_bytes, fill, read_part, run_cases};
 use salvage::Sums;
 use wire::{Output, long_at, low_word, word_at};
 
@@ -51,11 +51,28 @@ fn run_case(
     Ok(())
 }
 
+// What cases run on: the sheet, the bytes salvaged and the ranges dropped.
+#[derive(Drop)]
+struct Buffers<'a> {
+    sheet: &'a mut [u8],
+    output: &'a mut [u8],
+    ranges: &'a mut [u64],
+}
+
+impl Case for Buffers<'_> {
+    fn run(&mut self, out: &mut Output, header: &[u8]) -> Result<(), Damaged> {
+        run_case(out, header, self.sheet, self.output, self.ranges)
+    }
+}
+
 fn main() {
     let mut sheet = [0u8; 131088];
     let mut output = [0u8; 131088];
     let mut ranges = [0u64; 65536];
-    run_cases(&mut [0; 24], |out, header| {
-        run_case(out, header, &mut sheet, &mut output, &mut ranges)
-    });
+    let mut buffers = Buffers {
+        sheet: &mut sheet,
+        output: &mut output,
+        ranges: &mut ranges,
+    };
+    run_cases(&mut [0; 24], &mut buffers);
 }

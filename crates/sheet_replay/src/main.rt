@@ -4,18 +4,21 @@
 mod parts;
 mod play;
 
-use cases::{Damaged, LOG_NUMBERS, Memories, read_part, run_cases};
+use cases::{Case, Damaged, LOG_NUMBERS, Memories, read_part, run_cases};
 use parts::{tell_build, tell_meaning, tell_steps};
 use play::tell_play;
 use wire::{Output, word_at};
+
+// The bytes that main memory, or the output of a chain, may have here, more than a run or a chain takes.
+const MOST: usize = 1048608;
 
 // One case whose header was read.
 fn run_case(
     out: &mut Output,
     header: &[u8],
     sheet: &mut [u8],
-    output: &mut [u8],
-    main: &mut [u8],
+    output: &mut [u8; MOST],
+    main: &mut [u8; MOST],
     memories: &mut Memories<'_>,
 ) -> Result<(), Damaged> {
     let size = word_at(header, 4) as usize;
@@ -40,26 +43,45 @@ fn run_case(
     Ok(())
 }
 
+// What cases run on: the sheet, the chain built, main memory, and the unit's memories and the log.
+#[derive(Drop)]
+struct Buffers<'a> {
+    sheet: &'a mut [u8],
+    output: &'a mut [u8; MOST],
+    main: &'a mut [u8; MOST],
+    memories: Memories<'a>,
+}
+
+impl Case for Buffers<'_> {
+    fn run(&mut self, out: &mut Output, header: &[u8]) -> Result<(), Damaged> {
+        run_case(
+            out,
+            header,
+            self.sheet,
+            self.output,
+            self.main,
+            &mut self.memories,
+        )
+    }
+}
+
 fn main() {
     let mut sheet = [0u8; 131088];
-    let mut output = [0u8; 1048608];
-    let mut main = [0u8; 1048608];
+    let mut output = [0u8; MOST];
+    let mut main = [0u8; MOST];
     let mut data = [0u32; 4100];
     let mut code = [0u8; 16392];
     let mut log = [0u64; LOG_NUMBERS];
-    let mut memories = Memories {
+    let memories = Memories {
         data: &mut data,
         code: &mut code,
         log: &mut log,
     };
-    run_cases(&mut [0; 428], |out, header| {
-        run_case(
-            out,
-            header,
-            &mut sheet,
-            &mut output,
-            &mut main,
-            &mut memories,
-        )
-    });
+    let mut buffers = Buffers {
+        sheet: &mut sheet,
+        output: &mut output,
+        main: &mut main,
+        memories,
+    };
+    run_cases(&mut [0; 428], &mut buffers);
 }

@@ -1,7 +1,7 @@
 // Reads totals cases from standard input and writes what each addition leaves (docs/FORMATS.md, "Totals cases").
 #![tactic(auto)]
 
-use cases::{Damaged, read_part, run_cases};
+use cases::{Case, Damaged, read_part, run_cases};
 use fields::Refusal;
 use totals::{Totals, add_totals, counts_from, nop_share, totals_from};
 use wire::{Output, long_at, word_at};
@@ -66,9 +66,22 @@ fn run_case(out: &mut Output, header: &[u8], numbers: &mut [u64]) -> Result<(), 
     Ok(())
 }
 
+// What cases run on: the numbers of their additions.
+#[derive(Drop)]
+struct Numbers<'a> {
+    numbers: &'a mut [u64; NUMBERS],
+}
+
+impl Case for Numbers<'_> {
+    fn run(&mut self, out: &mut Output, header: &[u8]) -> Result<(), Damaged> {
+        run_case(out, header, self.numbers)
+    }
+}
+
 fn main() {
     let mut numbers = [0u64; NUMBERS];
-    run_cases(&mut [0; 96], |out, header| {
-        run_case(out, header, &mut numbers)
-    });
+    let mut lent = Numbers {
+        numbers: &mut numbers,
+    };
+    run_cases(&mut [0; 96], &mut lent);
 }

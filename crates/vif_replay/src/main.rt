@@ -4,7 +4,7 @@
 mod input;
 mod run;
 
-use cases::{Damaged, LOG_NUMBERS, Memories, run_cases};
+use cases::{Case, Damaged, LOG_NUMBERS, Memories, run_cases};
 use input::{header_right, read_input};
 use run::Running;
 use wire::{Output, long_at, word_at};
@@ -49,6 +49,20 @@ fn run_case(
     Ok(())
 }
 
+// What cases run on: the words after a header, the memories, and what these held before a group.
+#[derive(Drop)]
+struct Buffers<'a> {
+    input: &'a mut [u32],
+    now: Memories<'a>,
+    before: Memories<'a>,
+}
+
+impl Case for Buffers<'_> {
+    fn run(&mut self, out: &mut Output, header: &[u8]) -> Result<(), Damaged> {
+        run_case(out, header, self.input, &mut self.now, &mut self.before)
+    }
+}
+
 fn main() {
     let mut input = [0u32; INPUT_WORDS];
     let mut data = [0u32; 4100];
@@ -57,17 +71,20 @@ fn main() {
     let mut data_before = [0u32; 4100];
     let mut code_before = [0u8; 16392];
     let mut log_before = [0u64; LOG_NUMBERS];
-    let mut now = Memories {
+    let now = Memories {
         data: &mut data,
         code: &mut code,
         log: &mut log,
     };
-    let mut before = Memories {
+    let before = Memories {
         data: &mut data_before,
         code: &mut code_before,
         log: &mut log_before,
     };
-    run_cases(&mut [0; 212], |out, header| {
-        run_case(out, header, &mut input, &mut now, &mut before)
-    });
+    let mut buffers = Buffers {
+        input: &mut input,
+        now,
+        before,
+    };
+    run_cases(&mut [0; 212], &mut buffers);
 }

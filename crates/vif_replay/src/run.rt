@@ -30,7 +30,7 @@ impl Blocks {
     }
 }
 
-// What is given to the next call: the words that are left, and the next one's number in its quadword; and the case's blocks.
+// What is given to the next call: the words that are left, and the next one's number in its quadword; and the case's blocks, with whether they are a unit's and a path's.
 #[derive(Clone, Copy)]
 pub(crate) struct Running<'a> {
     which: VifUnit,
@@ -40,6 +40,7 @@ pub(crate) struct Running<'a> {
     path: Path,
     used: u64,
     given: Blocks,
+    known: bool,
 }
 
 // A word that is left.
@@ -96,6 +97,7 @@ impl<'a> Running<'a> {
             path: path_given(&given.path),
             used: long_at(header, 16),
             given,
+            known: given.known(),
         }
     }
 
@@ -132,7 +134,7 @@ impl<'a> Running<'a> {
 
     // Puts the entries used and the blocks into the results; blocks that are no unit's or no path's as they were given.
     pub(crate) fn tell(&self, out: &mut Output) {
-        let blocks = if self.given.known() {
+        let blocks = if self.known {
             Blocks::of(self.unit, self.path)
         } else {
             self.given

@@ -60,6 +60,30 @@ pub struct Output {
     pub at: usize,
 }
 
+// Writes out the first `at` bytes, and answers the place to go on at.
+fn write_out(out: &[u8; 65536], at: usize) -> usize
+    ensures { result ≡ 0 }
+{
+    if let Some(bytes) = out.get(..at) {
+        io::write_all(1, bytes);
+    }
+    0
+}
+
+// Puts a word into a buffer from a place on, writing the buffer out first where it is full; answers the place after it. A loop over words keeps the place in a
+// local: kept beside the buffer it is stored and loaded again for each word, and results took up to twice the time.
+pub fn put(out: &mut [u8; 65536], at: usize, x: u32) -> usize
+    ensures { sent out.new result ≡ sent_all out.old at (x ∷ []) }
+{
+    if 65532 < at {
+        write_out(out, at);
+        put_word(out, 0, x);
+        return 4;
+    }
+    put_word(out, at, x);
+    at + 4
+}
+
 impl Output {
     pub fn new() -> Output
         ensures { result ≡ sent (replicate 65536 0) 0 }
@@ -74,21 +98,8 @@ impl Output {
     pub fn flush(&mut self)
         ensures { self.new ≡ sent self.old.out 0 }
     {
-        if let Some(bytes) = self.out.get(..self.at) {
-            io::write_all(1, bytes);
-        }
+        write_out(&self.out, self.at);
         self.at = 0;
-    }
-
-    // Puts a word into the buffer, writing the buffer out first where it is full.
-    fn put(&mut self, x: u32)
-        ensures { self.new ≡ sent_all self.old.out self.old.at (x ∷ []) }
-    {
-        if 65532 < self.at {
-            self.flush();
-        }
-        put_word(&mut self.out, self.at, x);
-        self.at += 4;
     }
 
     // Puts a number's words into the buffer.
@@ -102,15 +113,21 @@ impl Output {
     pub fn emit_all<T: Words>(&mut self, xs: &[T])
         ensures { self.new ≡ sent_all self.old.out self.old.at (flat_map T.words xs.now) }
     {
+        let mut at = self.at;
         for x in xs {
-            self.emit(*x);
+            at = x.put_to(&mut self.out, at);
         }
+        self.at = at;
     }
 }
 
 // A number that the output takes: a word as itself, a 64-bit number as its low word and then its high one.
 pub trait Words: Copy {
     ghost words: { Self → List ℕ };
+
+    // Puts its words into a buffer from a place on; answers the place after them.
+    fn put_to(self, out: &mut [u8; 65536], at: usize) -> usize
+        ensures { sent out.new result ≡ sent_all out.old at (words self) };
 
     fn emit_to(self, output: &mut Output)
         ensures { output.new ≡ sent_all output.old.out output.old.at (words self) };
@@ -119,16 +136,24 @@ pub trait Words: Copy {
 impl Words for u32 {
     ghost words = { one };
 
+    fn put_to(self, out: &mut [u8; 65536], at: usize) -> usize {
+        put(out, at, self)
+    }
+
     fn emit_to(self, output: &mut Output) {
-        output.put(self);
+        output.at = self.put_to(&mut output.out, output.at);
     }
 }
 
 impl Words for u64 {
     ghost words = { two };
 
+    fn put_to(self, out: &mut [u8; 65536], at: usize) -> usize {
+        let next = put(out, at, low_word(self));
+        put(out, next, high_word(self))
+    }
+
     fn emit_to(self, output: &mut Output) {
-        output.put(low_word(self));
-        output.put(high_word(self));
+        output.at = self.put_to(&mut output.out, output.at);
     }
 }
