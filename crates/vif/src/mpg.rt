@@ -1,5 +1,5 @@
 // MPG: words stored to code memory.
-ghost use Rattle.std.specs.Prelude.{◌≡◌, ◌+◌, ◌*◌, ◌%◌, ◌≤◌};
+ghost use Rattle.std.specs.Prelude.{◌≡◌, ◌+◌, ◌*◌, ◌%◌, ◌≤◌, length};
 ghost use Rattle.vif_codes.specs.Payload.{word_place, mpg_stored};
 ghost use Rattle.vif_codes.specs.Codes.{mpg_addresses, mpg_address_most};
 ghost use Rattle.vif.specs.Step.{mpg_refused};
@@ -41,6 +41,16 @@ pub(crate) fn store_mpg(size: u32, address: u32, count: u32, due: u32, word: u32
     code[at..at + 4].copy_from_slice(&word.to_le_bytes());
 }
 
+// Copies bytes, a loop by itself: by `copy_from_slice` the library for C would ask for memmove.
+fn copy_bytes(from: &[u8], to: &mut [u8])
+    requires { length from.now ≡ length to.old }
+    ensures { to.new ≡ from.now }
+{
+    for i in 0..from.len() {
+        to[i] = from[i];
+    }
+}
+
 // n words of main memory from an address on, as those of an MPG from number `first` on: up to the wrap and on from it.
 pub(crate) fn store_words(
     size: u32,
@@ -62,7 +72,7 @@ pub(crate) fn store_words(
         let from = (a + 4 * k) as usize;
         let at = place as usize;
         let bytes = 4 * run as usize;
-        code[at..at + bytes].copy_from_slice(&main[from..from + bytes]);
+        copy_bytes(&main[from..from + bytes], &mut code[at..at + bytes]);
         k += run;
     }
 }

@@ -24,15 +24,15 @@ overflow_add-bytes c =
     let f = found_fits _ _ e refl (record { below = λ k. (c.type_inv.sheet k).fits }) _ c.loop-record.invariant.kept_room in
     search rules
 
-pub slice_bounds-copy_from_slice-end : goal.slice_bounds-copy_from_slice-end
-slice_bounds-copy_from_slice-end c =
+pub slice_bounds-copy_bytes-end : goal.slice_bounds-copy_bytes-end
+slice_bounds-copy_bytes-end c =
+    let f = found_inside _ _ (rw c.in-Ok-Some.field-0-is at c.in-Ok-Some.ensures) refl in search rules
+
+pub slice_bounds-copy_bytes-end-in-Ok-Some : goal.slice_bounds-copy_bytes-end-in-Ok-Some
+slice_bounds-copy_bytes-end-in-Ok-Some c =
     let e = rw c.in-Ok-Some.field-0-is at c.in-Ok-Some.ensures in
     let f = found_fits _ _ e refl (record { below = λ k. (c.type_inv.sheet k).fits }) _ c.loop-record.invariant.kept_room in
     search rules
-
-pub slice_bounds-copy_from_slice-end-in-Ok-Some : goal.slice_bounds-copy_from_slice-end-in-Ok-Some
-slice_bounds-copy_from_slice-end-in-Ok-Some c =
-    let f = found_inside _ _ (rw c.in-Ok-Some.field-0-is at c.in-Ok-Some.ensures) refl in search rules
 
 pub loop-record-smaller-in-Ok-Some : goal.loop-record-smaller-in-Ok-Some
 loop-record-smaller-in-Ok-Some c = let f = found_inside _ _ (rw c.in-Ok-Some.field-0-is at c.in-Ok-Some.ensures) refl in omega arith
@@ -43,7 +43,7 @@ loop-record-preserved-in-Ok-Some c =
     let b : Bytes c.args.sheet.now = record { below = λ k. (c.type_inv.sheet k).fits } in
     let i = c.loop-record.invariant in
     let f = found_fits _ _ e refl b _ i.kept_room in
-    let w = part_copied _ _ _ _ _ f.0 f.1 c.copy_from_slice.ensures.after in
+    let w = part_copied _ _ _ _ _ f.0 f.1 c.copy_bytes.ensures in
     record {
       short = i.short;
       inside = (found_inside _ _ e refl).1;
@@ -53,8 +53,8 @@ loop-record-preserved-in-Ok-Some c =
       dropped = rw (← found_dropped _ _ e refl) i.dropped;
     }
 
-pub slice_bounds-copy_from_slice-end-in-Err : goal.slice_bounds-copy_from_slice-end-in-Err
-slice_bounds-copy_from_slice-end-in-Err c =
+pub slice_bounds-copy_from_slice-end : goal.slice_bounds-copy_from_slice-end
+slice_bounds-copy_from_slice-end c =
     let d = dropped_fits _ _ c.in-Err.ensures refl c.range_end-end.ensures _ c.loop-record.invariant.dropped_room in search rules
 
 pub overflow_sub-end : goal.overflow_sub-end
@@ -69,7 +69,7 @@ loop-record-preserved c =
     let z = c.range_end-end.ensures in
     let i = c.loop-record.invariant in
     let d = dropped_fits _ _ e refl z _ i.dropped_room in
-    let w = range_stored c.loop-record.ranges c.loop-record.numbers _ _ d c.copy_from_slice-in-Err.ensures.after in
+    let w = range_stored c.loop-record.ranges c.loop-record.numbers _ _ d c.copy_from_slice.ensures.after in
     record {
       short = i.short;
       inside = (dropped_inside _ _ e refl z).1;

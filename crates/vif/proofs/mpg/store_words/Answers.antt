@@ -10,8 +10,8 @@ word_place-place-requires c =
     let f = h.few in
     (h.some, h.most, h.inside, omega arith)
 
-pub slice_bounds-copy_from_slice-end : goal.slice_bounds-copy_from_slice-end
-slice_bounds-copy_from_slice-end c =
+pub slice_bounds-copy_bytes-end-in-loop-k : goal.slice_bounds-copy_bytes-end-in-loop-k
+slice_bounds-copy_bytes-end-in-loop-k c =
     let p = c.word_place-place.ensures in
     let r = run_fits {size = c.args.size} (rw p.0 (place_word _ _ _)) p.1 (omega arith) c.min-run.ensures in
     let f = r.fits in
@@ -37,7 +37,7 @@ loop-k-preserved c =
     let s = c.loop-k.auto.code in
     let f = r.fits in
     let m = r.most in
-    let e = part_copied c.args.main.now (4 * c.min-run.result) (c.args.a + 4 * c.loop-k.k) c.word_place-place.result _ _ c.loop-k.code (omega arith) (omega arith) (omega arith) (omega arith) c.copy_from_slice.ensures.after in
+    let e = part_copied c.args.main.now (4 * c.min-run.result) (c.args.a + 4 * c.loop-k.k) c.word_place-place.result _ _ c.loop-k.code (omega arith) (omega arith) (omega arith) (omega arith) c.copy_bytes.ensures in
     record {
       few = omega arith;
       same = run_stored _ _ _ (λ j. let y = c.type_inv.main j in omega arith) h.some _ _ _ _ _ _ p.0 m f e ∙ c.loop-k.invariant.same;
