@@ -16,3 +16,6 @@ pub use payload::waiting_for;
 pub use range::unpacking_in_range;
 pub use step::{take_word, write_without_payload};
 pub use words::{held, take_words};
+
+// The bytes that main memory has at most.
+pub const MAIN_MOST: u32 = 1048576;
