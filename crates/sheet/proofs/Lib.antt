@@ -18,6 +18,7 @@ pub mod TakenLaws
 pub mod MeasureLaws
 pub mod TotalsLaws
 pub mod ActLaws
+pub mod ActedLaws
 pub mod MeaningLaws
 pub mod FedLaws
 pub mod NumberLaws

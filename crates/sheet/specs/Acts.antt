@@ -1,13 +1,16 @@
 -- What is done with the records of an expansion, one after another: any action on a state, once for the chain and the meaning.
 -- Of the promises of public functions only those of `first_item` and `act_on` cite it.
-use Rattle.std.specs.Prelude.{ℕ, ◌+◌, ◌≤◌, ◌≡◌, true, List, [], length}
+use Rattle.std.specs.Prelude.{ℕ, ◌+◌, ◌≤◌, ◌≡◌, true, List, [], length, eqb}
 use Rattle.fields.specs.Fields.{if}
 use Rattle.sheet.specs.declared.Kind.{Kind}
+use Rattle.sheet.specs.declared.sums.Totals.{Totals}
+use Rattle.sheet.specs.Measured.{Measured, Whole, Refused as MeasureRefused}
 use Rattle.sheet.specs.Records.{Record, header_length, count_fits, address_fits, body_length}
 use Rattle.sheet.specs.Reader.{Contents, valid, refused}
 use Rattle.sheet.specs.Items.{Item, Items, repeated, expanded_item, expanded}
 use Rattle.sheet.specs.Groups.{starts_second, ItemRead, ended, item, refused as itemRefused, MembersRead, members, broken}
 use Rattle.sheet.specs.Editions.{expansion_from}
+use Rattle.sheet.specs.Sums.{sheet_totals}
 
 abbrev pub RecordList : Type 0
 RecordList = List Record
@@ -77,3 +80,18 @@ sheet_done act (refused n offset) s = s
 -- where a sheet's items begin: after the record that says its edition, if it has one
 unfoldable pub first_item : List ℕ → ℕ
 first_item sheet = if (starts_second sheet) header_length 0
+
+-- what `act_on` leaves: its answer and the actor
+pub record Acted (S : Type 0) : Type 0 where
+  pub answer : Measured
+  pub actor : S
+
+abbrev pub acted : {S : Type 0} → Measured → S → Acted S
+acted a s = record { answer = a; actor = s }
+
+-- the action on all records of a sheet, whose sums are the answer; a refused sheet and sums that the actor refuses (offset 0) leave it as it is
+unfoldable pub acted_on : {S : Type 0} → (List Record → S → S) → (Totals → S → ℕ) → Contents → S → Acted S
+acted_on act refusal (valid rs) s =
+    if (eqb (refusal (sheet_totals rs) s) 0) (acted (Whole (sheet_totals rs)) (act rs s))
+    (acted (MeasureRefused (refusal (sheet_totals rs) s) 0) s)
+acted_on act refusal (refused n offset) s = acted (MeasureRefused n offset) s

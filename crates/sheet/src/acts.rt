@@ -1,20 +1,36 @@
 // What is done with the records of an accepted sheet, one after another: any action, once for the chain and the meaning.
-ghost use Rattle.std.specs.Prelude.{◌≡◌, ◌+◌, ◌<◌, [], ◌∷◌, ◌++◌};
+ghost use Rattle.std.specs.Prelude.{ℕ, ◌≡◌, ◌+◌, ◌<◌, [], ◌∷◌, ◌++◌};
+ghost use Rattle.fields.specs.Refusals.{refusal_in};
 ghost use Rattle.sheet.specs.Records.{record_of, body_length, bytes_at};
+ghost use Rattle.sheet.specs.Whole.{AllMeet};
 ghost use Rattle.sheet.specs.Groups.{item_at, members_at};
-ghost use Rattle.sheet.specs.Editions.{expansion_from};
-ghost use Rattle.sheet.specs.Acts.{RecordList, RecordThere, done, item_done, members_done, turns_done, ItemFits, MembersFit, TurnsFit, SheetFits, first_item, records_in};
+ghost use Rattle.sheet.specs.Editions.{expansion_from, contents_of};
+ghost use Rattle.sheet.specs.Sums.{sheet_totals};
+ghost use Rattle.sheet.specs.Measured.{measured};
+ghost use Rattle.sheet.specs.Acts.{RecordList, RecordThere, done, item_done, members_done, turns_done, ItemFits, MembersFit, TurnsFit, SheetFits, first_item, records_in, acted, acted_on};
 
 use super::heads::{first_item, read_header};
-use super::{Item, Record};
+use super::sums::Totals;
+use super::totals::measure;
+use super::{Item, Record, SheetError};
+use fields::Refusal;
 
-// An action on records, with the room that it takes.
+// An action on records, with the room that it takes and its test for it.
 pub trait Act {
+    ghost use Rattle.sheet.specs.declared.sums.Totals.{Totals};
+
     // What it makes of records, in order.
     ghost act: { RecordList → Self → Self };
 
     // There is room for them.
     ghost Room: { RecordList → Self → Type 0 };
+
+    // The number of its refusal of records with such sums, 0 where it takes them.
+    ghost refusal: { Totals → Self → ℕ };
+
+    // Tests the sums of records before it takes any.
+    fn test(&self, sums: Totals) -> Result<(), Refusal>
+        ensures { refusal_in result ≡ refusal sums self.now };
 
     // Does it with a record whose body stands at a place of the sheet.
     fn take(&mut self, sheet: &[u8], body: usize, found: Record)
@@ -31,6 +47,9 @@ pub trait Act {
     ghost before: { (rs ss : RecordList) (s : Self) → Room (rs ++ ss) s → Room rs s };
 
     ghost behind: { (rs ss : RecordList) (s : Self) → Room (rs ++ ss) s → Room ss (act rs s) };
+
+    // Where the sums of a sheet's records pass the test there is room for these.
+    ghost fits: { (rs : RecordList) (s : Self) → AllMeet rs → refusal (sheet_totals rs) s ≡ 0 → Room rs s };
 }
 
 // The item at a place, which is accepted; answers the place after it.
@@ -85,7 +104,7 @@ fn act_members<A: Act>(sheet: &[u8], depth: u32, at: usize, members: u32, actor:
 }
 
 // Does it with all records of an accepted sheet.
-pub fn act_on<A: Act>(sheet: &[u8], actor: &mut A)
+fn act_sheet<A: Act>(sheet: &[u8], actor: &mut A)
     requires { SheetFits A.Room sheet.now (first_item sheet.now) actor.old }
     ensures { actor.new ≡ A.act (records_in (expansion_from sheet.now (first_item sheet.now))) actor.old }
 {
@@ -93,4 +112,15 @@ pub fn act_on<A: Act>(sheet: &[u8], actor: &mut A)
     while at < sheet.len() {
         at = act_item(sheet, 8, at, actor);
     }
+}
+
+// Does it with all records of a sheet, and answers their sums. A sheet that is refused and sums that the actor refuses leave it as it is.
+pub fn act_on<A: Act>(sheet: &[u8], actor: &mut A) -> Result<Totals, SheetError>
+    ensures { acted (measured result) actor.new
+        ≡ acted_on A.act A.refusal (contents_of sheet.now) actor.old }
+{
+    let sums = measure(sheet)?;
+    actor.test(sums)?;
+    act_sheet(sheet, actor);
+    Ok(sums)
 }

@@ -72,7 +72,8 @@ fn test_group(sheet: &[u8], depth: u32, at: usize) -> Result<(), Refusal>
     Ok(())
 }
 
-// What the header at a place says, where groups may stand so deep: None at the sheet's end.
+// What the header at a place says, where groups may stand so deep: None at the sheet's end. Inlined, as `read_record` is.
+#[inline(always)]
 pub fn read_header(sheet: &[u8], depth: u32, at: usize) -> Result<Option<Item>, SheetError>
     ensures { header result ≡ header_at sheet.now depth at }
 {

@@ -101,6 +101,7 @@ fn pads_zero(sheet: &[u8], at: usize, n: usize) -> bool
     true
 }
 
+#[inline(always)]
 fn pads_fit(kind: Kind, sheet: &[u8], at: usize, n: u32) -> bool
     requires { at + body_length kind n ≤ length sheet.now }
     ensures { result ≡ pads_fit kind sheet.now at n }
@@ -112,6 +113,7 @@ fn pads_fit(kind: Kind, sheet: &[u8], at: usize, n: u32) -> bool
 }
 
 // The record at a place of a sheet, or its refusal.
+#[inline(always)]
 fn record_at(sheet: &[u8], at: usize) -> Result<Record, Refusal>
     requires { at < length sheet.now }
     ensures { reading_of at result ≡ reading_at sheet.now at }
@@ -146,7 +148,8 @@ fn record_at(sheet: &[u8], at: usize) -> Result<Record, Refusal>
     })
 }
 
-// What stands at a place of a sheet; a place past the sheet is the end.
+// What stands at a place of a sheet; a place past the sheet is the end. It and its parts are inlined, so that a record that is read is not stored and loaded again.
+#[inline(always)]
 pub fn read_record(sheet: &[u8], at: usize) -> Result<Option<Record>, SheetError>
     ensures { reading result ≡ reading_at sheet.now at }
 {

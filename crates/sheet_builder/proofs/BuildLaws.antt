@@ -1,28 +1,34 @@
 -- The builder's answers.
-use mathlib.Core.Path.{◌≡◌, ap}
+use mathlib.Core.Path.{◌≡◌, refl, ap}
+use mathlib.Core.Bool.{Bool, true, false}
 use mathlib.Core.List.{List}
-use Prim.Native.Nat.{ℕ, ◌*◌, ◌/◌, ◌<◌, ◌≤◌}
+use Prim.Native.Nat.{ℕ, ◌+◌, ◌-◌, ◌*◌, ◌/◌, ◌<◌, ◌≤◌}
 use native.Mathlib.Omega.{arith}
-use borrow.Author.Tests.{lt-ltb, le-ltb}
+use borrow.Author.Tests.{lt-ltb, le-ltb, ltb-true, ltb-false}
+use lib.Dec.{ltb}
 use lib.ListN.{length}
 use lib.Seq.{sets}
 use Rattle.fields.specs.Fields.{if}
+use Rattle.fields.specs.Refusals.{output_short}
+use Rattle.fields.proofs.ChoiceLaws.{if_zero}
 use Rattle.sheet.specs.BuildAnswer.{Built, Refused}
 use Rattle.sheet.specs.declared.sums.Totals.{Totals}
 use Rattle.sheet.specs.Measured.{Whole, Refused as MeasureRefused}
 use Rattle.sheet.specs.Records.{Record}
 use Rattle.sheet.specs.Reader.{valid}
 use Rattle.sheet.specs.Sizes.{sheet_quadwords}
-use Rattle.sheet.specs.Layout.{chain_of}
+use Rattle.sheet.specs.Layout.{end_tag, chain_of}
 use Rattle.sheet.specs.Build.{left, build_of}
 use Rattle.sheet.specs.Editions.{expansion_from, contents_of}
-use Rattle.sheet.specs.Acts.{SheetFits, first_item}
+use Rattle.sheet.specs.Acts.{SheetFits, records_in, first_item}
 use Rattle.sheet.specs.Sums.{measured_of}
-use Rattle.sheet_builder.specs.Writing.{chain_in, out, WriteRoom}
+use Rattle.sheet_builder.specs.Writing.{chain_in, Out, out, write, WriteRoom, write_refusal}
 use Rattle.sheet.proofs.ListLaws.{sets_front}
 use Rattle.sheet.proofs.EditionLaws.{contents_items, contents_meet}
 use Rattle.sheet.proofs.TotalsLaws.{measured_whole, measured_refused}
 use Rattle.sheet.proofs.LayoutLaws.{chain_length}
+use Rattle.sheet.proofs.ActedLaws.{items_whole, Stopped, by_sheet, by_actor, Passed}
+use Rattle.sheet_builder.proofs.WriterLaws.{end_room, chain_whole}
 
 -- an accepted sheet, whose chain has so many quadwords
 pub record Counted (sheet : List ℕ) (quadwords : ℕ) : Type 0 where
@@ -66,3 +72,41 @@ module _ (sheet : List ℕ) where
   build_counted q =
       let a = measured_whole (contents_of sheet) q in
       record { records = a.records; accepted = a.are; sum = ap (λ (t : Totals). t.quadwords) a.sums }
+
+-- ---- the writer's action on a sheet
+
+-- the writer refuses a chain that is longer than the output, with 47 alone
+full_of : (t : Totals) (output : List ℕ) {n : ℕ} → n ≡ write_refusal t (out output 0) → (n ≡ 0 → ⊥) → (n ≡ 47) × (length output / 16 < t.quadwords)
+unfolding write_refusal if
+full_of t output {n} e z = go (ltb (length output - 0) (16 * t.quadwords)) refl e
+  where
+    go : (b : Bool) → ltb (length output - 0) (16 * t.quadwords) ≡ b → n ≡ if b output_short 0 → (n ≡ 47) × (length output / 16 < t.quadwords)
+    go true q h = (h, let l = ltb-true (length output - 0) (16 * t.quadwords) q in omega arith)
+    go false q h = absurd (z h)
+
+module _ (sheet output : List ℕ) where
+  pub build_stopped : {n offset : ℕ} → Stopped (λ t. write_refusal t (out output 0)) (contents_of sheet) n offset → left (Refused n offset) output ≡ build_of sheet output
+  build_stopped (by_sheet q) = build_refused sheet output q
+  build_stopped (by_actor {t} q r z o) = let f = full_of t output r z in rw (f.0, o) (build_short output (build_counted sheet q) f.1)
+
+  module _ {t : Totals} (p : Passed (λ t. write_refusal t (out output 0)) (contents_of sheet) t) where
+    pub enough : t.quadwords ≤ length output / 16
+    unfolding write_refusal
+    enough =
+        let z = if_zero (ltb (length output - 0) (16 * t.quadwords)) output_short (omega arith) p.tested in
+        let l = ltb-false (length output - 0) (16 * t.quadwords) z.0 in
+        omega arith
+
+    fits : SheetFits WriteRoom sheet (first_item sheet) (out output 0)
+    fits = build_fits output (build_counted sheet p.whole) enough
+
+    -- what the records' chain made of the output
+    module _ {o : Out} (e : o ≡ write (records_in (contents_of sheet)) (out output 0)) where
+      items : o ≡ write (records_in (expansion_from sheet (first_item sheet))) (out output 0)
+      items = rw (items_whole sheet p.whole) e
+
+      pub tag_room : o.to + 16 ≤ length o.output
+      tag_room = end_room _ fits.accepted output fits.room items
+
+      pub build_done : {whole : List ℕ} → whole ≡ sets o.output o.to end_tag → left (Built (16 * t.quadwords)) whole ≡ build_of sheet output
+      build_done q = build_whole output (build_counted sheet p.whole) enough (chain_whole _ fits.accepted output fits.room items q)

@@ -2,16 +2,19 @@
 use mathlib.Core.Path.{◌≡◌, ◌∙◌}
 use mathlib.Core.Bool.{true}
 use mathlib.Core.List.{List, [], ◌∷◌, append-nil}
-use Prim.Native.Nat.{ℕ, ◌+◌, ◌*◌, ◌<◌, ◌≤◌}
+use Prim.Native.Nat.{ℕ, ◌+◌, ◌-◌, ◌*◌, ◌/◌, ◌<◌, ◌≤◌}
 use native.Mathlib.Omega.{arith}
-use borrow.Author.Tests.{eqb-true, ltb-true, leb-true}
+use borrow.Author.Tests.{eqb-true, ltb-true, leb-true, lt-ltb, le-ltb}
 use lib.ListN.{length}
 use lib.Seq.{sets, length-sets}
 use lib.Dec.{leb}
+use Rattle.fields.specs.Fields.{if}
+use Rattle.fields.specs.Refusals.{output_short}
 use Rattle.fields.proofs.ListLaws.{sets_then}
 use Rattle.fields.proofs.ChoiceLaws.{and_right}
 use Rattle.memories.specs.declared.VifUnit.TheVariants.{Vif1}
 use Rattle.memories.specs.Units.{quadwords, instructions}
+use Rattle.sheet.specs.declared.sums.Totals.{Totals}
 use Rattle.sheet.specs.declared.Kind.{Kind}
 use Rattle.sheet.specs.declared.Kind.TheVariants.{Data, Code, Gs, Start}
 use Rattle.sheet.specs.Records.{Record, record_of, count_fits, address_fits, body_length, bytes_at}
@@ -20,7 +23,7 @@ use Rattle.sheet.specs.Layout.{end_tag, laid_out}
 use Rattle.sheet.specs.Reader.{Contents, valid}
 use Rattle.sheet.specs.Acts.{RecordThere, records_in}
 use Rattle.sheet_builder.specs.WriteLaws.{chain_laid, chain_size_lem}
-use Rattle.sheet_builder.specs.Writing.{chain_in, RecordRoom, laid_all, Out, out, write, WriteRoom}
+use Rattle.sheet_builder.specs.Writing.{chain_in, RecordRoom, laid_all, Out, out, write, WriteRoom, write_refusal}
 use Rattle.sheet.proofs.ListLaws.{part_length}
 use Rattle.sheet.proofs.LayoutLaws.{laid_length}
 
@@ -76,3 +79,14 @@ module _ (c : Contents) {rs : List Record} (v : c ≡ valid rs) (first : List �
   pub chain_whole : {whole : List ℕ} → whole ≡ sets o.output o.to end_tag → whole ≡ sets first 0 (chain_in c)
   unfolding write
   chain_whole q = rw (v, chain_laid rs) (q ∙ rw written_lem (sets_then first 0 (laid_all rs) end_tag))
+
+-- ---- its test
+
+module _ (t : Totals) (output : List ℕ) (to : ℕ) {left : ℕ} (e : left ≡ length output - to) where
+  pub write_short : left / 16 < t.quadwords → output_short ≡ write_refusal t (out output to)
+  unfolding write_refusal if
+  write_short h = rw (lt-ltb (length output - to) (16 * t.quadwords) (omega arith))
+
+  pub write_enough : t.quadwords ≤ left / 16 → 0 ≡ write_refusal t (out output to)
+  unfolding write_refusal if
+  write_enough h = rw (le-ltb (length output - to) (16 * t.quadwords) (omega arith))

@@ -1,12 +1,19 @@
 -- The action on the output: that it goes on from record to record, and what its room says.
-use Rattle.std.specs.Prelude.{◌+◌, ◌≡◌, List, [], ◌∷◌, ◌++◌, length, refl}
+use Rattle.std.specs.Prelude.{◌+◌, ◌-◌, ◌*◌, ◌<◌, ◌≡◌, List, [], ◌∷◌, ◌++◌, length, ltb, refl}
 use Rattle.std.proofs.Common.{append_assoc, length-append, add-zero, add_assoc, arith}
 use lib.Seq.{length-sets}
+use borrow.Author.Tests.{ltb-false}
+use Rattle.fields.specs.Refusals.{output_short}
+use Rattle.fields.proofs.ChoiceLaws.{if_zero}
 use Rattle.fields.proofs.ListLaws.{sets_then}
 use Rattle.sheet.specs.Records.{Record}
+use Rattle.sheet.specs.Sizes.{sheet_quadwords}
+use Rattle.sheet.specs.Whole.{AllMeet}
+use Rattle.sheet.specs.Sums.{sheet_totals}
 use Rattle.sheet.specs.Layout.{end_tag, chain_of}
+use Rattle.sheet.proofs.LayoutLaws.{chain_length}
 use Rattle.sheet_builder.specs.declared.writer.Writer.{Writer}
-use Rattle.sheet_builder.specs.Writing.{laid_all, Out, out, with_out, write, WriteRoom}
+use Rattle.sheet_builder.specs.Writing.{laid_all, Out, out, with_out, write, WriteRoom, write_refusal}
 
 -- ---- the chain without its end tag
 
@@ -59,3 +66,20 @@ write_nothing w = rw write_none
 pub write_on : (rs ss : List Record) (w : Writer)
     → with_out (with_out w (write rs (out w.output.now w.to))) (write ss (write rs (out w.output.now w.to))) ≡ with_out w (write (rs ++ ss) (out w.output.now w.to))
 write_on rs ss w = rw write_onward
+
+-- ---- its test
+
+-- the end tag alone is a quadword
+some_quadword : (rs : List Record) → 0 < sheet_quadwords rs
+unfolding sheet_quadwords
+some_quadword [] = omega arith
+some_quadword (r ∷ rs) = let h = some_quadword rs in omega arith
+
+pub write_fits : (rs : List Record) (o : Out) → AllMeet rs → write_refusal (sheet_totals rs) o ≡ 0 → WriteRoom rs o
+unfolding write_refusal
+write_fits rs o m h =
+    let z = if_zero (ltb (length o.output - o.to) (16 * sheet_quadwords rs)) output_short (omega arith) h in
+    let l = ltb-false (length o.output - o.to) (16 * sheet_quadwords rs) z.0 in
+    let c = chain_length m in
+    let p = some_quadword rs in
+    record { room = omega arith }

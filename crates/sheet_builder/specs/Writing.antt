@@ -1,7 +1,10 @@
 -- The chain written record by record: what inner functions require of their input, and what they make of it; no promise of a public function cites them.
-use Rattle.std.specs.Prelude.{ℕ, ◌+◌, ◌*◌, ◌<◌, ◌≤◌, List, [], ◌∷◌, ◌++◌, length}
+use Rattle.std.specs.Prelude.{ℕ, ◌+◌, ◌*◌, ◌<◌, ◌≤◌, ◌-◌, List, [], ◌∷◌, ◌++◌, length, ltb}
 use Rattle.std.proofs.lemmas.List.Edits.{sets}
+use Rattle.fields.specs.Fields.{if}
+use Rattle.fields.specs.Refusals.{output_short}
 use Rattle.sheet.specs.declared.Kind.{Kind}
+use Rattle.sheet.specs.declared.sums.Totals.{Totals}
 use Rattle.sheet_builder.specs.declared.writer.Writer.{Writer}
 use Rattle.sheet.specs.Records.{Record, body_length}
 use Rattle.sheet.specs.Reader.{Contents, valid, refused}
@@ -43,3 +46,7 @@ write rs o = out (sets o.output o.to (laid_all rs)) (o.to + length (laid_all rs)
 -- the records' chain fits from there on, its end tag too
 pub record WriteRoom (rs : List Record) (o : Out) : Type 0 where
   pub room : o.to + length (chain_of rs) ≤ length o.output
+
+-- "47, exactly if the chain is longer than the output", of what is left of it; 0 for none
+unfoldable pub write_refusal : Totals → Out → ℕ
+write_refusal t o = if (ltb (length o.output - o.to) (16 * t.quadwords)) output_short 0

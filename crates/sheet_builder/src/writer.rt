@@ -6,13 +6,11 @@ ghost use Rattle.sheet.specs.Sizes.{record_quadwords};
 ghost use Rattle.sheet.specs.Layout.{words_bytes, code_words, gif_tag_words, padding_words, lead_words, laid_out};
 ghost use Rattle.sheet.specs.BuildAnswer.{build_answer};
 ghost use Rattle.sheet.specs.Build.{left, build_of, exported_number};
-ghost use Rattle.sheet.specs.Editions.{expansion_from};
-ghost use Rattle.sheet.specs.Acts.{SheetFits, first_item};
-ghost use Rattle.sheet_builder.specs.WriteLaws.{write_nothing, write_on, write_before, write_behind};
-ghost use Rattle.sheet_builder.specs.Writing.{RecordRoom, out, with_out, write, WriteRoom, chain_in};
+ghost use Rattle.sheet_builder.specs.WriteLaws.{write_nothing, write_on, write_before, write_behind, write_fits};
+ghost use Rattle.sheet_builder.specs.Writing.{RecordRoom, out, with_out, write, WriteRoom, write_refusal};
 
 use fields::Refusal;
-use sheet::{Act, Kind, Record, SheetError, act_on, body_length, measure};
+use sheet::{Act, Kind, Record, SheetError, Totals, act_on, body_length};
 
 // Writes words; answers the place after them.
 fn put_words(words: &[u32], output: &mut [u8], at: usize) -> usize
@@ -91,6 +89,16 @@ fn put_padding(kind: Kind, n: u32, output: &mut [u8], at: usize) -> usize
     }
 }
 
+// Copies bytes, a loop by itself: by `copy_from_slice` the library for C would ask for memmove.
+fn copy_bytes(from: &[u8], to: &mut [u8])
+    requires { length from.now ≡ length to.old }
+    ensures { to.new ≡ from.now }
+{
+    for i in 0..from.len() {
+        to[i] = from[i];
+    }
+}
+
 // A record's part of the chain; answers the place after it.
 fn put_record(sheet: &[u8], body: usize, found: Record, output: &mut [u8], at: usize) -> usize
     requires { RecordRoom sheet.now body found.kind found.count found.address output.old at }
@@ -101,7 +109,7 @@ fn put_record(sheet: &[u8], body: usize, found: Record, output: &mut [u8], at: u
 {
     let size = body_length(found.kind, found.count);
     let to = put_lead(found, output, at);
-    output[to..to + size].copy_from_slice(&sheet[body..body + size]);
+    copy_bytes(&sheet[body..body + size], &mut output[to..to + size]);
     put_padding(found.kind, found.count, output, to + size)
 }
 
@@ -117,6 +125,17 @@ impl Act for Writer<'_> {
 
     ghost Room = { λ rs w. WriteRoom rs (out w.output.now w.to) };
 
+    ghost refusal = { λ t w. write_refusal t (out w.output.now w.to) };
+
+    // 47 where the chain is longer than what is left of the output.
+    fn test(&self, sums: Totals) -> Result<(), Refusal> {
+        let room = (self.output.len().saturating_sub(self.to) / 16) as u64;
+        if room < sums.quadwords {
+            return Err(Refusal::OutputShort);
+        }
+        Ok(())
+    }
+
     fn take(&mut self, sheet: &[u8], body: usize, found: Record) {
         self.to = put_record(sheet, body, found, self.output, self.to);
     }
@@ -128,30 +147,18 @@ impl Act for Writer<'_> {
     ghost before = { λ rs ss w h. write_before rs ss _ h };
 
     ghost behind = { λ rs ss w h. write_behind rs ss _ h };
-}
 
-// The chain of an accepted sheet, in an output that has room for it.
-fn put_chain(sheet: &[u8], output: &mut [u8])
-    requires { SheetFits WriteRoom sheet.now (first_item sheet.now) (out output.old 0) }
-    ensures { output.new
-        ≡ sets output.old 0 (chain_in (expansion_from sheet.now (first_item sheet.now))) }
-{
-    let mut writer = Writer { output, to: 0 };
-    act_on(sheet, &mut writer);
-    let Writer { output, to } = writer;
-    put_words(&[0x7000_0000, 0, 0, 0], output, to);
+    ghost fits = { λ rs w m h. write_fits rs _ m h };
 }
 
 // Builds the chain of a sheet in the output, which a refusal leaves as it is.
 pub fn build(sheet: &[u8], output: &mut [u8]) -> Result<usize, SheetError>
     ensures { left (build_answer result) output.new ≡ build_of sheet.now output.old }
 {
-    let quadwords = measure(sheet)?.quadwords;
-    let room = (output.len() / 16) as u64;
-    if room < quadwords {
-        return Err(Refusal::OutputShort.into());
-    }
-    put_chain(sheet, output);
+    let mut writer = Writer { output, to: 0 };
+    let quadwords = act_on(sheet, &mut writer)?.quadwords;
+    let Writer { output, to } = writer;
+    put_words(&[0x7000_0000, 0, 0, 0], output, to);
     Ok(16 * quadwords as usize)
 }
 

@@ -1,14 +1,16 @@
 -- The answers of the meaning, with a log for its entries and beside one.
-use mathlib.Core.Path.{◌≡◌, sym, ap, ◌∙◌}
-use mathlib.Core.Bool.{true}
+use mathlib.Core.Path.{◌≡◌, refl, sym, ap, ◌∙◌}
+use mathlib.Core.Bool.{Bool, true, false}
 use mathlib.Core.List.{List, []}
 use Prim.Native.Nat.{ℕ, ◌+◌, ◌*◌, ◌-◌, ◌/◌, ◌<◌, ◌≤◌}
 use native.Mathlib.Omega.{arith}
-use borrow.Author.Tests.{lt-ltb, le-ltb}
+use borrow.Author.Tests.{ne_eqb, eqb-false, lt-ltb, le-ltb, ltb-true, ltb-false}
+use lib.Dec.{ltb}
 use lib.ListN.{length}
 use Rattle.fields.specs.Fields.{if}
 use Rattle.fields.specs.declared.refusals.Refusal.{Refusal}
-use Rattle.fields.specs.Refusals.{refusal_number}
+use Rattle.fields.specs.Refusals.{refusal_number, log_full}
+use Rattle.fields.proofs.ChoiceLaws.{if_zero}
 use Rattle.fields.proofs.RefusalLaws.{refusal_not_none}
 use Rattle.gif.proofs.RangeLaws.{log_fits}
 use Rattle.gif.specs.Log.{entry_size, entries_in}
@@ -16,7 +18,7 @@ use Rattle.gif.proofs.LogLaws.{in_count}
 use Rattle.memories.specs.declared.VifUnit.TheVariants.{Vif1}
 use Rattle.memories.specs.Units.{data_words, code_bytes}
 use Rattle.memories.specs.Lengths.{lent}
-use Rattle.memories.proofs.LengthLaws.{lengths_fit}
+use Rattle.memories.proofs.LengthLaws.{lengths_fit, fit_first}
 use Rattle.sheet.specs.MeaningAnswer.{Meant, Refused}
 use Rattle.sheet.specs.MatchAnswer.{Matched, Refused as MatchRefused}
 use Rattle.sheet_meaning.specs.declared.matching.Front.{Front}
@@ -32,10 +34,11 @@ use Rattle.sheet.specs.Results.{left, length_refusal, meaning_of_sheet}
 use Rattle.sheet.specs.Match.{left as leftMatched, leading, match_of_sheet}
 use Rattle.sheet.specs.Sums.{measured_of}
 use Rattle.sheet.specs.Fed.{Fed, fed, fed_all}
-use Rattle.sheet_meaning.specs.Feeding.{RecordsRoom}
+use Rattle.sheet_meaning.specs.Feeding.{RecordsRoom, feed_refusal}
 use Rattle.sheet_meaning.specs.Met.{front, met_all, Matching, matching, matched_all, MatchRoom}
 use Rattle.sheet.proofs.EditionLaws.{contents_items}
 use Rattle.sheet.proofs.TotalsLaws.{measured_whole, measured_refused}
+use Rattle.sheet.proofs.ActedLaws.{items_whole, Stopped, by_sheet, by_actor, Passed}
 use Rattle.sheet.proofs.MeaningLaws.{meaning_count, log_same}
 use Rattle.sheet.proofs.FedLaws.{fed_plain, fed_sheet}
 use Rattle.sheet_meaning.proofs.MatchLaws.{met_leading, matched_plain, match_meant}
@@ -103,11 +106,19 @@ module _ {sheet mem code log : List ℕ} {used entries : ℕ} (m : Means sheet m
 
 -- ---- refusals
 
+some_refusal : (e : Refusal) → refusal_number e ≡ 0 → ⊥
+some_refusal e = eqb-false (refusal_number e) 0 (refusal_not_none e)
+
 -- of the lengths
-pub mean_lengths : (sheet mem code log : List ℕ) (used : ℕ) (e : Refusal) → refusal_number e ≡ length_refusal mem code log used
-    → left (Refused (refusal_number e) 0) mem code log ≡ meaning_of_sheet sheet mem code log used
+pub mean_lengths : (sheet mem code log : List ℕ) (used : ℕ) {n : ℕ} → n ≡ length_refusal mem code log used → (n ≡ 0 → ⊥)
+    → left (Refused n 0) mem code log ≡ meaning_of_sheet sheet mem code log used
 unfolding meaning_of_sheet if
-mean_lengths sheet mem code log used e q = rw (← q, refusal_not_none e)
+mean_lengths sheet mem code log used e z = rw (← e, ne_eqb _ _ z)
+
+-- the same of a refusal
+pub mean_lengths_refused : (sheet mem code log : List ℕ) (used : ℕ) (e : Refusal) → refusal_number e ≡ length_refusal mem code log used
+    → left (Refused (refusal_number e) 0) mem code log ≡ meaning_of_sheet sheet mem code log used
+mean_lengths_refused sheet mem code log used e q = mean_lengths sheet mem code log used q (some_refusal e)
 
 -- of the sheet, which is measured
 module _ (sheet mem code log : List ℕ) (used : ℕ) (l : 0 ≡ length_refusal mem code log used) where
@@ -122,10 +133,15 @@ module _ (sheet mem code log : List ℕ) (used : ℕ) (l : 0 ≡ length_refusal 
 
 -- ---- beside a log
 
-pub match_lengths : (sheet mem code log : List ℕ) (used : ℕ) (e : Refusal) → refusal_number e ≡ length_refusal mem code log used
-    → leftMatched (MatchRefused (refusal_number e) 0) mem code ≡ match_of_sheet sheet mem code log used
+pub match_lengths : (sheet mem code log : List ℕ) (used : ℕ) {n : ℕ} → n ≡ length_refusal mem code log used → (n ≡ 0 → ⊥)
+    → leftMatched (MatchRefused n 0) mem code ≡ match_of_sheet sheet mem code log used
 unfolding match_of_sheet if
-match_lengths sheet mem code log used e q = rw (← q, refusal_not_none e)
+match_lengths sheet mem code log used e z = rw (← e, ne_eqb _ _ z)
+
+-- the same of a refusal
+pub match_lengths_refused : (sheet mem code log : List ℕ) (used : ℕ) (e : Refusal) → refusal_number e ≡ length_refusal mem code log used
+    → leftMatched (MatchRefused (refusal_number e) 0) mem code ≡ match_of_sheet sheet mem code log used
+match_lengths_refused sheet mem code log used e q = match_lengths sheet mem code log used q (some_refusal e)
 
 -- the parts of what is left, where nothing is refused
 match_left : (sheet mem code log : List ℕ) (used : ℕ) {rs : List Record} → length_refusal mem code log used ≡ 0 → contents_of sheet ≡ valid rs → {k n : ℕ} {mem' code' : List ℕ}
@@ -177,3 +193,45 @@ module _ (sheet mem code log : List ℕ) (used : ℕ) (l : 0 ≡ length_refusal 
         match_left sheet mem code log used a.lengths a.accepted
         (ap (λ (x : Matching). x.front.leading) w ∙ met_leading log used (means_lengths a).held meant.entries) entries_meant
         (ap (λ (x : Matching). x.mem) w) (ap (λ (x : Matching). x.code) w)
+
+-- ---- the actions on a sheet, whose lengths are accepted
+
+module _ (sheet mem code log : List ℕ) (used : ℕ) (l : 0 ≡ length_refusal mem code log used) where
+  abbrev feeder_refuses : Totals → ℕ
+  feeder_refuses t = feed_refusal t (fed mem code log used)
+
+  -- the feeder refuses entries that the log has no room for, with 31 alone
+  full_of : (t : Totals) {n : ℕ} → n ≡ feeder_refuses t → (n ≡ 0 → ⊥) → (n ≡ 31) × (length log / entry_size - used < t.entries)
+  unfolding feed_refusal if
+  full_of t {n} e z = go (ltb (length log) (entry_size * (used + t.entries))) refl (rw (← l) at e)
+    where
+      go : (b : Bool) → ltb (length log) (entry_size * (used + t.entries)) ≡ b → n ≡ if b log_full 0 → (n ≡ 31) × (length log / entry_size - used < t.entries)
+      go true q h = (h, let k = (lengths_of mem code log used (sym l)).held in let x = ltb-true (length log) (entry_size * (used + t.entries)) q in omega arith)
+      go false q h = absurd (z h)
+
+  pub mean_stopped : {n offset : ℕ} → Stopped feeder_refuses (contents_of sheet) n offset → left (Refused n offset) mem code log ≡ meaning_of_sheet sheet mem code log used
+  mean_stopped (by_sheet q) = mean_refused sheet mem code log used l q
+  mean_stopped (by_actor {t} q r z o) = let f = full_of t r z in rw (f.0, o) (mean_full (mean_means sheet mem code log used l q) f.1)
+
+  module _ {t : Totals} (p : Passed feeder_refuses (contents_of sheet) t) where
+    enough : t.entries ≤ length log / entry_size - used
+    unfolding feed_refusal
+    enough =
+        let f = fit_first Vif1 (lent mem code log) used p.tested in
+        let z = if_zero (ltb (length log) (entry_size * (used + t.entries))) log_full (omega arith) f.1 in
+        let x = ltb-false (length log) (entry_size * (used + t.entries)) z.0 in
+        omega arith
+
+    pub mean_passed : {mem' code' log' : List ℕ} {r : ℕ} → fed mem' code' log' r ≡ fed_all (records_in (contents_of sheet)) (fed mem code log used)
+        → left (Meant r) mem' code' log' ≡ meaning_of_sheet sheet mem code log used
+    mean_passed e = mean_fed (mean_means sheet mem code log used l p.whole) enough (rw (items_whole sheet p.whole) e)
+
+  -- the matcher refuses lengths alone
+  pub match_stopped : {n offset : ℕ} → Stopped (λ t. length_refusal mem code log used) (contents_of sheet) n offset → leftMatched (MatchRefused n offset) mem code ≡ match_of_sheet sheet mem code log used
+  match_stopped (by_sheet q) = match_refused sheet mem code log used l q
+  match_stopped (by_actor q r z o) = absurd (z (r ∙ sym l))
+
+  pub match_passed : {t : Totals} → Whole t ≡ measured_of (contents_of sheet) → {mem' code' : List ℕ} {f : Front}
+      → matching mem' code' f ≡ matched_all log used (records_in (contents_of sheet)) (matching mem code (front 0 true))
+      → leftMatched (Matched f.leading t.entries) mem' code' ≡ match_of_sheet sheet mem code log used
+  match_passed q {f = f} g = match_done sheet mem code log used l q {f = f} (rw (items_whole sheet q) g)

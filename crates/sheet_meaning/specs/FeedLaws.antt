@@ -3,14 +3,22 @@ use Rattle.std.specs.Prelude.{◌+◌, ◌*◌, ◌≡◌, List, [], ◌∷◌, 
 use Rattle.std.proofs.Common.{◌∙◌, arith}
 use native.Mathlib.Nat.{zero-add, add-zero, add_assoc}
 use lib.Seq.{length-sets}
+use borrow.Author.Tests.{ltb-false}
+use lib.Dec.{ltb}
+use Rattle.fields.specs.Refusals.{log_full}
+use Rattle.fields.proofs.ChoiceLaws.{if_zero}
 use Rattle.gif.specs.Log.{entry_size, numbers}
+use Rattle.memories.specs.declared.VifUnit.TheVariants.{Vif1}
+use Rattle.memories.specs.Lengths.{lent}
+use Rattle.memories.proofs.LengthLaws.{fit_first}
 use Rattle.sheet.specs.Records.{Record}
 use Rattle.sheet.specs.Sizes.{sheet_entries}
+use Rattle.sheet.specs.Sums.{sheet_totals}
 use Rattle.sheet.specs.Meaning.{entries_by}
 use Rattle.sheet.specs.Fed.{Fed, fed_by, fed_all}
 use Rattle.sheet.proofs.MeaningLaws.{mem_kept, code_kept}
 use Rattle.sheet_meaning.specs.declared.plain.Feeder.{Feeder}
-use Rattle.sheet_meaning.specs.Feeding.{fed_in, with_fed, RecordsRoom}
+use Rattle.sheet_meaning.specs.Feeding.{fed_in, with_fed, RecordsRoom, feed_refusal}
 
 entries_append : (rs ss : List Record) → sheet_entries (rs ++ ss) ≡ sheet_entries rs + sheet_entries ss
 unfolding sheet_entries
@@ -66,3 +74,11 @@ feed_nothing f = rw feed_none
 
 pub feed_on : (rs ss : List Record) (f : Feeder) → with_fed f (fed_all ss (fed_all rs (fed_in f))) ≡ with_fed f (fed_all (rs ++ ss) (fed_in f))
 feed_on rs ss f = rw feed_onward
+
+-- what its test takes has room
+pub feed_fits : (rs : List Record) (x : Fed) → feed_refusal (sheet_totals rs) x ≡ 0 → RecordsRoom rs x
+unfolding feed_refusal
+feed_fits rs x h =
+    let f = fit_first Vif1 (lent x.mem x.code x.log) x.used h in
+    let z = if_zero (ltb (length x.log) (entry_size * (x.used + sheet_entries rs))) log_full (omega arith) f.1 in
+    record { words = f.0.long; bytes = f.0.wide; room = ltb-false (length x.log) (entry_size * (x.used + sheet_entries rs)) z.0 }

@@ -1,10 +1,14 @@
 -- Feeding memories and a log: what inner functions require of their input; no promise of a public function cites it.
-use Rattle.std.specs.Prelude.{ℕ, ◌+◌, ◌*◌, ◌≤◌, ◌≡◌, List, [], ◌∷◌, length}
+use Rattle.std.specs.Prelude.{ℕ, ◌+◌, ◌*◌, ◌≤◌, ◌≡◌, not, List, [], ◌∷◌, length, eqb, ltb}
+use Rattle.fields.specs.Fields.{if}
+use Rattle.fields.specs.Refusals.{log_full}
 use Rattle.gif.specs.Log.{entry_size}
 use Rattle.memories.specs.declared.VifUnit.TheVariants.{Vif1}
 use Rattle.memories.specs.Units.{data_words, code_bytes}
+use Rattle.sheet.specs.declared.sums.Totals.{Totals}
 use Rattle.sheet.specs.Records.{Record, bytes_at, number}
 use Rattle.sheet.specs.Sizes.{sheet_entries}
+use Rattle.sheet.specs.Results.{length_refusal}
 use Rattle.sheet.specs.Fed.{Fed, fed}
 use Rattle.sheet_meaning.specs.declared.plain.Feeder.{Feeder}
 
@@ -35,3 +39,10 @@ pub record RecordsRoom (rs : List Record) (x : Fed) : Type 0 where
   pub words : length x.mem ≡ data_words Vif1
   pub bytes : length x.code ≡ code_bytes Vif1
   pub room : entry_size * (x.used + sheet_entries rs) ≤ length x.log
+
+-- the refusal of records with such sums, 0 for none: of the lengths (2, 3, 4), and then 31 where the log has no room for the entries
+unfoldable pub feed_refusal : Totals → Fed → ℕ
+feed_refusal t x =
+    if (not (eqb (length_refusal x.mem x.code x.log x.used) 0)) (length_refusal x.mem x.code x.log x.used)
+    (if (ltb (length x.log) (entry_size * (x.used + t.entries))) log_full
+    0)

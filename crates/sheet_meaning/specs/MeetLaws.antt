@@ -1,10 +1,14 @@
 -- Matching as an action on a matcher: that it goes on from record to record, and what its room says.
 use Rattle.std.specs.Prelude.{ℕ, ◌≡◌, List, [], ◌∷◌, ◌++◌, length, refl}
 use Rattle.std.proofs.Common.{◌∙◌}
+use Rattle.gif.proofs.RangeLaws.{log_fits}
+use Rattle.memories.specs.declared.VifUnit.TheVariants.{Vif1}
+use Rattle.memories.specs.Lengths.{lent}
+use Rattle.memories.proofs.LengthLaws.{lengths_fit}
 use Rattle.sheet.specs.Records.{Record}
 use Rattle.sheet.proofs.MeaningLaws.{mem_kept, code_kept}
 use Rattle.sheet_meaning.specs.declared.matching.Matcher.{Matcher}
-use Rattle.sheet_meaning.specs.Met.{Matching, matching_in, with_matching, matched_by, matched_all, MatchRoom}
+use Rattle.sheet_meaning.specs.Met.{Matching, matching_in, with_matching, matched_by, matched_all, MatchRoom, match_refusal}
 
 module _ (log : List ℕ) (used : ℕ) where
   record Kept (x y : Matching) : Type 0 where
@@ -37,6 +41,12 @@ module _ (log : List ℕ) (used : ℕ) where
   match_behind rs ss x h =
       let k = match_kept rs x in
       record { words = k.words ∙ h.words; bytes = k.bytes ∙ h.bytes; held = h.held }
+
+  -- what its test takes has room
+  pub match_room : (rs : List Record) (x : Matching) → match_refusal log used x ≡ 0 → MatchRoom log used rs x
+  match_room rs x h =
+      let f = lengths_fit Vif1 (lent x.mem x.code log) used h in
+      record { words = f.long; bytes = f.wide; held = (log_fits log used f.logged).holds }
 
 pub match_nothing : (m : Matcher) → with_matching m (matched_all m.log.numbers.now m.log.used [] (matching_in m)) ≡ m
 match_nothing m = rw match_none

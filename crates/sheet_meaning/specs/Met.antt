@@ -10,6 +10,7 @@ use Rattle.sheet_meaning.specs.declared.matching.Matcher.{Matcher}
 use Rattle.sheet.specs.Records.{Record}
 use Rattle.sheet.specs.Meaning.{entries_by, mem_by, code_by}
 use Rattle.sheet.specs.Match.{same_entry}
+use Rattle.sheet.specs.Results.{length_refusal}
 
 -- how many entries at the front are the same, and whether all so far were
 abbrev pub front : ℕ → Bool → Front
@@ -65,3 +66,7 @@ pub record MatchRoom (log : List ℕ) (used : ℕ) (rs : List Record) (x : Match
   pub words : length x.mem ≡ data_words Vif1
   pub bytes : length x.code ≡ code_bytes Vif1
   pub held : entry_size * used ≤ length log
+
+-- the refusal of the lengths (2, 3, 4), 0 for none
+abbrev pub match_refusal : List ℕ → ℕ → Matching → ℕ
+match_refusal log used x = length_refusal x.mem x.code log used

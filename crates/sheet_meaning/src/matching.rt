@@ -5,13 +5,14 @@ ghost use Rattle.sheet.specs.Records.{bytes_at};
 ghost use Rattle.sheet.specs.Meaning.{entries_at};
 ghost use Rattle.sheet.specs.MatchAnswer.{match_answer};
 ghost use Rattle.sheet.specs.Match.{same_entry, left, match_of_sheet};
-ghost use Rattle.sheet_meaning.specs.Met.{entry_in, next_front, met, met_all, matching_in, with_matching, matched_all, MatchRoom};
-ghost use Rattle.sheet_meaning.specs.MeetLaws.{match_nothing, match_on, match_before, match_behind};
+ghost use Rattle.sheet_meaning.specs.Met.{entry_in, next_front, met, met_all, matching_in, with_matching, matched_all, MatchRoom, match_refusal};
+ghost use Rattle.sheet_meaning.specs.MeetLaws.{match_nothing, match_on, match_before, match_behind, match_room};
 
 use super::plain::{entry_at, put_instructions, put_vectors, start_entry};
+use fields::Refusal;
 use gif::Entry;
 use memories::VifUnit;
-use sheet::{Act, Kind, Record, SheetError, act_on, measure};
+use sheet::{Act, Kind, Record, SheetError, Totals, act_on};
 
 // How many entries at the front are the same, and whether all so far were. The number counts in both cases, so the two stand beside each other.
 #[derive(Clone, Copy)]
@@ -89,6 +90,19 @@ impl Act for Matcher<'_> {
 
     ghost Room = { λ rs m. MatchRoom m.log.numbers.now m.log.used rs (matching_in m) };
 
+    ghost refusal = { λ t m. match_refusal m.log.numbers.now m.log.used (matching_in m) };
+
+    // The lengths: the entries are only compared, and need no room.
+    fn test(&self, _sums: Totals) -> Result<(), Refusal> {
+        memories::test_lengths(
+            VifUnit::Vif1,
+            self.data,
+            self.code,
+            self.log.numbers,
+            self.log.used,
+        )
+    }
+
     // A record does to the memories what its row says, and its entries are compared.
     fn take(&mut self, sheet: &[u8], body: usize, found: Record) {
         let n = found.count as usize;
@@ -108,6 +122,8 @@ impl Act for Matcher<'_> {
     ghost before = { λ rs ss m h. match_before _ _ rs ss _ h };
 
     ghost behind = { λ rs ss m h. match_behind _ _ rs ss _ h };
+
+    ghost fits = { λ rs m a h. match_room _ _ rs _ h };
 }
 
 // Feeds a sheet's records to the memories, which a refusal leaves as they are, and compares their entries with those used of a log.
@@ -122,7 +138,6 @@ pub fn match_meaning(
         ≡ match_of_sheet sheet.now «data».old code.old log.now used }
 {
     memories::test_lengths(VifUnit::Vif1, data, code, log, used)?;
-    let entries = measure(sheet)?.entries;
     let mut matcher = Matcher {
         data,
         code,
@@ -132,7 +147,7 @@ pub fn match_meaning(
             whole: true,
         },
     };
-    act_on(sheet, &mut matcher);
+    let entries = act_on(sheet, &mut matcher)?.entries;
     Ok(sheet::Front {
         leading: matcher.front.leading,
         entries,

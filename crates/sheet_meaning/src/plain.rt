@@ -10,13 +10,13 @@ ghost use Rattle.sheet.specs.Meaning.{put_vectors, put_instructions, entries_at}
 ghost use Rattle.sheet.specs.MeaningAnswer.{meaning_answer};
 ghost use Rattle.sheet.specs.Results.{left, meaning_of_sheet};
 ghost use Rattle.sheet.specs.Fed.{fed_all};
-ghost use Rattle.sheet_meaning.specs.Feeding.{vector_at, fed_in, with_fed, RecordsRoom};
-ghost use Rattle.sheet_meaning.specs.FeedLaws.{feed_nothing, feed_on, feed_before, feed_behind};
+ghost use Rattle.sheet_meaning.specs.Feeding.{vector_at, fed_in, with_fed, RecordsRoom, feed_refusal};
+ghost use Rattle.sheet_meaning.specs.FeedLaws.{feed_nothing, feed_on, feed_before, feed_behind, feed_fits};
 
 use fields::Refusal;
 use gif::Entry;
 use memories::VifUnit;
-use sheet::{Act, Kind, Record, SheetError, act_on, measure};
+use sheet::{Act, Kind, Record, SheetError, Totals, act_on};
 
 const QUADWORDS: usize = memories::VIF1_QUADWORDS as usize;
 
@@ -139,6 +139,18 @@ impl Act for Feeder<'_> {
 
     ghost Room = { λ rs f. RecordsRoom rs (fed_in f) };
 
+    ghost refusal = { λ t f. feed_refusal t (fed_in f) };
+
+    // The lengths, and then 31 where the log has no room for the entries.
+    fn test(&self, sums: Totals) -> Result<(), Refusal> {
+        memories::test_lengths(VifUnit::Vif1, self.data, self.code, self.log, self.used)?;
+        let room = self.log.len() as u64 / gif::ENTRY_SIZE - self.used;
+        if room < sums.entries {
+            return Err(Refusal::LogFull);
+        }
+        Ok(())
+    }
+
     // A record does what its row says.
     fn take(&mut self, sheet: &[u8], body: usize, found: Record) {
         let n = found.count as usize;
@@ -164,6 +176,8 @@ impl Act for Feeder<'_> {
     ghost before = { λ rs ss f h. feed_before rs ss _ h };
 
     ghost behind = { λ rs ss f h. feed_behind rs ss _ h };
+
+    ghost fits = { λ rs f m h. feed_fits rs _ h };
 }
 
 // Feeds a sheet's records to the memories and the log, which a refusal leaves as they are.
@@ -178,17 +192,12 @@ pub fn meaning(
         ≡ meaning_of_sheet sheet.now «data».old code.old log.old used }
 {
     memories::test_lengths(VifUnit::Vif1, data, code, log, used)?;
-    let entries = measure(sheet)?.entries;
-    let room = log.len() as u64 / gif::ENTRY_SIZE - used;
-    if room < entries {
-        return Err(Refusal::LogFull.into());
-    }
     let mut feeder = Feeder {
         data,
         code,
         log,
         used,
     };
-    act_on(sheet, &mut feeder);
+    act_on(sheet, &mut feeder)?;
     Ok(feeder.used)
 }

@@ -1,31 +1,21 @@
-use Rattle.std.proofs.Common.{arith, refl, sym, ◌∙◌}
-use Rattle.sheet.proofs.ActLaws.{Action, sheet_end, item_fits, item_next, sheet_fits, sheet_done_lem, sheet_acted}
-use Rattle.sheet.proofs.acts.act_on.Given.{Over}
+use Rattle.std.proofs.lemmas.Result.{err_from_is_err_and}
+use Rattle.sheet.proofs.ActedLaws.{items_whole, acted_refused, acted_tested, acted_whole, acted_fits}
 use Rattle.sheet.proofs.acts.act_on.Goals as goal
 
--- the actor's action
-abbrev acting : (g : Over) → Action g.row.A.Denot
-acting g = record { act = g.A.Act.act; Room = g.A.Act.Room; nothing = g.met.A.Act.nothing; onward = g.met.A.Act.onward; before = g.met.A.Act.before; behind = g.met.A.Act.behind }
+pub returns-in_err-sums : goal.returns-in_err-sums
+returns-in_err-sums g c =
+    let p = err_from_is_err_and c.from_residual.result c.from_residual.ensures.1 in
+    rw (p.1, p.2) (acted_refused g.A.Act.act g.A.Act.refusal _ _ c.in_err-sums.ensures)
 
-pub loop-at-init : goal.loop-at-init
-loop-at-init g c = record { fits = rw c.first_item-at.ensures c.requires; same = rw c.first_item-at.ensures refl }
+pub returns-in_err-test : goal.returns-in_err-test
+returns-in_err-test g c =
+    let p = err_from_is_err_and c.from_residual-in_err-test.result c.from_residual-in_err-test.ensures.1 in
+    rw (p.1, p.2) (acted_tested g.A.Act.act g.A.Act.refusal _ _ c.in_ok-sums.ensures _ c.in_err-test.ensures)
 
-pub act_item-at-requires : goal.act_item-at-requires
-act_item-at-requires g c = item_fits (acting g) _ _ _ c.loop-at.invariant.fits c.loop-at-test.true
-
-pub loop-at-smaller : goal.loop-at-smaller
-loop-at-smaller g c = let n = item_next (acting g) _ _ _ c.loop-at.invariant.fits c.loop-at-test.true c.act_item-at.ensures in omega arith
-
-pub loop-at-preserved : goal.loop-at-preserved
-loop-at-preserved g c =
-    let i = c.loop-at.invariant in
-    let h = c.loop-at-test.true in
-    record {
-      fits = sheet_fits (acting g) _ _ _ i.fits h c.act_item-at.ensures;
-      same = sheet_done_lem (acting g) _ _ _ i.fits h c.act_item-at.ensures ∙ i.same;
-    }
+pub act_sheet-requires : goal.act_sheet-requires
+act_sheet-requires g c = acted_fits g.A.Act.refusal g.met.A.Act.fits _ _ c.in_ok-sums.ensures c.in_ok-test.ensures
 
 pub returns : goal.returns
 returns g c =
-    let i = c.loop-at.invariant in
-    sym (sheet_end (acting g) _ _ _ i.fits c.loop-at-test.false) ∙ i.same ∙ sheet_acted (acting g) _ c.requires.accepted _
+    let q = c.in_ok-sums.ensures in
+    acted_whole g.A.Act.act g.A.Act.refusal _ _ q c.in_ok-test.ensures (rw (← items_whole _ q) c.act_sheet.ensures)

@@ -1,7 +1,7 @@
 use Rattle.std.proofs.Common.{◌≡◌, ◌-◌, length}
 use Rattle.sheet.specs.Editions.{expansion_from}
 use Rattle.sheet.specs.Acts.{SheetFits, sheet_done, first_item}
-use Rattle.sheet.proofs.acts.act_on.Given as goal
+use Rattle.sheet.proofs.acts.act_sheet.Given as goal
 
 abbrev pub invariant-loop-at : goal.invariant-loop-at
 invariant-loop-at g l =
