@@ -7,20 +7,21 @@ use mathlib.Core.Bool.{Bool, true, false, not, ◌&&◌}
 use mathlib.Core.List.{List, [], ◌++◌, append-nil}
 use Prim.Native.Nat.{ℕ, ◌-◌, ◌<◌, min}
 use native.Mathlib.Omega.{arith}
-use borrow.Author.Tests.{ltb-true, ltb-false}
+use borrow.Author.Tests.{ltb-true, ltb-false, ne_eqb}
 use lib.ListN.{length, take, drop, take-append-drop, length-drop, drop_of_length-le}
 use lib.Seq.{take_all}
 use lib.Dec.{eqb, ltb}
+use Rattle.fields.specs.Counts.{none}
 use Rattle.fields.specs.Fields.{if}
 use Rattle.fields.specs.declared.refusals.Refusal.{Refusal}
 use Rattle.fields.specs.Refusals.{refusal_number, main_length, out_of_range}
 use Rattle.fields.proofs.ChoiceLaws.{if_ind_by}
-use Rattle.fields.proofs.RefusalLaws.{refusal_not_none}
+use Rattle.fields.proofs.RefusalLaws.{refusal_small}
 use Rattle.memories.specs.declared.VifUnit.TheVariants.{Vif1}
 use Rattle.memories.specs.Lengths.{Lent, lengths_refusal}
 use Rattle.chain.specs.declared.Ending.{Ending}
 use Rattle.chain.specs.declared.RunResult.{RunResult}
-use Rattle.chain.specs.Run.{Ran, left_by}
+use Rattle.chain.specs.Run.{Ran, left_by, run_of}
 use Rattle.chain.specs.Answer.{run_answer}
 use Rattle.chain_state.specs.StartAnswer.{Started, Refused as StartRefused}
 use Rattle.chain_state.specs.declared.State.{State}
@@ -34,7 +35,7 @@ use Rattle.sheet.specs.Layout.{chain_of}
 use Rattle.sheet.specs.Build.{Left, left, built_from, build_of}
 use Rattle.conformance.specs.declared.PlayError.{PlayError}
 use Rattle.conformance.specs.declared.PlayError.TheVariants.{Run}
-use Rattle.conformance.specs.PlayAnswer.{Ended, play_answer}
+use Rattle.conformance.specs.PlayAnswer.{Ended, Refused, play_answer}
 use Rattle.conformance.specs.Play.{played, play_refused, play_ran, play_refusal, play_of}
 use Rattle.conformance.specs.Inner.{memories_refusal, place_of, built_at, Begins}
 
@@ -107,16 +108,58 @@ built_placed sheet main a {p} e b =
     let b' = rw (w, q.1) at b in
     rw (z, append-nil, q.0, ← b')
 
+-- ---- refusals
+
+module _ (sheet main : List ℕ) (a : ℕ) (s : State) (m : Lent) (allowance : ℕ) {n : ℕ} (l : n ≡ memories_refusal main m s.used) where
+  refusal_is : play_refusal main m s a ≡ if (eqb n 0) (if (not (state_in_range s && start_in_range 1 a false)) out_of_range 0) n
+  unfolding play_refusal memories_refusal
+  refusal_is = rw l (lengths_first (main_refused (length main)) (lengths_refusal Vif1 m s.used) _)
+
+  pub play_lengths : (n ≡ 0 → ⊥) → played (Refused n 0) s none main m ≡ play_of sheet main a s m allowance
+  unfolding play_of if
+  play_lengths z = simp (refusal_is, ne_eqb n 0 z)
+
+  module _ (z : n ≡ 0) {r : StartResult} (e : r ≡ start_of s 1 a false) where
+    pub play_start : {k : ℕ} → r.answer ≡ StartRefused k → played (Refused k 0) s none main m ≡ play_of sheet main a s m allowance
+    unfolding play_of if
+    play_start q = let f = start_refused s a (rw e at q) in simp (refusal_is, z, f.0, f.1)
+
+    module _ (q : r.answer ≡ Started) {x : BuildAnswer} {main' : List ℕ} (b : left x main' ≡ built_at sheet main a) where
+      accepted : play_refusal main m s a ≡ 0
+      unfolding if
+      accepted = let f = start_passed s a (rw e at q) in simp (refusal_is, z, f)
+
+      pub play_build : {k offset : ℕ} → x ≡ BuildRefused k offset → played (Refused k offset) s none main' m ≡ play_of sheet main a s m allowance
+      unfolding play_of built_at if
+      play_build y =
+          let f : (build_of sheet (drop a main)).answer ≡ BuildRefused _ _ = sym (ap (λ (o : Left). o.answer) b) ∙ y in
+          let o : main' ≡ main = ap (λ (o : Left). o.output) b ∙ rw (build_keeps sheet (drop a main) f) (take-append-drop a main) in
+          simp (accepted, f, o)
+
+      -- the run on what the builder and the start left
+      built_runs : {size : ℕ} → x ≡ Built size → play_ran (run_of main' allowance r.state m) main' ≡ play_of sheet main a s m allowance
+      unfolding play_of built_at if
+      built_runs {size} y =
+          let f : (build_of sheet (drop a main)).answer ≡ Built size = sym (ap (λ (o : Left). o.answer) b) ∙ y in
+          let o : main' ≡ take a main ++ (build_of sheet (drop a main)).output = ap (λ (o : Left). o.output) b in
+          simp (accepted, f, ← o, ← e)
+
+      pub play_run : {size : ℕ} → x ≡ Built size → (u : RunResult) {m' : Lent} → left_by u m' ≡ run_of main' allowance r.state m
+          → played (Ended (run_answer u.answer)) u.state u.counts main' m' ≡ play_of sheet main a s m allowance
+      play_run y u v = ap (λ (r : Ran). play_ran r main') v ∙ built_runs y
+
 -- ---- what is done before the run
 
 -- a refusal is the whole answer
-refuses : {sheet main after : List ℕ} {a : ℕ} {s : State} {m : Lent} {r : Result State SheetError} {e : SheetError} → r ≡ Err e
+refuses : {sheet main after : List ℕ} {a : ℕ} {s : State} {m : Lent} {r : Result State SheetError} (e : SheetError) → IsErrAnd r (λ x. x ≡ e)
     → ((allowance : ℕ) → play_refused (refusal_number e.refusal) e.offset s after m ≡ play_of sheet main a s m allowance)
     → Begins r sheet main after a s m
-refuses {e = e} q h =
+refuses {r = r} e p h =
+    let q = err_from_is_err_and r p in
+    let k : r ≡ Err e = rw q.2 at q.1 in
     record {
-      refused = λ x p allowance. (let z : x ≡ e = cc in rw z (h allowance));
-      begun = λ t p allowance. absurd (let z : ◌≡◌ {A = ℕ} 0 1 = cc in omega arith);
+      refused = λ x y allowance. (let z : x ≡ e = cc in rw z (h allowance));
+      begun = λ t y allowance. absurd (let z : ◌≡◌ {A = ℕ} 0 1 = cc in omega arith);
     }
 
 -- a refusal that is not the sheet's has the offset 0
@@ -124,51 +167,27 @@ abbrev pub whole : Refusal → SheetError
 whole e = record { refusal = e; offset = 0 }
 
 module _ (sheet main : List ℕ) (a : ℕ) (s : State) (m : Lent) where
-  refusal_is : {n : ℕ} → n ≡ memories_refusal main m s.used
-      → play_refusal main m s a ≡ if (eqb n 0) (if (not (state_in_range s && start_in_range 1 a false)) out_of_range 0) n
-  unfolding play_refusal memories_refusal
-  refusal_is l = rw l (lengths_first (main_refused (length main)) (lengths_refusal Vif1 m s.used) _)
-
   pub begins_lengths : (e : Refusal) → refusal_number e ≡ memories_refusal main m s.used → {r : Result State SheetError} → IsErrAnd r (λ x. x ≡ whole e)
       → Begins r sheet main main a s m
-  unfolding play_of if
-  begins_lengths e l {r} p =
-      let q = err_from_is_err_and r p in
-      refuses (rw q.2 at q.1) (λ allowance. simp (refusal_is l, refusal_not_none e))
+  begins_lengths e l p = refuses (whole e) p (λ allowance. play_lengths sheet main a s m allowance l (let h = refusal_small e in λ q. omega arith))
 
   module _ (z : 0 ≡ memories_refusal main m s.used) where
     pub begins_start : (e : Refusal) → started_by s (Err e) ≡ start_of s 1 a false → {r : Result State SheetError} → IsErrAnd r (λ x. x ≡ whole e)
         → Begins r sheet main main a s m
-    unfolding play_of if
-    begins_start e b {r} p =
-        let q = err_from_is_err_and r p in
-        let f = start_refused s a (sym (ap (λ (x : StartResult). x.answer) b)) in
-        refuses (rw q.2 at q.1) (λ allowance. simp (refusal_is z, f.0, f.1))
+    begins_start e b p = refuses (whole e) p (λ allowance. play_start sheet main a s m allowance z refl b refl)
 
     module _ {t : State} (b : started_by s (Ok t) ≡ start_of s 1 a false) where
-      accepted : play_refusal main m s a ≡ 0
-      unfolding if
-      accepted = let f = start_passed s a (sym (ap (λ (x : StartResult). x.answer) b)) in simp (refusal_is z, f)
-
       pub begins_build : {after : List ℕ} (e : SheetError) → left (build_answer (Err e)) after ≡ built_at sheet main a
           → {r : Result State SheetError}
           → IsErrAnd r (λ x. x ≡ e)
           → Begins r sheet main after a s m
-      unfolding play_of built_at if
-      begins_build {after} e y {r} p =
-          let q = err_from_is_err_and r p in
-          let f : (build_of sheet (drop a main)).answer ≡ BuildRefused _ _ = sym (ap (λ (o : Left). o.answer) y) in
-          let o : after ≡ main = ap (λ (o : Left). o.output) y ∙ rw (build_keeps sheet (drop a main) f) (take-append-drop a main) in
-          refuses (rw q.2 at q.1) (λ allowance. simp (accepted, f, o))
+      begins_build e y p = refuses e p (λ allowance. play_build sheet main a s m allowance z refl b refl y refl)
 
       pub begins_run : {after : List ℕ} {size : ℕ} → left (build_answer (Ok size)) after ≡ built_at sheet main a → Begins (Ok t) sheet main after a s m
-      unfolding play_of built_at if
-      begins_run {after} {size} y =
-          let f : (build_of sheet (drop a main)).answer ≡ Built size = sym (ap (λ (o : Left). o.answer) y) in
-          let o : after ≡ take a main ++ (build_of sheet (drop a main)).output = ap (λ (o : Left). o.output) y in
+      begins_run y =
           record {
             refused = λ e p allowance. absurd (let z : ◌≡◌ {A = ℕ} 0 1 = cc in omega arith);
-            begun = λ x p allowance. (let e : x ≡ t = cc in simp (accepted, f, ← o, ← b, e));
+            begun = λ x p allowance. (let e : x ≡ t = cc in rw e (built_runs sheet main a s m allowance z refl b refl y refl));
           }
 
 -- ---- the run

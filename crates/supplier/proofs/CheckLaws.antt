@@ -8,13 +8,13 @@ use mathlib.Core.Logic.{◌⊎◌, inl, inr}
 use mathlib.Core.List.{List}
 use Prim.Native.Nat.{ℕ, ◌<◌, ◌≤◌}
 use native.Mathlib.Omega.{arith}
-use borrow.Author.Tests.{lt-ltb, le-ltb}
+use borrow.Author.Tests.{lt-ltb, le-ltb, ne_eqb}
 use lib.ListN.{length}
 use lib.Dec.{ltb}
 use Rattle.fields.specs.declared.refusals.Refusal.{Refusal}
 use Rattle.fields.specs.Fields.{if}
 use Rattle.fields.specs.Refusals.{refusal_number}
-use Rattle.fields.proofs.RefusalLaws.{refusal_not_none}
+use Rattle.fields.proofs.RefusalLaws.{refusal_small}
 use Rattle.gif.specs.Log.{entries_in}
 use Rattle.memories.specs.declared.VifUnit.{VifUnit}
 use Rattle.memories.specs.declared.VifUnit.TheVariants.{Vif0, Vif1}
@@ -29,14 +29,14 @@ use Rattle.chain.specs.Run.{left_by, run_of}
 use Rattle.sheet.specs.declared.Front.{Front}
 use Rattle.sheet.specs.declared.SheetError.{SheetError}
 use Rattle.sheet.specs.MatchAnswer.{MatchAnswer, Matched, match_answer}
-use Rattle.sheet.specs.StepsAnswer.{steps_answer}
+use Rattle.sheet.specs.StepsAnswer.{StepsAnswer, Steps, Refused as StepsRefused, steps_answer}
 use Rattle.sheet.specs.Records.{Record}
 use Rattle.sheet.specs.Reader.{Contents, valid, refused}
 use Rattle.sheet.specs.Editions.{contents_of}
 use Rattle.sheet.specs.Results.{steps_in, steps_of_sheet}
 use Rattle.sheet.specs.Meaning.{Plain}
 use Rattle.sheet.specs.Match.{Left, left, left_beside, match_of_sheet}
-use Rattle.conformance.specs.Demand.{records_of}
+use Rattle.conformance.specs.Demand.{records_in, records_of}
 use Rattle.compare.specs.declared.Comparison.{Comparison}
 use Rattle.compare.specs.CompareAnswer.{Compared, compare_answer}
 use Rattle.compare.specs.Elements.{first_differing, found_in}
@@ -163,42 +163,67 @@ module _ {sheet main : List ℕ} {m : Lent} {words bytes : List ℕ} (w : Runs s
       let q = ap (λ (x : Judgement). x.answer) j ∙ judged_answer (run_answer r.answer) m' r.state.used words bytes (records_of sheet) in
       rw (← ran_is, ← same_words, ← same_bytes, q)
 
+-- ---- refusals
+
+-- the entry refusals come first
+pub check_entry : (sheet main : List ℕ) (m : Lent) (allowance : ℕ) {n : ℕ} {s : State} → s ≡ begun → n ≡ entry_refusal main m s → (n ≡ 0 → ⊥)
+    → check_refused n 0 m ≡ check_of sheet main m allowance
+unfolding check_of if
+check_entry sheet main m allowance {n} b e z = let q : n ≡ entry_refusal main m begun = e ∙ rw b in rw (← q, ne_eqb n 0 z)
+
+steps_refused : (c : Contents) {a : StepsAnswer} {n offset : ℕ} → a ≡ steps_in c → a ≡ StepsRefused n offset → c ≡ refused n offset
+steps_refused (valid rs) e q = absurd (let z : ◌≡◌ {A = ℕ} 0 1 = cc in omega arith)
+steps_refused (refused n offset) e q = cc
+
+steps_valid : (c : Contents) {a : StepsAnswer} {n : ℕ} → a ≡ steps_in c → a ≡ Steps n → c ≡ valid (records_in c)
+steps_valid (valid rs) e q = refl
+steps_valid (refused n offset) e q = absurd (let z : ◌≡◌ {A = ℕ} 0 1 = cc in omega arith)
+
+module _ (sheet main : List ℕ) (m : Lent) {n : ℕ} {s : State} (b : s ≡ begun) (e : n ≡ entry_refusal main m s) (z : n ≡ 0) {a : StepsAnswer} (g : a ≡ steps_of_sheet sheet) where
+  entry_passed : entry_refusal main m begun ≡ 0
+  entry_passed = rw (← b) (sym e ∙ z)
+
+  pub check_runs : {k : ℕ} → a ≡ Steps k → Runs sheet main m
+  unfolding records_of
+  check_runs q = record { accepted = steps_valid (contents_of sheet) g q; entered = entry_passed }
+
+-- then the sheet's
+pub check_sheet_lem : (sheet main : List ℕ) (m : Lent) (allowance : ℕ) {n : ℕ} {s : State} → s ≡ begun → n ≡ entry_refusal main m s → n ≡ 0 → {a : StepsAnswer}
+    → a ≡ steps_of_sheet sheet
+    → {k offset : ℕ}
+    → a ≡ StepsRefused k offset
+    → check_refused k offset m ≡ check_of sheet main m allowance
+unfolding check_of if
+check_sheet_lem sheet main m allowance b e z g q = rw (entry_passed sheet main m b e z g, steps_refused (contents_of sheet) g q)
+
 -- ---- what is tested before the run
 
 -- a refusal is the whole answer
-refuses : {sheet main : List ℕ} {m : Lent} {r : Result ℕ SheetError} {e : SheetError} → r ≡ Err e
+refuses : {sheet main : List ℕ} {m : Lent} {r : Result ℕ SheetError} (e : SheetError) → r ≡ Err e
     → ((allowance : ℕ) → check_refused (refusal_number e.refusal) e.offset m ≡ check_of sheet main m allowance)
     → Tested r sheet main m
-refuses {e = e} q h =
+refuses e q h =
     record {
       refused = λ x p allowance. (let z : x ≡ e = cc in rw z (h allowance));
       passed = λ n p. absurd (let z : ◌≡◌ {A = ℕ} 0 1 = cc in omega arith);
     }
 
--- the entry refusals come first
 pub tested_entry : (sheet main : List ℕ) (m : Lent) (e : Refusal) → refusal_number e ≡ entry_refusal main m begun → {r : Result ℕ SheetError}
     → IsErrAnd r (λ x. x ≡ record { refusal = e; offset = 0 })
     → Tested r sheet main m
-unfolding check_of if
 tested_entry sheet main m e q {r} p =
     let x = err_from_is_err_and r p in
-    refuses (rw x.2 at x.1) (λ allowance. rw (← q, refusal_not_none e))
-
--- then the sheet's
-tested_contents : (sheet main : List ℕ) (m : Lent) → entry_refusal main m begun ≡ 0 → (c : Contents) → contents_of sheet ≡ c → (r : Result ℕ SheetError)
-    → steps_answer r ≡ steps_in c
-    → Tested r sheet main m
-unfolding check_of records_of if
-tested_contents sheet main m z (valid rs) k (Ok n) q =
-    record { refused = λ e p allowance. absurd (let z : ◌≡◌ {A = ℕ} 0 1 = cc in omega arith); passed = λ n p. record { accepted = rw k; entered = z } }
-tested_contents sheet main m z (refused n offset) k (Ok i) q = absurd (let z : ◌≡◌ {A = ℕ} 0 1 = cc in omega arith)
-tested_contents sheet main m z (valid rs) k (Err e) q = absurd (let z : ◌≡◌ {A = ℕ} 0 1 = cc in omega arith)
-tested_contents sheet main m z (refused n offset) k (Err e) q =
-    refuses refl (λ allowance. (let a : refusal_number e.refusal ≡ n = cc in let b : e.offset ≡ offset = cc in rw (z, k, a, b)))
+    let h = refusal_small e in
+    refuses (record { refusal = e; offset = 0 }) (rw x.2 at x.1) (λ allowance. check_entry sheet main m allowance refl q (λ k. omega arith))
 
 pub tested_sheet : (sheet main : List ℕ) (m : Lent) → 0 ≡ entry_refusal main m begun → (r : Result ℕ SheetError) → steps_answer r ≡ steps_of_sheet sheet
     → Tested r sheet main m
-tested_sheet sheet main m z r q = tested_contents sheet main m (sym z) (contents_of sheet) refl r q
+tested_sheet sheet main m z (Ok n) q =
+    record {
+      refused = λ e p allowance. absurd (let z : ◌≡◌ {A = ℕ} 0 1 = cc in omega arith);
+      passed = λ n p. check_runs sheet main m refl z refl q refl;
+    }
+tested_sheet sheet main m z (Err e) q = refuses e refl (λ allowance. check_sheet_lem sheet main m allowance refl z refl q refl)
 
 -- what runs is checked by the run
 pub check_ran_lem : {sheet main : List ℕ} {m : Lent} → Runs sheet main m → (allowance : ℕ) → {x : Checked}
