@@ -1,6 +1,5 @@
 // What a tag's refusal shows.
 ghost use Rattle.std.specs.Prelude.{◌≡◌};
-ghost use Rattle.fields.specs.Refusals.{refusal_number};
 ghost use Rattle.gif_reason.specs.Reason.{numbers};
 ghost use Rattle.chain_reason.specs.Reason.{stack_depth, most_fits, tag_numbers};
 
@@ -33,20 +32,25 @@ fn most_fits(size: usize, start: u64) -> u64
     (size as u64).saturating_sub(start) / 16
 }
 
-// What the refusal of the tag at TADR shows.
-pub fn tag_numbers(refusal: Refusal, main: &[u8], s: State) -> Numbers
-    ensures { result ≡ tag_numbers (refusal_number refusal) main.now s }
+// What the refusal of the tag at TADR shows, by its number, which may be any.
+pub fn tag_numbers(refusal: u32, main: &[u8], s: State) -> Numbers
+    ensures { result ≡ tag_numbers refusal main.now s }
 {
     let tag = Tag::new(long_at(main, s.tadr));
-    match refusal {
-        Refusal::TadrOutside => one(u64::from(s.tadr)),
-        Refusal::AddrUnaligned => one(u64::from(tag.addr)),
-        Refusal::ScratchpadSet => one(u64::from(tag.spr)),
-        Refusal::StackFull => one(stack_depth(s.stack)),
-        Refusal::PayloadOutside => Numbers {
+    if refusal == Refusal::TadrOutside.number() {
+        one(u64::from(s.tadr))
+    } else if refusal == Refusal::AddrUnaligned.number() {
+        one(u64::from(tag.addr))
+    } else if refusal == Refusal::ScratchpadSet.number() {
+        one(u64::from(tag.spr))
+    } else if refusal == Refusal::StackFull.number() {
+        one(stack_depth(s.stack))
+    } else if refusal == Refusal::PayloadOutside.number() {
+        Numbers {
             first: u64::from(tag.qwc),
             second: most_fits(main.len(), tag.payload_at(s.tadr)),
-        },
-        _ => one(0),
+        }
+    } else {
+        one(0)
     }
 }

@@ -27,7 +27,7 @@ impl Refused<'_> {
     {
         let s = self.state;
         word_numbers(
-            self.fault.refusal,
+            self.fault.refusal.number(),
             s.held_by(unit_of(s.channel)),
             s.path2,
             incoming_at(self.main, a),
@@ -45,7 +45,7 @@ impl Refused<'_> {
         let s = self.state;
         if s.channel == 2 {
             quadword_numbers(
-                self.fault.refusal,
+                self.fault.refusal.number(),
                 s.path3,
                 self.fault.needed,
                 self.log,
@@ -62,10 +62,10 @@ impl Refused<'_> {
             ≡ payload_or_tag_numbers payload (refusal_number self.entry.fault.refusal) self.entry.fault.needed self.entry.main.now self.entry.state self.entry.log.now }
     {
         match payload {
-            Payload::Nothing => tag_numbers(self.fault.refusal, self.main, self.state),
+            Payload::Nothing => tag_numbers(self.fault.refusal.number(), self.main, self.state),
             Payload::Words { at, count } => {
                 if count == 0 {
-                    tag_numbers(self.fault.refusal, self.main, self.state)
+                    tag_numbers(self.fault.refusal.number(), self.main, self.state)
                 } else {
                     self.payload_numbers(at)
                 }

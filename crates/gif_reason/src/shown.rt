@@ -1,6 +1,5 @@
 // What a quadword's refusal shows.
 ghost use Rattle.std.specs.Prelude.{◌≡◌};
-ghost use Rattle.fields.specs.Refusals.{refusal_number};
 ghost use Rattle.gif_reason.specs.Reason.{free_entries, quadword_numbers};
 
 use super::Numbers;
@@ -14,28 +13,24 @@ pub fn free_entries(log: &[u64], used: u64) -> u64
     (log.len() as u64 / ENTRY_SIZE).saturating_sub(used)
 }
 
-// What a refusal of a quadword shows; `needed` is the number of entries that its step needs.
-pub fn quadword_numbers(
-    refusal: Refusal,
-    path: Path,
-    needed: u64,
-    log: &[u64],
-    used: u64,
-) -> Numbers
-    ensures { result ≡ quadword_numbers (refusal_number refusal) path needed used log.now }
+// What a refusal of a quadword shows, by its number, which may be any; `needed` is the number of entries that its step needs.
+pub fn quadword_numbers(refusal: u32, path: Path, needed: u64, log: &[u64], used: u64) -> Numbers
+    ensures { result ≡ quadword_numbers refusal path needed used log.now }
 {
-    match refusal {
-        Refusal::DescriptorB => Numbers {
+    if refusal == Refusal::DescriptorB.number() {
+        Numbers {
             first: met_descriptor(path),
             second: 0,
-        },
-        Refusal::LogFull => Numbers {
+        }
+    } else if refusal == Refusal::LogFull.number() {
+        Numbers {
             first: free_entries(log, used),
             second: needed,
-        },
-        _ => Numbers {
+        }
+    } else {
+        Numbers {
             first: 0,
             second: 0,
-        },
+        }
     }
 }

@@ -2,7 +2,6 @@
 #![tactic(auto)]
 
 ghost use Rattle.std.specs.Prelude.{◌≡◌};
-ghost use Rattle.fields.specs.Refusals.{refusal_number};
 ghost use Rattle.gif_reason.specs.Reason.{numbers};
 ghost use Rattle.vif_reason.specs.Reason.{word_number, code_numbers, direct_numbers, word_numbers};
 
@@ -32,40 +31,39 @@ fn word_number(next: Incoming) -> u64
 }
 
 // Of a code's own step.
-fn code_numbers(
-    refusal: Refusal,
-    word: u32,
-    unit: Vif,
-    needed: u64,
-    log: &[u64],
-    used: u64,
-) -> Numbers
-    ensures { result ≡ code_numbers (refusal_number refusal) word unit needed used log.now }
+fn code_numbers(refusal: u32, word: u32, unit: Vif, needed: u64, log: &[u64], used: u64) -> Numbers
+    ensures { result ≡ code_numbers refusal word unit needed used log.now }
 {
-    match refusal {
-        Refusal::CmdUnlisted => one((word / 0x0100_0000 % 128) as u64),
-        Refusal::FormatMissing => one((word / 0x0100_0000 % 128 / 4 % 4) as u64),
-        Refusal::CycleWrong => one(unit.wl as u64),
-        Refusal::ModeWrong => one((word % 4) as u64),
-        Refusal::TopsMissing => one((word / 32768 % 2) as u64),
-        Refusal::LogFull => Numbers {
+    if refusal == Refusal::CmdUnlisted.number() {
+        one((word / 0x0100_0000 % 128) as u64)
+    } else if refusal == Refusal::FormatMissing.number() {
+        one((word / 0x0100_0000 % 128 / 4 % 4) as u64)
+    } else if refusal == Refusal::CycleWrong.number() {
+        one(unit.wl as u64)
+    } else if refusal == Refusal::ModeWrong.number() {
+        one((word % 4) as u64)
+    } else if refusal == Refusal::TopsMissing.number() {
+        one((word / 32768 % 2) as u64)
+    } else if refusal == Refusal::LogFull.number() {
+        Numbers {
             first: free_entries(log, used),
             second: needed,
-        },
-        _ => one(0),
+        }
+    } else {
+        one(0)
     }
 }
 
 // Of a word that comes while DIRECT or DIRECTHL waits.
 fn direct_numbers(
-    refusal: Refusal,
+    refusal: u32,
     next: Incoming,
     path2: Path,
     needed: u64,
     log: &[u64],
     used: u64,
 ) -> Numbers
-    ensures { result ≡ direct_numbers (refusal_number refusal) next path2 needed used log.now }
+    ensures { result ≡ direct_numbers refusal next path2 needed used log.now }
 {
     match next {
         Incoming::Word0(..) => quadword_numbers(refusal, path2, needed, log, used),
@@ -73,10 +71,10 @@ fn direct_numbers(
     }
 }
 
-// What a refusal of the next word shows; `needed` is the number of entries that its step needs.
+// What a refusal of the next word shows, by its number, which may be any; `needed` is the number of entries that its step needs.
 #[tactic(auto, unfolding(crate::specs::Reason::word_numbers))]
 pub fn word_numbers(
-    refusal: Refusal,
+    refusal: u32,
     unit: Vif,
     path2: Path,
     next: Incoming,
@@ -84,7 +82,7 @@ pub fn word_numbers(
     log: &[u64],
     used: u64,
 ) -> Numbers
-    ensures { result ≡ word_numbers (refusal_number refusal) unit path2 next needed used log.now }
+    ensures { result ≡ word_numbers refusal unit path2 next needed used log.now }
 {
     match unit.waiting {
         Waiting::Nothing => code_numbers(refusal, next.word(), unit, needed, log, used),

@@ -1,45 +1,32 @@
-use native.Mathlib.Nat.{div-one}
+use Rattle.std.proofs.Common.{rules}
 use Rattle.fields.specs.Fields.{if, bits}
-use Rattle.fields.specs.declared.refusals.Refusal.TheVariants.{CmdUnlisted, FormatMissing, CycleWrong, ModeWrong, TopsMissing, LogFull}
-use Rattle.fields.proofs.RefusalLaws.{refusal_other}
 use Rattle.vif_reason.specs.Reason.{code_numbers}
 use Rattle.vif_reason.proofs.code_numbers.Goals as goal
 
-pub returns-in-CmdUnlisted : goal.returns-in-CmdUnlisted
+pub returns-then-refusal-number : goal.returns-then-refusal-number
 unfolding code_numbers bits if
-returns-in-CmdUnlisted c = simp c.in-CmdUnlisted.is c.one.ensures
+returns-then-refusal-number c = search rules
 
-pub returns-in-FormatMissing : goal.returns-in-FormatMissing
+pub returns-then-refusal-number-2 : goal.returns-then-refusal-number-2
 unfolding code_numbers bits if
-returns-in-FormatMissing c = simp c.in-FormatMissing.is c.one-in-FormatMissing.ensures
+returns-then-refusal-number-2 c = search rules
 
-pub returns-in-CycleWrong : goal.returns-in-CycleWrong
+pub returns-then-refusal-number-3 : goal.returns-then-refusal-number-3
 unfolding code_numbers bits if
-returns-in-CycleWrong c = simp c.in-CycleWrong.is c.one-in-CycleWrong.ensures
+returns-then-refusal-number-3 c = search rules
 
-pub returns-in-ModeWrong : goal.returns-in-ModeWrong
+pub returns-then-refusal-number-4 : goal.returns-then-refusal-number-4
 unfolding code_numbers bits if
-returns-in-ModeWrong c = simp (c.in-ModeWrong.is, div-one) c.one-in-ModeWrong.ensures
+returns-then-refusal-number-4 c = search rules
 
-pub returns-in-TopsMissing : goal.returns-in-TopsMissing
+pub returns-then-refusal-number-5 : goal.returns-then-refusal-number-5
 unfolding code_numbers bits if
-returns-in-TopsMissing c = simp c.in-TopsMissing.is c.one-in-TopsMissing.ensures
+returns-then-refusal-number-5 c = search rules
 
-pub returns-in-LogFull : goal.returns-in-LogFull
+pub returns-then-refusal-number-6 : goal.returns-then-refusal-number-6
 unfolding code_numbers bits if
-returns-in-LogFull c = simp (c.in-LogFull.is, c.free_entries.ensures)
+returns-then-refusal-number-6 c = search rules
 
-pub returns-in_default : goal.returns-in_default
-unfolding code_numbers if
-returns-in_default c =
-    let x = c.args.refusal in
-    let d = c.in_default in
-    rw (
-      refusal_other x CmdUnlisted d.not-CmdUnlisted,
-      refusal_other x FormatMissing d.not-FormatMissing,
-      refusal_other x CycleWrong d.not-CycleWrong,
-      refusal_other x ModeWrong d.not-ModeWrong,
-      refusal_other x TopsMissing d.not-TopsMissing,
-      refusal_other x LogFull d.not-LogFull,
-    )
-    c.one-in_default.ensures
+pub returns-else-refusal-number-6 : goal.returns-else-refusal-number-6
+unfolding code_numbers bits if
+returns-else-refusal-number-6 c = search rules

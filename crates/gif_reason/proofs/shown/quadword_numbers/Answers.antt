@@ -1,17 +1,25 @@
-use Rattle.fields.proofs.RefusalLaws.{refusal_other}
-use Rattle.fields.specs.declared.refusals.Refusal.TheVariants.{DescriptorB, LogFull}
+use Rattle.std.proofs.Common.{◌∙◌, sym, eq-eqb, ne_eqb}
 use Rattle.fields.specs.Fields.{if}
 use Rattle.gif_reason.specs.Reason.{quadword_numbers}
 use Rattle.gif_reason.proofs.shown.quadword_numbers.Goals as goal
 
-pub returns-in-DescriptorB : goal.returns-in-DescriptorB
+pub returns-then-refusal-number : goal.returns-then-refusal-number
 unfolding quadword_numbers if
-returns-in-DescriptorB c = rw (c.in-DescriptorB.is, c.met_descriptor.ensures)
+returns-then-refusal-number c = rw (eq-eqb _ _ (c.if-refusal-number.true ∙ c.number.ensures), c.met_descriptor.ensures)
 
-pub returns-in-LogFull : goal.returns-in-LogFull
+pub returns-then-refusal-number-2 : goal.returns-then-refusal-number-2
 unfolding quadword_numbers if
-returns-in-LogFull c = rw (c.in-LogFull.is, c.free_entries.ensures)
+returns-then-refusal-number-2 c =
+    rw (
+      ne_eqb _ _ (λ q. c.if-refusal-number.false (q ∙ sym c.number.ensures)),
+      eq-eqb _ _ (c.if-refusal-number-2.true ∙ c.number-else-refusal-number.ensures),
+      c.free_entries.ensures,
+    )
 
-pub returns-in_default : goal.returns-in_default
+pub returns-else-refusal-number-2 : goal.returns-else-refusal-number-2
 unfolding quadword_numbers if
-returns-in_default c = rw (refusal_other c.args.refusal DescriptorB c.in_default.not-DescriptorB, refusal_other c.args.refusal LogFull c.in_default.not-LogFull)
+returns-else-refusal-number-2 c =
+    rw (
+      ne_eqb _ _ (λ q. c.if-refusal-number.false (q ∙ sym c.number.ensures)),
+      ne_eqb _ _ (λ q. c.if-refusal-number-2.false (q ∙ sym c.number-else-refusal-number.ensures)),
+    )

@@ -5,7 +5,7 @@ use Rattle.diagnosis.proofs.shown.Refused.payload_numbers.Goals as goal
 
 pub returns-then-s-eq2 : goal.returns-then-s-eq2
 unfolding payload_numbers if
-returns-then-s-eq2 c = rw (eq-eqb _ _ c.if-s-eq2.true) c.quadword_numbers.ensures
+returns-then-s-eq2 c = rw (eq-eqb _ _ c.if-s-eq2.true, ← c.number.ensures) c.quadword_numbers.ensures
 
 pub returns-else-s-eq2 : goal.returns-else-s-eq2
 unfolding payload_numbers if
