@@ -42,9 +42,3 @@ log_fits log used h =
       short = ltb-false _ _ (or_left _ _ h');
       holds = ltb-false _ _ (or_right (ltb log_most (length log)) _ h');
     }
-
--- the last test of a tag's range, where the others passed
-pub range_last : (t : HeldTag) {q : ℕ} → 1 ≤ t.nloop → t.nloop ≤ 32767 → 1 ≤ t.nreg → t.nreg ≤ 16 → 1 ≤ t.due
-    → q ≡ quadwords_of t.format t.nloop t.nreg → leb t.due q ≡ tag_in_range t
-unfolding tag_in_range
-range_last t a b c d f e = rw e (simp (le-leb _ _ a, le-leb _ _ b, le-leb _ _ c, le-leb _ _ d, le-leb _ _ f))

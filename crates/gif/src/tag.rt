@@ -1,6 +1,6 @@
 // The tag's fields, and what a path holds of a tag.
 ghost use Rattle.std.specs.Prelude.{◌≡◌, ◌+◌, ◌*◌, ◌/◌, ◌%◌, ◌^◌, ◌<◌, ◌≤◌};
-ghost use Rattle.gif.specs.Range.{TagFits, tag_in_range};
+ghost use Rattle.gif.specs.Range.{TagFits, within, tag_in_range};
 ghost use Rattle.gif.specs.Tag.{format_of, nreg_of, quadwords_of, tag_of, taken_of, descriptor_at, place_after, place_at_tag, tag_closes, data_closes, tag_writes};
 ghost use Rattle.gif.specs.Inner.{listed, quadword_of, place_after_many, many_close};
 
@@ -52,29 +52,20 @@ fn tag_of(quad: Quadword) -> HeldTag
     }
 }
 
+fn within(least: u32, most: u32, n: u32) -> bool
+    ensures { result ≡ within least most n }
+{
+    (least..=most).contains(&n)
+}
+
 impl HeldTag {
-    // Whether it is in its range, one test after another: of `1..=most` that contains `due` the compiler makes one test of `due - 1`, and quadwords given one by
-    // one take up to twice as long.
+    // Whether it is in its range.
     pub(crate) fn in_range(self) -> bool
         ensures { result ≡ tag_in_range self }
     {
-        let tag = self;
-        if tag.nloop < 1 {
-            return false;
-        }
-        if 32767 < tag.nloop {
-            return false;
-        }
-        if tag.nreg < 1 {
-            return false;
-        }
-        if 16 < tag.nreg {
-            return false;
-        }
-        if tag.due < 1 {
-            return false;
-        }
-        tag.due <= tag.format.quadwords(tag.nloop, tag.nreg)
+        within(1, 32767, self.nloop)
+            && within(1, 16, self.nreg)
+            && within(1, self.format.quadwords(self.nloop, self.nreg), self.due)
     }
 
     // How many of its quadwords were taken.
