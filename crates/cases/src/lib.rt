@@ -16,7 +16,7 @@ pub use filling::fill;
 pub use input::{read_part, read_words, words_at};
 pub use memories::Memories;
 pub use number::{Number, Shown};
-pub use run::{Case, Damaged, run_cases};
+pub use run::{Case, Damaged, Headers, StandardInput, run_cases};
 pub use sums::sum;
 pub use whole::emit_bytes;
 

@@ -2,7 +2,7 @@
 #![tactic(auto)]
 
 use blocks::emit_counts;
-use cases::{Case, Damaged, LOG_NUMBERS, Memories, read_part, run_cases};
+use cases::{Case, Damaged, LOG_NUMBERS, Memories, StandardInput, read_part, run_cases};
 use supplier::{CheckResult, check_chain, kind, number, offset};
 use wire::{Output, long_at, low_word, word_at};
 
@@ -90,5 +90,5 @@ fn main() {
         main: &mut main,
         memories,
     };
-    run_cases(&mut [0; 44], &mut buffers);
+    run_cases(&mut StandardInput, &mut [0; 44], &mut buffers);
 }

@@ -1,7 +1,9 @@
 // Reads GIF cases from standard input and writes what each quadword leaves (docs/FORMATS.md, "GIF cases").
 #![tactic(auto)]
 
-use cases::{Case, Damaged, LOG_NUMBERS, fill, read_part, run_cases, tell, words_at};
+use cases::{
+    Case, Damaged, LOG_NUMBERS, StandardInput, fill, read_part, run_cases, tell, words_at,
+};
 use fields::Refusal;
 use gif::{GifPath, Path};
 use state_block::{PATH_WORDS, path_block, path_given, path_in_block};
@@ -115,5 +117,5 @@ fn main() {
         log: &mut log,
         before: &mut before,
     };
-    run_cases(&mut [0; 68], &mut logs);
+    run_cases(&mut StandardInput, &mut [0; 68], &mut logs);
 }

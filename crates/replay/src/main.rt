@@ -8,7 +8,7 @@ mod sums;
 mod why;
 
 use boards::Board;
-use cases::{Case, Damaged, LOG_NUMBERS, run_cases};
+use cases::{Case, Damaged, LOG_NUMBERS, StandardInput, run_cases};
 use input::{header_right, read_calls, read_main};
 use run::Running;
 use wire::Output;
@@ -99,5 +99,5 @@ fn main() {
         now,
         before,
     };
-    run_cases(&mut [0; 428], &mut buffers);
+    run_cases(&mut StandardInput, &mut [0; 428], &mut buffers);
 }

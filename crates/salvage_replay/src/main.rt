@@ -1,7 +1,7 @@
 // Reads salvage cases from standard input and writes what each leaves (docs/FORMATS.md, "Salvage cases").
 #![tactic(auto)]
 
-use cases::{Case, Damaged, emit_bytes, fill, read_part, run_cases};
+use cases::{Case, Damaged, StandardInput, emit_bytes, fill, read_part, run_cases};
 use salvage::Sums;
 use wire::{Output, long_at, low_word, word_at};
 
@@ -74,5 +74,5 @@ fn main() {
         output: &mut output,
         ranges: &mut ranges,
     };
-    run_cases(&mut [0; 24], &mut buffers);
+    run_cases(&mut StandardInput, &mut [0; 24], &mut buffers);
 }

@@ -4,7 +4,7 @@
 mod parts;
 mod play;
 
-use cases::{Case, Damaged, LOG_NUMBERS, Memories, read_part, run_cases};
+use cases::{Case, Damaged, LOG_NUMBERS, Memories, StandardInput, read_part, run_cases};
 use parts::{tell_build, tell_meaning, tell_steps};
 use play::tell_play;
 use wire::{Output, word_at};
@@ -83,5 +83,5 @@ fn main() {
         main: &mut main,
         memories,
     };
-    run_cases(&mut [0; 428], &mut buffers);
+    run_cases(&mut StandardInput, &mut [0; 428], &mut buffers);
 }

@@ -1,7 +1,7 @@
 // Reads totals cases from standard input and writes what each addition leaves (docs/FORMATS.md, "Totals cases").
 #![tactic(auto)]
 
-use cases::{Case, Damaged, read_part, run_cases};
+use cases::{Case, Damaged, StandardInput, read_part, run_cases};
 use fields::Refusal;
 use totals::{Totals, add_totals, counts_from, nop_share, totals_from};
 use wire::{Output, long_at, word_at};
@@ -83,5 +83,5 @@ fn main() {
     let mut lent = Numbers {
         numbers: &mut numbers,
     };
-    run_cases(&mut [0; 96], &mut lent);
+    run_cases(&mut StandardInput, &mut [0; 96], &mut lent);
 }

@@ -4,7 +4,7 @@
 mod input;
 mod run;
 
-use cases::{Case, Damaged, LOG_NUMBERS, Memories, run_cases};
+use cases::{Case, Damaged, LOG_NUMBERS, Memories, StandardInput, run_cases};
 use input::{header_right, read_input};
 use run::Running;
 use wire::{Output, long_at, word_at};
@@ -86,5 +86,5 @@ fn main() {
         now,
         before,
     };
-    run_cases(&mut [0; 212], &mut buffers);
+    run_cases(&mut StandardInput, &mut [0; 212], &mut buffers);
 }
