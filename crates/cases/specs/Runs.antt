@@ -3,10 +3,11 @@ use Rattle.std.specs.Prelude.{◌+◌, ◌<◌, ◌≤◌, ℕ, List, length, Re
 use Rattle.wire.specs.declared.Output.{Output}
 use Rattle.cases.specs.declared.run.Damaged.{Damaged}
 
--- What is left where cases run one after another from the one with a number on, by what a read of a header may leave (of the source and the buffer before it,
--- how many bytes were read, and both after it), and by what one case may leave (of what is lent and the results before it, its header, its answer, and what is
--- lent and the results after it). Nothing but a read says that the input ended or that a header is not whole, each case goes on where the one before ended, and
--- none follows a damaged one. Cases are numbered below 2^64 - 1.
+-- What is left where cases run one after another, from the case with a given number on: from a source of headers, a header's buffer, what cases run on and the
+-- results so far, to the source, the buffer and what cases run on afterwards. `got` is what a read may leave: of the source and the buffer before it, how many
+-- bytes were read, and both after it. `ran` is what a case may leave: of what it runs on and the results before it, its header, its answer, and both after it.
+-- Each header comes from a read, and each case goes on where the one before ended. The end is a read of nothing or of less than a header, a damaged case, or the
+-- number 2^64 - 1, which no case has.
 pub data Runs {H C : Type 0} (got : H → List ℕ → ℕ → H → List ℕ → Type 0) (ran : C → Output → List ℕ → Result Unit Damaged → C → Output → Type 0) : ℕ → H → List ℕ → C → Output → H → List ℕ → C → Type 0 where
   counted : {h : H} {b : List ℕ} {c : C} {o : Output} → Runs got ran 18446744073709551615 h b c o h b c
   ended : {number : ℕ} {h i : H} {b r : List ℕ} {c : C} {o : Output} → got h b 0 i r → Runs got ran number h b c o i r c
