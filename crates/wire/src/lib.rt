@@ -125,9 +125,15 @@ impl Output {
 pub trait Words: Copy {
     ghost words: { Self → List ℕ };
 
-    // Puts its words into a buffer from a place on; answers the place after them.
+    // Puts its words into a buffer from a place on; answers the place after them. By `emit_to` the buffer is copied twice, so the numbers have bodies of their own.
     fn put_to(self, out: &mut [u8; 65536], at: usize) -> usize
-        ensures { sent out.new result ≡ sent_all out.old at (words self) };
+        ensures { sent out.new result ≡ sent_all out.old at (words self) }
+    {
+        let mut output = Output { out: *out, at };
+        self.emit_to(&mut output);
+        *out = output.out;
+        output.at
+    }
 
     fn emit_to(self, output: &mut Output)
         ensures { output.new ≡ sent_all output.old.out output.old.at (words self) };
@@ -155,5 +161,34 @@ impl Words for u64 {
 
     fn emit_to(self, output: &mut Output) {
         output.at = self.put_to(&mut output.out, output.at);
+    }
+}
+
+#[cfg(test)]
+mod tests {
+    use super::*;
+
+    // A word that is put twice, by the trait's own `put_to`.
+    #[derive(Clone, Copy)]
+    struct Twice(u32);
+
+    impl Words for Twice {
+        ghost words = { λ x. x.0 ∷ x.0 ∷ [] };
+
+        fn emit_to(self, output: &mut Output) {
+            output.emit(self.0);
+            output.emit(self.0);
+        }
+    }
+
+    #[test]
+    fn words_of_another_type(rt: HostRuntime) {
+        let mut output = Output::new();
+        output.emit_all(&[Twice(1), Twice(0x0203)]);
+        assert_eq!(rt; output.at, 16);
+        assert_eq!(rt;
+            &output.out[..16],
+            [1, 0, 0, 0, 1, 0, 0, 0, 3, 2, 0, 0, 3, 2, 0, 0].as_slice()
+        );
     }
 }
