@@ -1,5 +1,5 @@
 -- What is done with the records of an expansion, one after another: any action on a state, once for the chain and the meaning.
--- Of the promises of public functions only those of `first_item` and `act_on` cite it.
+-- Of the promises of public functions only those of `first_item`, `act_on` and `Fitting::act` cite it.
 use Rattle.std.specs.Prelude.{ℕ, ◌+◌, ◌≤◌, ◌≡◌, true, List, [], length, eqb}
 use Rattle.fields.specs.Fields.{if}
 use Rattle.sheet.specs.declared.Kind.{Kind}

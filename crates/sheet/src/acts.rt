@@ -15,22 +15,13 @@ use super::totals::measure;
 use super::{Item, Record, SheetError};
 use fields::Refusal;
 
-// An action on records, with the room that it takes and its test for it.
+// An action on records, with the room that it takes.
 pub trait Act {
-    ghost use Rattle.sheet.specs.declared.sums.Totals.{Totals};
-
     // What it makes of records, in order.
     ghost act: { RecordList → Self → Self };
 
     // There is room for them.
     ghost Room: { RecordList → Self → Type 0 };
-
-    // The number of its refusal of records with such sums, 0 where it takes them.
-    ghost refusal: { Totals → Self → ℕ };
-
-    // Tests the sums of records before it takes any.
-    fn test(&self, sums: Totals) -> Result<(), Refusal>
-        ensures { refusal_in result ≡ refusal sums self.now };
 
     // Does it with a record whose body stands at a place of the sheet.
     fn take(&mut self, sheet: &[u8], body: usize, found: Record)
@@ -47,9 +38,21 @@ pub trait Act {
     ghost before: { (rs ss : RecordList) (s : Self) → Room (rs ++ ss) s → Room rs s };
 
     ghost behind: { (rs ss : RecordList) (s : Self) → Room (rs ++ ss) s → Room ss (act rs s) };
+}
+
+// An action with its test for the room.
+pub trait TestedAct: Act {
+    ghost use Rattle.sheet.specs.declared.sums.Totals.{Totals};
+
+    // The number of its refusal of records with such sums, 0 where it takes them.
+    ghost refusal: { Totals → Self → ℕ };
+
+    // Tests the sums of records before it takes any.
+    fn test(&self, sums: Totals) -> Result<(), Refusal>
+        ensures { refusal_in result ≡ refusal sums self.now };
 
     // Where the sums of a sheet's records pass the test there is room for these.
-    ghost fits: { (rs : RecordList) (s : Self) → AllMeet rs → refusal (sheet_totals rs) s ≡ 0 → Room rs s };
+    ghost fits: { (rs : RecordList) (s : Self) → AllMeet rs → refusal (sheet_totals rs) s ≡ 0 → Self.Room rs s };
 }
 
 // The item at a place, which is accepted; answers the place after it.
@@ -104,7 +107,7 @@ fn act_members<A: Act>(sheet: &[u8], depth: u32, at: usize, members: u32, actor:
 }
 
 // Does it with all records of an accepted sheet.
-fn act_sheet<A: Act>(sheet: &[u8], actor: &mut A)
+pub(crate) fn act_sheet<A: Act>(sheet: &[u8], actor: &mut A)
     requires { SheetFits A.Room sheet.now (first_item sheet.now) actor.old }
     ensures { actor.new ≡ A.act (records_in (expansion_from sheet.now (first_item sheet.now))) actor.old }
 {
@@ -115,7 +118,7 @@ fn act_sheet<A: Act>(sheet: &[u8], actor: &mut A)
 }
 
 // Does it with all records of a sheet, and answers their sums. A sheet that is refused and sums that the actor refuses leave it as it is.
-pub fn act_on<A: Act>(sheet: &[u8], actor: &mut A) -> Result<Totals, SheetError>
+pub fn act_on<A: TestedAct>(sheet: &[u8], actor: &mut A) -> Result<Totals, SheetError>
     ensures { acted (measured result) actor.new
         ≡ acted_on A.act A.refusal (contents_of sheet.now) actor.old }
 {

@@ -3,6 +3,7 @@
 #![tactic(auto)]
 
 mod acts;
+mod fitting;
 mod heads;
 mod items;
 mod reader;
@@ -11,8 +12,9 @@ mod totals;
 
 ghost use Rattle.std.specs.Prelude.{◌≡◌};
 
-pub use acts::{Act, act_on};
+pub use acts::{Act, TestedAct, act_on};
 use fields::Refusal;
+pub use fitting::Fitting;
 pub use heads::{first_item, read_header};
 pub use reader::{body_length, read_record};
 pub use sums::Totals;

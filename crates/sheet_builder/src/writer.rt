@@ -10,7 +10,7 @@ ghost use Rattle.sheet_builder.specs.WriteLaws.{write_nothing, write_on, write_b
 ghost use Rattle.sheet_builder.specs.Writing.{RecordRoom, out, with_out, write, WriteRoom, write_refusal};
 
 use fields::Refusal;
-use sheet::{Act, Kind, Record, SheetError, Totals, act_on, body_length};
+use sheet::{Act, Kind, Record, SheetError, TestedAct, Totals, act_on, body_length};
 
 // Writes words; answers the place after them.
 fn put_words(words: &[u32], output: &mut [u8], at: usize) -> usize
@@ -125,17 +125,6 @@ impl Act for Writer<'_> {
 
     ghost Room = { λ rs w. WriteRoom rs (out w.output.now w.to) };
 
-    ghost refusal = { λ t w. write_refusal t (out w.output.now w.to) };
-
-    // 47 where the chain is longer than what is left of the output.
-    fn test(&self, sums: Totals) -> Result<(), Refusal> {
-        let room = (self.output.len().saturating_sub(self.to) / 16) as u64;
-        if room < sums.quadwords {
-            return Err(Refusal::OutputShort);
-        }
-        Ok(())
-    }
-
     fn take(&mut self, sheet: &[u8], body: usize, found: Record) {
         self.to = put_record(sheet, body, found, self.output, self.to);
     }
@@ -147,6 +136,19 @@ impl Act for Writer<'_> {
     ghost before = { λ rs ss w h. write_before rs ss _ h };
 
     ghost behind = { λ rs ss w h. write_behind rs ss _ h };
+}
+
+impl TestedAct for Writer<'_> {
+    ghost refusal = { λ t w. write_refusal t (out w.output.now w.to) };
+
+    // 47 where the chain is longer than what is left of the output.
+    fn test(&self, sums: Totals) -> Result<(), Refusal> {
+        let room = (self.output.len().saturating_sub(self.to) / 16) as u64;
+        if room < sums.quadwords {
+            return Err(Refusal::OutputShort);
+        }
+        Ok(())
+    }
 
     ghost fits = { λ rs w m h. write_fits rs _ m h };
 }
@@ -170,5 +172,46 @@ pub fn build_number(sheet: &[u8], output: &mut [u8]) -> usize
     match build(sheet, output) {
         Ok(n) => n,
         Err(e) => e.refusal.number() as usize,
+    }
+}
+
+#[cfg(test)]
+mod tests {
+    use super::*;
+    use sheet::{Fitting, measure};
+    use std::test::Fail;
+
+    // A start at 5 and a vector for 3: a sheet and an output that fit give the chain that document 01 lays out, but for its end tag.
+    #[test]
+    fn chain_of_a_sheet_that_fits(rt: HostRuntime) -> Result<(), Fail> {
+        let sheet = [
+            0x9e, 0x51, 4, 0, 5, 0, 0x9e, 0x51, 1, 1, 3, 0, 7, 0, 0, 0, 0, 0, 0, 0, 0, 0, 0, 0, 0,
+            0, 0, 9,
+        ];
+        let sums = measure(&sheet)?;
+        let mut chain = [0xff; 256];
+        let mut writer = Writer {
+            output: &mut chain,
+            to: 0,
+        };
+        writer.test(sums)?;
+        let to = Fitting {
+            sheet: &sheet,
+            actor: &mut writer,
+        }
+        .act()
+        .to;
+        let quadwords = [
+            [0x1000_0001u32, 0, 0, 0],
+            [0, 0, 0, 0x1400_0005],
+            [0x1000_0002, 0, 0, 0],
+            [0, 0x0100_0101, 0x0500_0000, 0x6c01_0003],
+            [7, 0, 0, 0x0900_0000],
+        ];
+        assert_eq!(rt; to, 80);
+        for (bytes, word) in chain.chunks_exact(4).zip(quadwords.as_flattened()) {
+            assert_eq!(rt; bytes, word.to_le_bytes().as_slice());
+        }
+        Ok(())
     }
 }

@@ -12,7 +12,7 @@ use super::plain::{entry_at, put_instructions, put_vectors, start_entry};
 use fields::Refusal;
 use gif::Entry;
 use memories::VifUnit;
-use sheet::{Act, Kind, Record, SheetError, Totals, act_on};
+use sheet::{Act, Kind, Record, SheetError, TestedAct, Totals, act_on};
 
 // How many entries at the front are the same, and whether all so far were. The number counts in both cases, so the two stand beside each other.
 #[derive(Clone, Copy)]
@@ -90,19 +90,6 @@ impl Act for Matcher<'_> {
 
     ghost Room = { λ rs m. MatchRoom m.log.numbers.now m.log.used rs (matching_in m) };
 
-    ghost refusal = { λ t m. match_refusal m.log.numbers.now m.log.used (matching_in m) };
-
-    // The lengths: the entries are only compared, and need no room.
-    fn test(&self, _sums: Totals) -> Result<(), Refusal> {
-        memories::test_lengths(
-            VifUnit::Vif1,
-            self.data,
-            self.code,
-            self.log.numbers,
-            self.log.used,
-        )
-    }
-
     // A record does to the memories what its row says, and its entries are compared.
     fn take(&mut self, sheet: &[u8], body: usize, found: Record) {
         let n = found.count as usize;
@@ -122,6 +109,21 @@ impl Act for Matcher<'_> {
     ghost before = { λ rs ss m h. match_before _ _ rs ss _ h };
 
     ghost behind = { λ rs ss m h. match_behind _ _ rs ss _ h };
+}
+
+impl TestedAct for Matcher<'_> {
+    ghost refusal = { λ t m. match_refusal m.log.numbers.now m.log.used (matching_in m) };
+
+    // The lengths: the entries are only compared, and need no room.
+    fn test(&self, _sums: Totals) -> Result<(), Refusal> {
+        memories::test_lengths(
+            VifUnit::Vif1,
+            self.data,
+            self.code,
+            self.log.numbers,
+            self.log.used,
+        )
+    }
 
     ghost fits = { λ rs m a h. match_room _ _ rs _ h };
 }

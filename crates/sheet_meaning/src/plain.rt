@@ -16,7 +16,7 @@ ghost use Rattle.sheet_meaning.specs.FeedLaws.{feed_nothing, feed_on, feed_befor
 use fields::Refusal;
 use gif::Entry;
 use memories::VifUnit;
-use sheet::{Act, Kind, Record, SheetError, Totals, act_on};
+use sheet::{Act, Kind, Record, SheetError, TestedAct, Totals, act_on};
 
 const QUADWORDS: usize = memories::VIF1_QUADWORDS as usize;
 
@@ -139,18 +139,6 @@ impl Act for Feeder<'_> {
 
     ghost Room = { λ rs f. RecordsRoom rs (fed_in f) };
 
-    ghost refusal = { λ t f. feed_refusal t (fed_in f) };
-
-    // The lengths, and then 31 where the log has no room for the entries.
-    fn test(&self, sums: Totals) -> Result<(), Refusal> {
-        memories::test_lengths(VifUnit::Vif1, self.data, self.code, self.log, self.used)?;
-        let room = self.log.len() as u64 / gif::ENTRY_SIZE - self.used;
-        if room < sums.entries {
-            return Err(Refusal::LogFull);
-        }
-        Ok(())
-    }
-
     // A record does what its row says.
     fn take(&mut self, sheet: &[u8], body: usize, found: Record) {
         let n = found.count as usize;
@@ -176,6 +164,20 @@ impl Act for Feeder<'_> {
     ghost before = { λ rs ss f h. feed_before rs ss _ h };
 
     ghost behind = { λ rs ss f h. feed_behind rs ss _ h };
+}
+
+impl TestedAct for Feeder<'_> {
+    ghost refusal = { λ t f. feed_refusal t (fed_in f) };
+
+    // The lengths, and then 31 where the log has no room for the entries.
+    fn test(&self, sums: Totals) -> Result<(), Refusal> {
+        memories::test_lengths(VifUnit::Vif1, self.data, self.code, self.log, self.used)?;
+        let room = self.log.len() as u64 / gif::ENTRY_SIZE - self.used;
+        if room < sums.entries {
+            return Err(Refusal::LogFull);
+        }
+        Ok(())
+    }
 
     ghost fits = { λ rs f m h. feed_fits rs _ h };
 }

@@ -2,7 +2,7 @@ use Rattle.std.proofs.Common.{arith}
 use Rattle.std.proofs.lemmas.Result.{err_from_is_err_and}
 use Rattle.sheet_meaning.specs.Feeding.{fed_in}
 use Rattle.sheet_meaning.proofs.FeederLaws.{feed_lengths, feed_held, feed_full, feed_enough}
-use Rattle.sheet_meaning.proofs.plain.FeederAct.test.Goals as goal
+use Rattle.sheet_meaning.proofs.plain.FeederTestedAct.test.Goals as goal
 
 pub returns-in_err-test_lengths : goal.returns-in_err-test_lengths
 returns-in_err-test_lengths c =
